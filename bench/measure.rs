@@ -1,0 +1,123 @@
+//! `measure ROUNDS FILE.. -- NAME PROGRAM WORD.. -- NAME PROGRAM WORD..` runs each program on each file, with the
+//! file's name after its words and its output thrown away, and prints a table of what each took.
+//!
+//! All runs are interleaved: a round runs every command on every file once, so that other work on the machine
+//! falls on all of them alike. CPU time (user and system) is the best of the rounds, peak memory the greatest.
+//! Ratios are to the commands named `wc -l` and `baseline`, where there are such.
+
+use std::env;
+use std::fs;
+use std::io::{Error, Result};
+use std::process::{Command, Stdio};
+
+/// `struct rusage` of 64-bit Linux.
+#[repr(C)]
+#[derive(Default)]
+struct Usage {
+    user: [i64; 2],
+    system: [i64; 2],
+    max_resident_kib: i64,
+    others: [i64; 13],
+}
+
+extern "C" {
+    fn wait4(process: i32, status: *mut i32, options: i32, usage: *mut Usage) -> i32;
+}
+
+/// What one run took, or the best of several.
+#[derive(Clone, Copy)]
+struct Cost {
+    cpu_seconds: f64,
+    peak_bytes: u64,
+}
+
+struct Tool<'a> {
+    name: &'a str,
+    program: &'a str,
+    words: &'a [String],
+}
+
+struct Input {
+    path: String,
+    bytes: u64,
+}
+
+fn main() -> Result<()> {
+    let words: Vec<String> = env::args().skip(1).collect();
+    let (rounds, files, tools) =
+        read_words(&words).ok_or_else(|| Error::other("usage: measure ROUNDS FILE.. -- NAME PROGRAM WORD.. -- .."))?;
+    let inputs = files.iter().map(|path| Ok(Input { path: path.clone(), bytes: fs::metadata(path)?.len() }));
+    let inputs: Vec<Input> = inputs.collect::<Result<_>>()?;
+    let mut costs = vec![vec![Cost { cpu_seconds: f64::MAX, peak_bytes: 0 }; tools.len()]; inputs.len()];
+    for _ in 0..rounds {
+        for (input, costs) in inputs.iter().zip(&mut costs) {
+            for (tool, cost) in tools.iter().zip(costs) {
+                let run = run(tool, input)?;
+                cost.cpu_seconds = cost.cpu_seconds.min(run.cpu_seconds);
+                cost.peak_bytes = cost.peak_bytes.max(run.peak_bytes);
+            }
+        }
+    }
+    print_table(&inputs, &tools, &costs);
+    Ok(())
+}
+
+fn read_words(words: &[String]) -> Option<(usize, &[String], Vec<Tool<'_>>)> {
+    let mut groups = words.split(|word| word == "--");
+    let (rounds, files) = groups.next()?.split_first()?;
+    let tools = groups.map(|group| match group {
+        [name, program, words @ ..] => Some(Tool { name, program, words }),
+        _ => None,
+    });
+    Some((rounds.parse().ok()?, files, tools.collect::<Option<_>>()?))
+}
+
+/// Runs the tool once on the file. A status other than 0 and 1 (a fault of the file) is an error.
+fn run(tool: &Tool<'_>, input: &Input) -> Result<Cost> {
+    let child = Command::new(tool.program)
+        .args(tool.words)
+        .arg(&input.path)
+        .stdin(Stdio::null())
+        .stdout(Stdio::null())
+        .stderr(Stdio::null())
+        .spawn()?;
+    let process = i32::try_from(child.id()).map_err(Error::other)?;
+    let (mut status, mut usage) = (0, Usage::default());
+    // SAFETY: both pointers are to live values of the layouts that wait4 fills; the child is ours and not yet waited for.
+    if unsafe { wait4(process, &mut status, 0, &mut usage) } != process {
+        return Err(Error::last_os_error());
+    }
+    if status != 0 && status != 1 << 8 {
+        return Err(Error::other(format!("{} ended with wait status {status} on {}", tool.name, input.path)));
+    }
+    let seconds = |time: [i64; 2]| time[0] as f64 + time[1] as f64 / 1e6;
+    Ok(Cost {
+        cpu_seconds: seconds(usage.user) + seconds(usage.system),
+        peak_bytes: usage.max_resident_kib as u64 * 1024,
+    })
+}
+
+fn print_table(inputs: &[Input], tools: &[Tool<'_>], costs: &[Vec<Cost>]) {
+    println!("| file | MB | tool | CPU s | ns/byte | / wc -l | / baseline | peak MB | peak / file |");
+    println!("|---|---:|---|---:|---:|---:|---:|---:|---:|");
+    for (input, costs) in inputs.iter().zip(costs) {
+        let name = input.path.rsplit('/').next().unwrap_or(&input.path);
+        let cpu_of = |name: &str| tools.iter().position(|tool| tool.name == name).map(|place| costs[place].cpu_seconds);
+        for (tool, cost) in tools.iter().zip(costs) {
+            let ratio =
+                |other: Option<f64>| other.map_or(String::new(), |other| format!("{:.2}", cost.cpu_seconds / other));
+            let bytes = input.bytes as f64;
+            println!(
+                "| {name} | {:.1} | {} | {:.4} | {:.2} | {} | {} | {:.1} | {:.2} |",
+                bytes / 1e6,
+                tool.name,
+                cost.cpu_seconds,
+                cost.cpu_seconds * 1e9 / bytes,
+                ratio(cpu_of("wc -l")),
+                ratio(cpu_of("baseline")),
+                cost.peak_bytes as f64 / 1e6,
+                cost.peak_bytes as f64 / bytes,
+            );
+        }
+    }
+}

@@ -1,0 +1,95 @@
+// What standard error and the program's status tell.
+ghost use Rattle.std.specs.Prelude.{◌≡◌, ◌≢◌, ◌⊎◌};
+ghost use Rattle.std.specs.Io.KnownBytes.{Keeps};
+ghost use Rattle.clap.specs.Words.{kind_of};
+ghost use Rattle.ged_tool.specs.Faults.{status_of};
+
+use crate::answers::failed;
+use clap::Error;
+use clap::error::ErrorKind;
+use ged_tool::{Fault, Outcome, Which};
+use std::alloc::AllocError;
+use std::io;
+use std::io::{Cursor, Write};
+
+/// The status for a mistake in the words of the command line.
+pub(crate) const USAGE_STATUS: u8 = 2;
+
+/// More bytes than any line that tells a fault has.
+const LINE_ROOM: usize = 80;
+
+/// Tells the outcome's fault, if it has one, and gives the outcome's status.
+pub(crate) fn finish<E: Write>(outcome: &Outcome, errors: &mut E) -> u8
+    ensures status { result ≡ status_of outcome.now }
+    ensures quiet { result ≡ 0 → Keeps (E.contents errors.old) (E.contents errors.new) }
+{
+    if let Outcome::Failed { which, fault } = outcome {
+        // a line that can't be written changes no status
+        let _ = tell(*which, fault, errors);
+    }
+    outcome.status()
+}
+
+/// Writes the line that tells a fault, by one write where the writer takes it whole. It takes no
+/// memory.
+pub(crate) fn tell<E: Write>(
+    which: Option<Which>,
+    fault: &Fault,
+    errors: &mut E,
+) -> io::Result<()> {
+    let mut line = Cursor::new([0; LINE_ROOM]);
+    write_line(which, fault, &mut line)?;
+    let length = line.position() as usize;
+    errors.write_all(&line.get_ref()[..length.min(LINE_ROOM)])
+}
+
+fn write_line<W: Write>(which: Option<Which>, fault: &Fault, line: &mut W) -> io::Result<()> {
+    match which {
+        None => {}
+        Some(Which::First) => write!(line, "first file: ")?,
+        Some(Which::Second) => write!(line, "second file: ")?,
+    }
+    let number = fault.number();
+    match fault {
+        Fault::InFile { line: at, kind } => writeln!(line, "fault {number} at line {at}: {kind}"),
+        Fault::TooLong => writeln!(line, "fault {number}: TooLong"),
+        Fault::ReadFailed => writeln!(line, "fault {number}: ReadFailed"),
+        Fault::WriteFailed => writeln!(line, "fault {number}: WriteFailed"),
+        Fault::Memory(_) => writeln!(line, "fault {number}: Memory"),
+    }
+}
+
+/// Prints help on the output, or what is wrong with the words on the errors.
+pub(crate) fn refuse<W: Write, E: Write>(error: &Error, output: &mut W, errors: &mut E) -> u8
+    ensures memory { kind_of error.now ≡ ErrorKind.OutOfMemory → result ≡ 3 }
+    ensures help { (kind_of error.now ≡ ErrorKind.DisplayHelp) ⊎ (kind_of error.now ≡ ErrorKind.DisplayVersion)
+        → (result ≡ 0) ⊎ (result ≡ 3) }
+    ensures mistake { kind_of error.now ≢ ErrorKind.OutOfMemory → kind_of error.now ≢ ErrorKind.DisplayHelp
+        → kind_of error.now ≢ ErrorKind.DisplayVersion → result ≡ 2 }
+    ensures quiet { result ≡ 0 → Keeps (E.contents errors.old) (E.contents errors.new) }
+    ensures usage { result ≡ 2 → Keeps (W.contents output.old) (W.contents output.new) }
+{
+    if error.kind() == ErrorKind::OutOfMemory {
+        return finish(&failed(Fault::Memory(AllocError)), errors);
+    }
+    if error.use_stderr() {
+        let _ = write!(errors, "{error}");
+        return USAGE_STATUS;
+    }
+    match write!(output, "{error}").and_then(|()| output.flush()) {
+        Ok(()) => 0,
+        Err(_) => finish(&failed(Fault::WriteFailed), errors),
+    }
+}
+
+/// Tells why the words of the command line can't be had.
+pub(crate) fn refuse_unread<E: Write>(error: &io::Error, errors: &mut E) -> u8
+    ensures { result ≡ 2 }
+{
+    let text = match error.kind() {
+        io::ErrorKind::OutOfMemory => "error: out of memory\n",
+        _ => "error: the command line isn't UTF-8 text\n",
+    };
+    let _ = errors.write_all(text.as_bytes());
+    USAGE_STATUS
+}

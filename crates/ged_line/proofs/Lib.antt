@@ -1,0 +1,15 @@
+pub mod NameTests
+pub mod Cuts
+pub mod Levels
+pub mod Banned
+pub mod Reading
+pub mod Values
+pub mod Words
+pub mod Scans
+pub mod Cutting
+pub mod LineLaws
+pub mod FileLaws
+pub mod CleanLemmas
+pub mod Respelling
+pub mod Fast
+pub mod EndLemmas

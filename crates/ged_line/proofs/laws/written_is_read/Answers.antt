@@ -1,0 +1,5 @@
+use Rattle.ged_line.proofs.FileLaws.{FileText-file_of as law}
+use Rattle.ged_line.proofs.laws.written_is_read.Goals as goal
+
+pub returns : goal.returns
+returns c = law

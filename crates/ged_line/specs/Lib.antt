@@ -1,0 +1,12 @@
+pub mod Bytes
+pub mod Characters
+pub mod ByteTests
+pub mod Names
+pub mod Lines
+pub mod Views
+pub mod Faults
+pub mod Pieces
+pub mod Files
+pub mod Spelling
+pub mod Reading
+pub mod Laws

@@ -1,0 +1,31 @@
+-- What reading answers.
+use Rattle.std.specs.Prelude.{List, MatchOption}
+use Rattle.ged_line.specs.Bytes.{Bytes}
+use Rattle.ged_line.specs.Lines.{LineParts, LineText}
+use Rattle.ged_line.specs.Faults.{IsFaultOf}
+use Rattle.ged_line.specs.Files.{FileText, StopsIn, StopsAt, IsFirstFault}
+use Rattle.ged_line.specs.declared.lines.Lines.{Lines}
+use Rattle.ged_line.specs.declared.fault.ParseFault.{ParseFault}
+use Rattle.ged_line.specs.declared.fault.ParseFault.TheVariants as parsing
+use Rattle.ged_line.specs.declared.fault.RespellFault.{RespellFault}
+use Rattle.ged_line.specs.declared.fault.RespellFault.TheVariants as respelling
+
+-- the piece's fault; want of memory is answered for a piece with a line alone
+abbrev pub TellsParse : ParseFault → Bytes → Type 0
+TellsParse (parsing.Bad fault) piece = IsFaultOf fault piece
+TellsParse (parsing.Memory error) piece = (line : LineParts) × LineText line piece
+
+-- without a stop, the lines that the file spells; with one, the lines before the first piece that is none, that piece's
+-- number and its fault
+abbrev pub TellsLines : Bytes → Lines → Type 0
+TellsLines file read = MatchOption read.stop (FileText read.lines.items file) (λ at. StopsAt file read.lines.items at.line at.fault)
+
+-- the file's first fault; of want of memory nothing is said
+abbrev pub TellsRespell : RespellFault → Bytes → Type 0
+TellsRespell (respelling.At at) file = IsFirstFault file at.line at.fault
+TellsRespell (respelling.Memory error) file = Unit {0}
+
+-- the first fault of bytes without a mark
+abbrev pub TellsRespellIn : RespellFault → Bytes → Type 0
+TellsRespellIn (respelling.At at) bytes = (lines : List LineParts) × StopsIn bytes lines at.line at.fault
+TellsRespellIn (respelling.Memory error) bytes = Unit {0}

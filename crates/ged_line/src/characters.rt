@@ -1,0 +1,60 @@
+// The characters that may not stand in a line.
+ghost use Rattle.std.specs.Prelude.{◌≡◌, ◌≢◌, ◌<◌, ℕ, length, slice_index, false, MatchBool};
+ghost use Rattle.ged_line.specs.Characters.{has_banned as tests_banned};
+ghost use Rattle.ged_line.specs.Lines.{is_line_text as tests_line_text};
+ghost use Rattle.ged_line.specs.ByteTests.{is_control as tests_control, ControlAt, NoncharacterAt};
+
+pub(crate) fn is_control(byte: u8) -> bool
+    ensures { result ≡ tests_control byte }
+{
+    (byte < 0x20 && byte != b'\t') || byte == 0x7F
+}
+
+fn has_control(bytes: &[u8]) -> bool
+    ensures { MatchBool result ((at : ℕ) × ControlAt bytes.now at) ((at : ℕ) → ¬ (ControlAt bytes.now at)) }
+{
+    bytes.iter().any(|byte| is_control(*byte))
+}
+
+/// Whether the bytes of U+FFFE or U+FFFF stand in a text.
+pub(crate) fn has_noncharacter(bytes: &[u8]) -> bool
+    ensures { MatchBool result ((at : ℕ) × NoncharacterAt bytes.now at) ((at : ℕ) → ¬ (NoncharacterAt bytes.now at)) }
+{
+    for third in 2..bytes.len() {
+        if bytes[third - 2] == 0xEF
+            && bytes[third - 1] == 0xBF
+            && matches!(bytes[third], 0xBE | 0xBF)
+        {
+            return true;
+        }
+    }
+    false
+}
+
+/// Whether a control character or the first byte of a noncharacter stands among the bytes. It goes on to the end, so
+/// that the compiler tests many bytes at a time.
+fn is_suspect(bytes: &[u8]) -> bool
+    ensures { result ≡ false → (at : ℕ) → at < length bytes.now
+        → (tests_control (slice_index bytes.now at) ≡ false) × (slice_index bytes.now at ≢ 0xEF) }
+{
+    let mut suspect = false;
+    for byte in bytes {
+        suspect |= is_control(*byte) | (*byte == 0xEF);
+    }
+    suspect
+}
+
+/// Whether a character that may not stand in a line stands in a text.
+pub(crate) fn has_banned(text: &str) -> bool
+    ensures { result ≡ tests_banned text.now }
+{
+    let bytes = text.as_bytes();
+    is_suspect(bytes) && (has_control(bytes) || has_noncharacter(bytes))
+}
+
+/// Whether a text may be a line's value: not empty, and without a character that may not stand in a line.
+pub(crate) fn is_line_text(text: &str) -> bool
+    ensures { result ≡ tests_line_text text.now }
+{
+    !text.is_empty() && !has_banned(text)
+}

@@ -1,0 +1,49 @@
+// What is wrong with a piece of a file.
+use std::alloc::AllocError;
+
+/// Why a piece of a file is no line, in the order in which the faults are told: of several that stand at one piece
+/// the first is answered (FamilySearch GEDCOM 7.0, "Lines").
+#[derive(Clone, Copy, Debug, PartialEq, Eq)]
+pub enum LineFault {
+    /// The bytes are not UTF-8.
+    NotUtf8,
+    /// A control character other than tab, U+007F, U+FFFE or U+FFFF stands in the line.
+    BannedCharacter,
+    /// The line has no bytes.
+    EmptyLine,
+    /// No level with a space after it stands at the start: no digits, a leading zero, or no space.
+    BadLevel,
+    /// The level is above 99.
+    LevelTooLarge,
+    /// `@` stands after the level's space, but no cross-reference identifier with a space after it.
+    BadXref,
+    /// What then stands up to a space or the line's end is no tag.
+    BadTag,
+    /// The value begins with `@`, is no pointer, and its second character is not `@`.
+    BadValue,
+}
+
+/// A fault and the line at which it stands, counted from 1.
+#[derive(Clone, Copy, Debug, PartialEq, Eq)]
+pub struct LineAt {
+    pub line: u64,
+    pub fault: LineFault,
+}
+
+/// Why `parse_line` gave no line.
+#[derive(Debug, Drop)]
+pub enum ParseFault {
+    /// The piece is no line. No memory was taken.
+    Bad(LineFault),
+    /// The piece is a line, and a growth was refused.
+    Memory(AllocError),
+}
+
+/// Why `respell_lines` gave no text.
+#[derive(Debug, Drop)]
+pub enum RespellFault {
+    /// The first piece that is no line.
+    At(LineAt),
+    /// A growth was refused.
+    Memory(AllocError),
+}

@@ -1,0 +1,36 @@
+// Laws of the definitions that the contracts of this crate cite. The functions do nothing: their contracts are proved.
+ghost use Rattle.ged_line.specs.Laws.{OneLine, IsLineOrFaulty, OneCut, OneReading, SpellingSpells, WrittenIsRead};
+
+use crate::scan::view_line;
+
+/// A piece has one line at most.
+pub fn one_line()
+    ensures { OneLine }
+{}
+
+/// A piece has a line exactly where no fault stands at it.
+pub fn line_or_fault(piece: &[u8])
+    ensures { IsLineOrFaulty piece.now }
+{
+    let _ = view_line(piece);
+}
+
+/// A file is cut into pieces in one way.
+pub fn one_cut()
+    ensures { OneCut }
+{}
+
+/// A file spells one list of lines at most.
+pub fn one_reading()
+    ensures { OneReading }
+{}
+
+/// The canonical spelling of a line spells it.
+pub fn spelling_spells()
+    ensures { SpellingSpells }
+{}
+
+/// What is written of lines spells these lines, and so it is read again.
+pub fn written_is_read()
+    ensures { WrittenIsRead }
+{}

@@ -1,0 +1,35 @@
+//! The lines of a FamilySearch GEDCOM 7.0 file, as bytes and as values.
+//!
+//! The borrowed form is the core: [`view_line`] reads one line as slices, and [`write_view`] writes it. The owned
+//! types are copies of what a view shows.
+#![tactic(auto)]
+
+mod characters;
+mod clean;
+mod ends;
+mod fault;
+mod laws;
+mod line;
+mod lines;
+mod names;
+mod pieces;
+mod respell;
+mod scan;
+mod text;
+mod view;
+mod write;
+
+pub use fault::{LineAt, LineFault, ParseFault, RespellFault};
+pub use laws::{line_or_fault, one_cut, one_line, one_reading, spelling_spells, written_is_read};
+pub use line::{Line, LineValue, parse_line};
+pub use lines::{Lines, read_lines};
+pub use names::{Tag, Xref, tag_order};
+pub use pieces::{Pieces, split_pieces};
+pub use respell::respell_lines;
+pub use scan::view_line;
+pub use text::Text;
+pub use view::{LineView, ValueView};
+pub use write::{write_line, write_lines, write_view};
+
+#[cfg(test)]
+mod tests;

@@ -1,0 +1,69 @@
+-- The numbers of faults, and the statuses of outcomes.
+use Rattle.std.specs.Prelude.{ℕ}
+use Rattle.ged_line.specs.declared.fault.LineFault.{LineFault}
+use Rattle.ged_line.specs.declared.fault.LineFault.TheVariants as of_line
+use Rattle.ged_tool.specs.declared.faults.FileFault.{FileFault}
+use Rattle.ged_tool.specs.declared.faults.FileFault.TheVariants.{NotUtf8, BannedCharacter, EmptyLine, BadLevel, LevelTooLarge, BadXref, BadTag, BadValue, LevelJump, XrefNotAllowed, MisplacedCont, NoHeader, SecondHeader, TrailerNotEmpty, AfterTrailer, NoTrailer, DuplicateXref, DanglingPointer, WrongVersion, BadPayload, WrongTarget, TooMany, Missing}
+use Rattle.ged_tool.specs.declared.faults.Fault.{Fault}
+use Rattle.ged_tool.specs.declared.faults.Fault.TheVariants.{InFile, TooLong, ReadFailed, WriteFailed, Memory}
+use Rattle.ged_tool.specs.declared.faults.Outcome.{Outcome}
+use Rattle.ged_tool.specs.declared.faults.Outcome.TheVariants.{Done, Different, Failed}
+
+-- the fault of a line, as a fault of its file: the one of the same name
+abbrev pub file_fault_of : LineFault → FileFault
+file_fault_of of_line.NotUtf8 = NotUtf8
+file_fault_of of_line.BannedCharacter = BannedCharacter
+file_fault_of of_line.EmptyLine = EmptyLine
+file_fault_of of_line.BadLevel = BadLevel
+file_fault_of of_line.LevelTooLarge = LevelTooLarge
+file_fault_of of_line.BadXref = BadXref
+file_fault_of of_line.BadTag = BadTag
+file_fault_of of_line.BadValue = BadValue
+
+-- the number of a fault of the file
+abbrev pub file_fault_number : FileFault → ℕ
+file_fault_number NotUtf8 = 1
+file_fault_number BannedCharacter = 2
+file_fault_number EmptyLine = 3
+file_fault_number BadLevel = 4
+file_fault_number LevelTooLarge = 5
+file_fault_number BadXref = 6
+file_fault_number BadTag = 7
+file_fault_number BadValue = 8
+file_fault_number LevelJump = 9
+file_fault_number XrefNotAllowed = 10
+file_fault_number MisplacedCont = 11
+file_fault_number NoHeader = 12
+file_fault_number SecondHeader = 13
+file_fault_number TrailerNotEmpty = 14
+file_fault_number AfterTrailer = 15
+file_fault_number NoTrailer = 16
+file_fault_number DuplicateXref = 17
+file_fault_number DanglingPointer = 18
+file_fault_number WrongVersion = 19
+file_fault_number BadPayload = 20
+file_fault_number WrongTarget = 21
+file_fault_number TooMany = 22
+file_fault_number Missing = 23
+
+-- the number by which a fault is told
+abbrev pub fault_number : Fault → ℕ
+fault_number (InFile line kind) = file_fault_number kind
+fault_number TooLong = 24
+fault_number ReadFailed = 25
+fault_number WriteFailed = 26
+fault_number (Memory error) = 27
+
+-- 1 for a fault of the file, 3 for one of a device, of the limit or of memory
+abbrev pub fault_status : Fault → ℕ
+fault_status (InFile line kind) = 1
+fault_status TooLong = 3
+fault_status ReadFailed = 3
+fault_status WriteFailed = 3
+fault_status (Memory error) = 3
+
+-- the exit status of a program that ends with this outcome
+abbrev pub status_of : Outcome → ℕ
+status_of Done = 0
+status_of Different = 1
+status_of (Failed which fault) = fault_status fault

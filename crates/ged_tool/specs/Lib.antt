@@ -1,0 +1,5 @@
+pub mod Devices
+pub mod Faults
+pub mod Answers
+pub mod Run
+pub mod Steps

@@ -1,0 +1,114 @@
+// One run: read the whole file, make the whole answer, write it.
+ghost use Rattle.std.specs.Prelude.{◌≡◌, ◌+◌, ◌<◌, ◌≤◌, ◌↔◌, None, take, false, IsTrue, IfOk, IfErr, IsErrOf, OnErr, OnOk, vec_len};
+ghost use Rattle.std.specs.Io.KnownBytes.{Consumes, Appends, IsAtEnd, Keeps};
+ghost use Rattle.std.specs.Io.{StartsWith};
+ghost use Rattle.ged_line.specs.Bytes.{Bytes};
+ghost use Rattle.ged_tool.specs.Run.{IsWhole, IsRun};
+ghost use Rattle.ged_tool.specs.Steps.{StopsReading};
+
+use crate::answers::{Command, answer};
+use crate::devices::{Failed, Sink, Source};
+use crate::faults::{Fault, Outcome};
+use std::alloc::{AllocError, Global};
+
+/// Reads a file to the reader's end, answers it by the command and writes the answer.
+///
+/// `limit` is the most bytes that a file may have, 1,073,741,824 at most; reading stops once more came, and no more
+/// than `limit + 1` calls of read are made. Nothing is written unless the whole answer was made. The outcome is Done;
+/// or a fault of the file; or TooLong, where more than `limit` bytes came; ReadFailed or WriteFailed, exactly where the
+/// reader or the writer has failed, and after WriteFailed the front of the answer was written; or Memory. It names no
+/// file. Memory is taken for the file and for its answer.
+pub fn run<R: Source, W: Sink>(
+    alloc: Global,
+    limit: u64,
+    command: Command,
+    reader: &mut R,
+    writer: &mut W,
+) -> Outcome
+    requires limit { limit ≤ 1073741824 }
+    requires unread { R.reads reader.old ≡ 0 }
+    requires no_failure { (R.failed reader.old ≡ false) × (W.failed writer.old ≡ false) }
+    ensures calls { R.reads reader.new ≤ limit + 1 }
+    ensures read_failed { IsTrue (R.failed reader.new) ↔ (result ≡ Outcome.Failed None Fault.ReadFailed) }
+    ensures write_failed { IsTrue (W.failed writer.new) ↔ (result ≡ Outcome.Failed None Fault.WriteFailed) }
+    ensures bytes { IsRun command limit (R.to_come reader.old) (R.to_come reader.new)
+        (W.taken writer.old) (W.taken writer.new) result }
+{
+    let bytes = match read_whole(alloc, limit, reader) {
+        Ok(bytes) => bytes,
+        Err(fault) => return Outcome::Failed { which: None, fault },
+    };
+    let text = match answer(alloc, command, &bytes) {
+        Ok(text) => text,
+        Err(fault) => return Outcome::Failed { which: None, fault },
+    };
+    match write_whole(writer, &text) {
+        Ok(()) => Outcome::Done,
+        Err(Failed) => Outcome::Failed {
+            which: None,
+            fault: Fault::WriteFailed,
+        },
+    }
+}
+
+/// Reads to the reader's end, or until more than the limit came.
+fn read_whole<R: Source>(alloc: Global, limit: u64, reader: &mut R) -> Result<Vec<u8>, Fault>
+    requires limit { limit ≤ 1073741824 }
+    requires unread { R.reads reader.old ≡ 0 }
+    requires no_failure { R.failed reader.old ≡ false }
+    ensures calls { R.reads reader.new ≤ limit + 1 }
+    ensures read_failed { IsTrue (R.failed reader.new) ↔ IsErrOf result Fault.ReadFailed }
+    ensures whole { IfOk result (λ bytes. IsWhole limit bytes.items (R.to_come reader.new)
+        × Consumes (R.to_come reader.old) (R.to_come reader.new) bytes.items) }
+    ensures stopped { IfErr result (λ fault. (came : Bytes)
+        × Consumes (R.to_come reader.old) (R.to_come reader.new) came
+        × StopsReading limit came fault) }
+{
+    let mut bytes = Vec::new(alloc);
+    let mut chunk = match make_chunk(alloc) {
+        Ok(chunk) => chunk,
+        Err(error) => return Err(Fault::Memory(error)),
+    };
+    for _ in 0..=limit {
+        let count = match reader.read(&mut chunk) {
+            Ok(count) => count,
+            Err(Failed) => return Err(Fault::ReadFailed),
+        };
+        if count == 0 {
+            return Ok(bytes);
+        }
+        if (bytes.len() + count) as u64 > limit {
+            return Err(Fault::TooLong);
+        }
+        if let Err(error) = bytes.extend_from_slice(&chunk[..count]) {
+            return Err(Fault::Memory(error));
+        }
+    }
+    Err(Fault::TooLong)
+}
+
+/// The most bytes that one call of read is asked for.
+const CHUNK: usize = 131072;
+
+/// Room for one call of read.
+fn make_chunk(alloc: Global) -> Result<Vec<u8>, AllocError>
+    ensures { IfOk result (λ chunk. 0 < vec_len chunk) }
+{
+    vec![in alloc; 0; CHUNK]
+}
+
+/// Writes all of a text, in as few calls as the writer allows.
+fn write_whole<W: Sink>(writer: &mut W, text: &[u8]) -> Result<(), Failed>
+    requires { W.failed writer.old ≡ false }
+    ensures ok { OnOk result ((W.failed writer.new ≡ false)
+        × Appends (W.taken writer.old) (W.taken writer.new) text.now) }
+    ensures err { OnErr result (IsTrue (W.failed writer.new) × (written : Bytes)
+        × Appends (W.taken writer.old) (W.taken writer.new) written × StartsWith text.now written) }
+{
+    let mut at = 0usize;
+    while at < text.len() {
+        let count = writer.write(&text[at..])?;
+        at += count;
+    }
+    Ok(())
+}
