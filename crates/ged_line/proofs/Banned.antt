@@ -1,15 +1,17 @@
 -- A text has a banned character just where its bytes have one's bytes.
-use Rattle.std.proofs.Common.{◌≡◌, ◌≢◌, ℕ, ◌+◌, ◌<◌, Bool, true, false, List, [], ◌∷◌, ◌++◌, ◌⊎◌, inl, inr, length, get_or, take, drop, refl, sym, ◌∙◌, ap, subst, arith, length-append, ◌||◌, ◌==◌, not}
+use Rattle.std.proofs.Common.{◌≡◌, ◌≢◌, ℕ, ◌+◌, ◌<◌, ◌≤◌, Bool, true, false, List, [], ◌∷◌, ◌++◌, ◌⊎◌, inl, inr, length, get_or, get_or-take, take, drop, refl, sym, ◌∙◌, ap, subst, arith, length-append, ◌||◌, ◌==◌, not}
 use Rattle.std.proofs.lemmas.Bool.Decides.{nat_tests}
-use Rattle.std.proofs.lemmas.List.{get_or-append-add, take-append-drop, drop_more}
+use Rattle.std.proofs.lemmas.List.{get_or-append-add, take-append-drop, drop_more, length-take-le}
 use Rattle.std.proofs.lemmas.Str.{encodes-chars, chars_from_encodes, IsUtf8-from_is_utf8, is_utf8-from_IsUtf8, encode_ascii, encode_same, encodes-append, encodes_same, IsUtf8-take, IsUtf8-drop, NoCharPasses-byte}
 use Rattle.std.specs.Str.{NoCharPasses, NonePass, IsUtf8, IsCharBoundary, is_utf8, chars}
 use Rattle.std.specs.Bool.{MatchBool}
+use Rattle.std.specs.Prelude.{Option, Some, None, is_some}
+use Rattle.memchr.specs.Find.{IsFirstByte}
 use lib.Utf8.{encodes, encode}
 use Rattle.std.specs.List.{list_any}
 use Rattle.ged_line.specs.Characters.{is_banned, has_banned, is_plain}
 use Rattle.ged_line.specs.Lines.{is_line_text}
-use Rattle.ged_line.specs.ByteTests.{is_control, ControlAt, NoncharacterAt}
+use Rattle.ged_line.specs.ByteTests.{is_control, is_special, ControlAt, NoncharacterAt}
 use Rattle.ged_line.proofs.NameTests.{bool_cases, or_cases, and_left, and_right, and_true}
 
 data IsBannedChar (c : ℕ) : Type 0 where
@@ -216,10 +218,39 @@ swept_control bs h at k = let no : is_control (get_or bs at 0) ≡ false = (h at
 swept_noncharacter : (bs : List ℕ) → SweptClean bs → (at : ℕ) → ¬ (NoncharacterAt bs at)
 swept_noncharacter bs h at n = let inside = n.inside in (h at (omega arith)).1 n.first
 
-pub told_by_sweep : (r : Bool) (bs : List ℕ) → r ≡ false → IsUtf8 bs → (r ≡ false → SweptClean bs) → r ≡ has_banned bs
-told_by_sweep true bs e u h = cc
-told_by_sweep false bs e u h = sym (has_banned-none bs u (NoCharPasses-from_bytes bs u (swept_control bs (h refl)) (swept_noncharacter bs (h refl))))
-
 -- a text that isn't empty may be a line's value where it has no banned character
 pub some_line_text : (bs : List ℕ) (r : Bool) → false ≡ (length bs == 0) → IsUtf8 bs → r ≡ has_banned bs → not r ≡ is_line_text bs
 some_line_text bs r s u e = rw (← s, is_utf8-from_IsUtf8 bs u) (ap not e)
+
+-- texts in which no special byte is found
+special_none : (b : ℕ) → ¬ (is_special b ≡ true) → (is_control b ≡ false) × (b ≢ 0xEF)
+special_none b n = elim (bool_cases (is_control b)) [
+  | inl k ↦ absurd (n (rw k refl))
+  | inr k ↦ (k, λ e. n (rw e refl))
+]
+
+abbrev pub NoSpecialBelow : List ℕ → ℕ → Type 0
+NoSpecialBelow bs n = (k : ℕ) → 0 ≤ k → k < n → ¬ (is_special (get_or bs k 0) ≡ true)
+
+pub has_banned-no_special : (bs : List ℕ) → IsUtf8 bs → NoSpecialBelow bs (length bs) → false ≡ has_banned bs
+has_banned-no_special bs u h =
+    let clean : SweptClean bs = λ at s. special_none (get_or bs at 0) (h at (omega arith) s) in
+    sym (has_banned-none bs u (NoCharPasses-from_bytes bs u (swept_control bs clean) (swept_noncharacter bs clean)))
+
+pub told_by_search : (r : Bool) (found : Option ℕ) (bs : List ℕ) → IsUtf8 bs → r ≡ is_some found → r ≡ false → IsFirstByte is_special bs found → r ≡ has_banned bs
+told_by_search r None bs u e f h = f ∙ has_banned-no_special bs u h
+told_by_search r (Some k) bs u e f h = absurd cc
+
+pub has_banned-before_special : (bs : List ℕ) (n : ℕ) → n ≤ length bs → IsUtf8 (take n bs) → NoSpecialBelow bs n → false ≡ has_banned (take n bs)
+has_banned-before_special bs n l u h =
+    let long : length (take n bs) ≡ n = length-take-le n bs l in
+    has_banned-no_special (take n bs) u (λ k z s.
+    let same : get_or (take n bs) k 0 ≡ get_or bs k 0 = get_or-take n bs k 0 (omega arith) in
+    subst (λ b. ¬ (is_special b ≡ true)) (sym same) (h k z (omega arith)))
+
+end_is_special : (b : ℕ) → (b == 13 || b == 10) ≡ true → is_special b ≡ true
+end_is_special b h = grind (arith, nat_tests)
+
+-- no line end stands where no special byte does
+pub no_end_special : (bs : List ℕ) (n : ℕ) → NoSpecialBelow bs n → (k : ℕ) → 0 ≤ k → k < n → ¬ ((get_or bs k 0 == 13 || get_or bs k 0 == 10) ≡ true)
+no_end_special bs n h k z s = λ e. h k z s (end_is_special (get_or bs k 0) e)

@@ -9,7 +9,6 @@ pub mod Scans
 pub mod Cutting
 pub mod LineLaws
 pub mod FileLaws
-pub mod CleanLemmas
 pub mod Respelling
 pub mod Fast
 pub mod EndLemmas

@@ -7,6 +7,10 @@ use Rattle.ged_line.specs.Bytes.{Bytes}
 abbrev pub is_control : ℕ → Bool
 is_control b = (nat_lt b 0x20 && not (b == 0x09)) || b == 0x7F
 
+-- a byte that ends a line, or may be the first of a character that may not stand in one
+abbrev pub is_special : ℕ → Bool
+is_special b = is_control b || b == 0xEF
+
 -- a control character other than tab stands at this place
 pub record ControlAt (bytes : Bytes) (at : ℕ) : Type 0 where
   pub inside : at < length bytes
@@ -18,16 +22,3 @@ pub record NoncharacterAt (bytes : Bytes) (at : ℕ) : Type 0 where
   pub first : slice_index bytes at ≡ 0xEF
   pub second : slice_index bytes (at + 1) ≡ 0xBF
   pub third : (slice_index bytes (at + 2) ≡ 0xBE) ⊎ (slice_index bytes (at + 2) ≡ 0xBF)
-
--- a control character that is no tab and stands in no line end
-abbrev pub is_stray : ℕ → Bool
-is_stray b = is_control b && not (b == 0x0A) && not (b == 0x0D)
-
-pub record StrayAt (bytes : Bytes) (at : ℕ) : Type 0 where
-  pub inside : at < length bytes
-  pub stray : is_stray (slice_index bytes at) ≡ true
-
--- only line ends, of all characters that may not stand in a line, stand among the bytes
-pub record IsClean (bytes : Bytes) : Type 0 where
-  pub no_stray : (at : ℕ) → ¬ (StrayAt bytes at)
-  pub no_noncharacter : (at : ℕ) → ¬ (NoncharacterAt bytes at)

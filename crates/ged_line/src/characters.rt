@@ -1,8 +1,10 @@
 // The characters that may not stand in a line.
-ghost use Rattle.std.specs.Prelude.{◌≡◌, ◌≢◌, ◌<◌, ℕ, length, slice_index, false, MatchBool};
+ghost use Rattle.std.specs.Prelude.{◌≡◌, ℕ, MatchBool};
 ghost use Rattle.ged_line.specs.Characters.{has_banned as tests_banned};
 ghost use Rattle.ged_line.specs.Lines.{is_line_text as tests_line_text};
 ghost use Rattle.ged_line.specs.ByteTests.{is_control as tests_control, ControlAt, NoncharacterAt};
+
+use crate::ends::first_special;
 
 pub(crate) fn is_control(byte: u8) -> bool
     ensures { result ≡ tests_control byte }
@@ -31,25 +33,12 @@ pub(crate) fn has_noncharacter(bytes: &[u8]) -> bool
     false
 }
 
-/// Whether a control character or the first byte of a noncharacter stands among the bytes. It goes on to the end, so
-/// that the compiler tests many bytes at a time.
-fn is_suspect(bytes: &[u8]) -> bool
-    ensures { result ≡ false → (at : ℕ) → at < length bytes.now
-        → (tests_control (slice_index bytes.now at) ≡ false) × (slice_index bytes.now at ≢ 0xEF) }
-{
-    let mut suspect = false;
-    for byte in bytes {
-        suspect |= is_control(*byte) | (*byte == 0xEF);
-    }
-    suspect
-}
-
 /// Whether a character that may not stand in a line stands in a text.
 pub(crate) fn has_banned(text: &str) -> bool
     ensures { result ≡ tests_banned text.now }
 {
     let bytes = text.as_bytes();
-    is_suspect(bytes) && (has_control(bytes) || has_noncharacter(bytes))
+    first_special(bytes).is_some() && (has_control(bytes) || has_noncharacter(bytes))
 }
 
 /// Whether a text may be a line's value: not empty, and without a character that may not stand in a line.

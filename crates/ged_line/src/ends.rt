@@ -3,7 +3,9 @@ ghost use Rattle.std.specs.Prelude.{◌≡◌, ◌↔◌, ℕ, ◌+◌, ◌<◌,
 ghost use Rattle.std.specs.Int.{bit_at};
 ghost use Rattle.memchr.specs.Find.{IsFirst, IsFirstByte, Passes, is_byte2};
 ghost use Rattle.ged_line.specs.Bytes.{carriage_return, line_feed};
+ghost use Rattle.ged_line.specs.ByteTests.{is_special};
 
+use crate::characters::is_control;
 use memchr::memchr2;
 use std::simd::prelude::*;
 
@@ -51,4 +53,54 @@ pub(crate) fn first_end(bytes: &[u8]) -> Option<usize>
         at += RUN;
     }
     end_in_run(bytes, last)
+}
+
+/// Bit k is set where byte k of the run at a place is special.
+#[inline(always)]
+fn special_marks(bytes: &[u8], at: usize) -> u64
+    requires { at + RUN ≤ length bytes.now }
+    ensures { (k : ℕ) → (bit_at result k ≡ 1) ↔ ((k < RUN) × Passes is_special bytes.now (at + k)) }
+{
+    let run = u8x32::from_slice(&bytes[at..]);
+    let control = run.simd_lt(u8x32::splat(b' ')) & run.simd_ne(u8x32::splat(b'\t'));
+    let other = run.simd_eq(u8x32::splat(0x7F)) | run.simd_eq(u8x32::splat(0xEF));
+    (control | other).to_bitmask()
+}
+
+/// The first special byte of the run at a place.
+#[inline(always)]
+fn special_in_run(bytes: &[u8], at: usize) -> Option<usize>
+    requires { at + RUN ≤ length bytes.now }
+    ensures { IsFirst (Passes is_special bytes.now) at (at + RUN) result }
+{
+    let marks = special_marks(bytes, at);
+    if marks == 0 {
+        return None;
+    }
+    Some(at + marks.trailing_zeros() as usize)
+}
+
+fn is_special_byte(byte: u8) -> bool
+    ensures { result ≡ is_special byte }
+{
+    is_control(byte) || byte == 0xEF
+}
+
+/// The first special byte: one that ends a line, or may belong to a character that may not stand in one.
+#[inline(always)]
+pub(crate) fn first_special(bytes: &[u8]) -> Option<usize>
+    ensures { IsFirstByte is_special bytes.now result }
+{
+    if bytes.len() < RUN {
+        return bytes.iter().position(|byte| is_special_byte(*byte));
+    }
+    let last = bytes.len() - RUN;
+    let mut at = 0;
+    while at < last {
+        if let Some(found) = special_in_run(bytes, at) {
+            return Some(found);
+        }
+        at += RUN;
+    }
+    special_in_run(bytes, last)
 }

@@ -5,7 +5,7 @@
 #![tactic(auto)]
 
 mod characters;
-mod clean;
+mod cut;
 mod ends;
 mod fault;
 mod laws;

@@ -1,14 +1,13 @@
 // The canonical spelling of a file's lines, straight from its bytes.
 ghost use Rattle.std.specs.Prelude.{◌≡◌, ◌-◌, ◌++◌, ◌∷◌, [], List, length, take, IsTrue, OnOk, IfOk, IfErr};
 ghost use Rattle.ged_line.specs.Bytes.{Bytes, line_feed};
-ghost use Rattle.ged_line.specs.ByteTests.{IsClean};
 ghost use Rattle.ged_line.specs.Lines.{LineParts, LineText};
 ghost use Rattle.ged_line.specs.Files.{SpellLines, IsRespelling};
 ghost use Rattle.ged_line.specs.Reading.{TellsRespell, TellsRespellIn};
 ghost use Rattle.ged_line.specs.Spelling.{spelling, spelled_lines};
 
-use crate::clean::{clean_text, cut_line};
-use crate::fault::{LineAt, RespellFault};
+use crate::cut::{Cut, cut_line};
+use crate::fault::{LineAt, LineFault, RespellFault};
 use crate::pieces::{cut_pieces, skip_mark};
 use crate::scan::{view_line, view_text};
 use crate::view::{LineView, ValueView};
@@ -26,13 +25,21 @@ pub fn respell_lines(alloc: Global, bytes: &[u8]) -> Result<Vec<u8>, RespellFaul
         Ok(out) => out,
         Err(error) => return Err(RespellFault::Memory(error)),
     };
-    let result = match clean_text(rest) {
-        Some(text) => respell_text(text, &mut out),
-        None => respell_pieces(rest, &mut out),
-    };
-    match result {
+    match respell_rest(rest, &mut out) {
         Ok(()) => Ok(out),
         Err(fault) => Err(fault),
+    }
+}
+
+/// Appends the lines of bytes without a mark. UTF-8 is validated as a whole, many bytes at a time.
+fn respell_rest(bytes: &[u8], out: &mut Vec<u8>) -> Result<(), RespellFault>
+    ensures ok { OnOk result ((lines : List LineParts) × SpellLines lines bytes.now
+        × (out.new.items ≡ out.old.items ++ spelled_lines lines)) }
+    ensures fault { IfErr result (λ fault. TellsRespellIn fault bytes.now) }
+{
+    match simdutf8::basic::from_utf8(bytes) {
+        Ok(text) => respell_text(text, out),
+        Err(_) => respell_pieces(bytes, out),
     }
 }
 
@@ -45,10 +52,12 @@ fn start_file(alloc: Global, length: usize) -> Result<Vec<u8>, AllocError>
     Ok(out)
 }
 
-/// Appends the lines of a clean text. Lines that are spelled as they should be are copied together with their
+/// Lines are copied together up to about this many bytes, while they are still in the processor's cache.
+const COPIED_RUN: usize = 65536;
+
+/// Appends the lines of a text. Lines that are spelled as they should be are copied together with their
 /// neighbours.
 fn respell_text(text: &str, out: &mut Vec<u8>) -> Result<(), RespellFault>
-    requires { IsClean text.now }
     ensures ok { OnOk result ((lines : List LineParts) × SpellLines lines text.now
         × (out.new.items ≡ out.old.items ++ spelled_lines lines)) }
     ensures fault { IfErr result (λ fault. TellsRespellIn fault text.now) }
@@ -58,14 +67,22 @@ fn respell_text(text: &str, out: &mut Vec<u8>) -> Result<(), RespellFault>
     let mut rest = text;
     let mut line = 0u64;
     while !rest.is_empty() {
-        let (piece, after) = cut_line(rest);
+        let Cut {
+            piece,
+            after,
+            has_banned,
+        } = cut_line(rest);
         line += 1;
+        if has_banned {
+            let fault = LineFault::BannedCharacter;
+            return Err(RespellFault::At(LineAt { line, fault }));
+        }
         let view = match view_text(piece) {
             Ok(view) => view,
             Err(fault) => return Err(RespellFault::At(LineAt { line, fault })),
         };
         let spelled = canonical_text(piece, &view);
-        if !is_line_before(rest, spelled, after) {
+        if uncopied.len() - after.len() >= COPIED_RUN || !is_line_before(rest, spelled, after) {
             if let Err(error) = append_up_to(uncopied, rest, spelled, out) {
                 return Err(RespellFault::Memory(error));
             }

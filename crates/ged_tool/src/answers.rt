@@ -9,8 +9,8 @@ use std::alloc::Global;
 /// What to answer about one file.
 #[derive(Clone, Copy, PartialEq, Eq, Debug)]
 pub enum Command {
-    /// The file's lines in their canonical spelling, after a byte order mark. Lines alone are judged, not what they
-    /// say together.
+    /// A byte order mark and the file's lines in their canonical spelling. Each line is judged by itself, so the faults
+    /// that it tells are those from NotUtf8 to BadValue.
     Lines,
 }
 

@@ -108,7 +108,7 @@ impl FileFault {
 }
 
 /// Why a run gave no answer.
-#[derive(Debug, Drop)]
+#[derive(Clone, Copy, PartialEq, Eq, Debug)]
 pub enum Fault {
     /// The file is faulty at this line, counted from 1.
     InFile { line: u64, kind: FileFault },
@@ -146,7 +146,7 @@ pub enum Which {
 }
 
 /// How a run ended.
-#[derive(Debug, Drop)]
+#[derive(Clone, Copy, PartialEq, Eq, Debug)]
 pub enum Outcome {
     /// The whole answer was written.
     Done,

@@ -14,9 +14,11 @@ pub struct Input<R> {
 }
 
 impl<R: Read> Input<R> {
-    /// An input of which nothing was read yet.
+    /// An input that was not read from yet. It gives what the device gives. Takes no memory.
     pub fn new(device: R) -> Input<R>
-        ensures { result ≡ record { device = device; reads = 0; failed = false } }
+        ensures unread { ⟦<Input<R> as Source>⟧.reads result ≡ 0 }
+        ensures no_failure { ⟦<Input<R> as Source>⟧.failed result ≡ false }
+        ensures to_come { ⟦<Input<R> as Source>⟧.to_come result ≡ R.remaining device }
     {
         Input {
             device,

@@ -13,9 +13,10 @@ pub struct Output<W> {
 }
 
 impl<W: Write> Output<W> {
-    /// An output to which nothing was written yet.
+    /// An output that was not written to yet. It hands on to the device, and takes no memory.
     pub fn new(device: W) -> Output<W>
-        ensures { result ≡ record { device = device; failed = false } }
+        ensures no_failure { ⟦<Output<W> as Sink>⟧.failed result ≡ false }
+        ensures taken { ⟦<Output<W> as Sink>⟧.taken result ≡ W.contents device }
     {
         Output {
             device,

@@ -1,6 +1,6 @@
 // One run: read the whole file, make the whole answer, write it.
-ghost use Rattle.std.specs.Prelude.{◌≡◌, ◌+◌, ◌<◌, ◌≤◌, ◌↔◌, None, take, false, IsTrue, IfOk, IfErr, IsErrOf, OnErr, OnOk, vec_len};
-ghost use Rattle.std.specs.Io.KnownBytes.{Consumes, Appends, IsAtEnd, Keeps};
+ghost use Rattle.std.specs.Prelude.{◌≡◌, ◌+◌, ◌<◌, ◌≤◌, ◌↔◌, None, false, IsTrue, IfOk, IfErr, IsErrOf, OnErr, OnOk, vec_len};
+ghost use Rattle.std.specs.Io.KnownBytes.{Consumes, Appends};
 ghost use Rattle.std.specs.Io.{StartsWith};
 ghost use Rattle.ged_line.specs.Bytes.{Bytes};
 ghost use Rattle.ged_tool.specs.Run.{IsWhole, IsRun};
@@ -13,11 +13,17 @@ use std::alloc::{AllocError, Global};
 
 /// Reads a file to the reader's end, answers it by the command and writes the answer.
 ///
-/// `limit` is the most bytes that a file may have, 1,073,741,824 at most; reading stops once more came, and no more
-/// than `limit + 1` calls of read are made. Nothing is written unless the whole answer was made. The outcome is Done;
-/// or a fault of the file; or TooLong, where more than `limit` bytes came; ReadFailed or WriteFailed, exactly where the
-/// reader or the writer has failed, and after WriteFailed the front of the answer was written; or Memory. It names no
-/// file. Memory is taken for the file and for its answer.
+/// `limit` is the most bytes that the file may have, 1,073,741,824 at most. The reader must not have been read before,
+/// and neither device have failed. No more than `limit + 1` calls of read are made, and nothing is written unless the
+/// whole answer was made. Memory is taken for the file and for its answer.
+///
+/// The outcome is Done where the whole answer was written, and never Different. Else it is Failed, names neither of
+/// two files, and has
+/// - InFile where the command has a fault of the file to tell;
+/// - TooLong where more than `limit` bytes came;
+/// - ReadFailed exactly where the reader has failed;
+/// - WriteFailed exactly where the writer has failed; then the front of the answer was written;
+/// - Memory where no memory was found.
 pub fn run<R: Source, W: Sink>(
     alloc: Global,
     limit: u64,
@@ -29,8 +35,10 @@ pub fn run<R: Source, W: Sink>(
     requires unread { R.reads reader.old ≡ 0 }
     requires no_failure { (R.failed reader.old ≡ false) × (W.failed writer.old ≡ false) }
     ensures calls { R.reads reader.new ≤ limit + 1 }
-    ensures read_failed { IsTrue (R.failed reader.new) ↔ (result ≡ Outcome.Failed None Fault.ReadFailed) }
-    ensures write_failed { IsTrue (W.failed writer.new) ↔ (result ≡ Outcome.Failed None Fault.WriteFailed) }
+    ensures read_failed { IsTrue (R.failed reader.new)
+        ↔ (result ≡ Outcome.Failed None Fault.ReadFailed) }
+    ensures write_failed { IsTrue (W.failed writer.new)
+        ↔ (result ≡ Outcome.Failed None Fault.WriteFailed) }
     ensures bytes { IsRun command limit (R.to_come reader.old) (R.to_come reader.new)
         (W.taken writer.old) (W.taken writer.new) result }
 {
@@ -51,7 +59,7 @@ pub fn run<R: Source, W: Sink>(
     }
 }
 
-/// Reads to the reader's end, or until more than the limit came.
+/// The whole file: reads to the reader's end, or until more than the limit came.
 fn read_whole<R: Source>(alloc: Global, limit: u64, reader: &mut R) -> Result<Vec<u8>, Fault>
     requires limit { limit ≤ 1073741824 }
     requires unread { R.reads reader.old ≡ 0 }
@@ -90,7 +98,8 @@ fn read_whole<R: Source>(alloc: Global, limit: u64, reader: &mut R) -> Result<Ve
 /// The most bytes that one call of read is asked for.
 const CHUNK: usize = 131072;
 
-/// Room for one call of read.
+/// Room for one call of read. What came is copied from here, so that the vector that holds the file is never filled
+/// with zeros, and only as much of it is touched as came.
 fn make_chunk(alloc: Global) -> Result<Vec<u8>, AllocError>
     ensures { IfOk result (λ chunk. 0 < vec_len chunk) }
 {

@@ -15,11 +15,9 @@ const FILE: &[u8] = b"0 HEAD\n1 GEDC\n2 VERS 7.0\n0 TRLR\n";
 /// Its lines in their canonical spelling: the file after a byte order mark.
 const ANSWER: &[u8] = b"\xEF\xBB\xBF0 HEAD\n1 GEDC\n2 VERS 7.0\n0 TRLR\n";
 
-fn fault_of(outcome: &Outcome) -> Option<&Fault> {
-    match outcome {
-        Outcome::Failed { which: None, fault } => Some(fault),
-        _ => None,
-    }
+/// The outcome of a run that failed.
+fn failed(fault: Fault) -> Outcome {
+    Outcome::Failed { which: None, fault }
 }
 
 #[test]
@@ -28,13 +26,13 @@ fn a_file_may_be_as_long_as_the_limit(rt: HostRuntime) -> Result<(), Fail> {
     let mut reader = Input::new(FILE);
     let mut writer = Output::new(&mut written);
     let outcome = run(rt.alloc(), 32, Command::Lines, &mut reader, &mut writer);
-    assert!(rt; matches!(outcome, Outcome::Done));
+    assert_eq!(rt; outcome, Outcome::Done);
     assert_eq!(rt; written.as_slice(), ANSWER);
     let mut written = Vec::new(rt.alloc());
     let mut reader = Input::new(FILE);
     let mut writer = Output::new(&mut written);
     let outcome = run(rt.alloc(), 31, Command::Lines, &mut reader, &mut writer);
-    assert!(rt; matches!(fault_of(&outcome), Some(Fault::TooLong)));
+    assert_eq!(rt; outcome, failed(Fault::TooLong));
     assert!(rt; written.is_empty());
     Ok(())
 }
@@ -44,13 +42,13 @@ fn no_more_calls_than_bytes_and_one(rt: HostRuntime) -> Result<(), Fail> {
     let mut reader = make_pieces(FILE, 1, false);
     let mut writer = make_room(rt.alloc(), 100, 1);
     let outcome = run(rt.alloc(), 32, Command::Lines, &mut reader, &mut writer);
-    assert!(rt; matches!(outcome, Outcome::Done));
+    assert_eq!(rt; outcome, Outcome::Done);
     assert_eq!(rt; reader.reads(), 33);
     assert_eq!(rt; writer.taken.as_slice(), ANSWER);
     let mut reader = Endless { reads: 0 };
     let mut writer = make_room(rt.alloc(), 100, 100);
     let outcome = run(rt.alloc(), 40, Command::Lines, &mut reader, &mut writer);
-    assert!(rt; matches!(fault_of(&outcome), Some(Fault::TooLong)));
+    assert_eq!(rt; outcome, failed(Fault::TooLong));
     assert!(rt; reader.reads() <= 41);
     assert!(rt; writer.taken.is_empty());
     Ok(())
@@ -63,8 +61,9 @@ fn nothing_is_written_where_the_reader_fails(rt: HostRuntime) -> Result<(), Fail
             let mut reader = make_pieces(&FILE[..length], most, true);
             let mut writer = make_room(rt.alloc(), 100, 100);
             let outcome = run(rt.alloc(), 32, Command::Lines, &mut reader, &mut writer);
-            assert!(rt;
-                matches!(fault_of(&outcome), Some(Fault::ReadFailed)),
+            assert_eq!(rt;
+                outcome,
+                failed(Fault::ReadFailed),
                 "after {length} bytes, {most} a call"
             );
             assert!(rt; reader.failed() && writer.taken.is_empty());
@@ -80,8 +79,9 @@ fn the_front_is_written_where_the_writer_fails(rt: HostRuntime) -> Result<(), Fa
             let mut reader = make_pieces(FILE, 100, false);
             let mut writer = make_room(rt.alloc(), length, most);
             let outcome = run(rt.alloc(), 32, Command::Lines, &mut reader, &mut writer);
-            assert!(rt;
-                matches!(fault_of(&outcome), Some(Fault::WriteFailed)),
+            assert_eq!(rt;
+                outcome,
+                failed(Fault::WriteFailed),
                 "after {length} bytes, {most} a call"
             );
             assert!(rt; writer.failed());
@@ -96,15 +96,8 @@ fn nothing_is_written_of_a_faulty_file(rt: HostRuntime) -> Result<(), Fail> {
     let mut reader = make_pieces(b"0 HEAD\n\n0 INDI\n", 100, false);
     let mut writer = make_room(rt.alloc(), 100, 100);
     let outcome = run(rt.alloc(), 32, Command::Lines, &mut reader, &mut writer);
-    assert!(rt;
-        matches!(
-            fault_of(&outcome),
-            Some(Fault::InFile {
-                line: 2,
-                kind: FileFault::EmptyLine
-            })
-        )
-    );
+    let kind = FileFault::EmptyLine;
+    assert_eq!(rt; outcome, failed(Fault::InFile { line: 2, kind }));
     assert!(rt; writer.taken.is_empty());
     Ok(())
 }
@@ -114,18 +107,18 @@ fn devices_of_the_standard_library_fail(rt: HostRuntime) -> Result<(), Fail> {
     let mut reader = Input::new(FILE.chain(Broken));
     let mut writer = make_room(rt.alloc(), 100, 100);
     let outcome = run(rt.alloc(), 100, Command::Lines, &mut reader, &mut writer);
-    assert!(rt; matches!(fault_of(&outcome), Some(Fault::ReadFailed)));
+    assert_eq!(rt; outcome, failed(Fault::ReadFailed));
     assert!(rt; reader.failed() && writer.taken.is_empty());
     let mut reader = Input::new(FILE);
     let mut writer = Output::new(Broken);
     let outcome = run(rt.alloc(), 100, Command::Lines, &mut reader, &mut writer);
-    assert!(rt; matches!(fault_of(&outcome), Some(Fault::WriteFailed)));
+    assert_eq!(rt; outcome, failed(Fault::WriteFailed));
     // A slice takes none of some bytes once it is full.
     let mut room = [0u8; 10];
     let mut reader = Input::new(FILE);
     let mut writer = Output::new(room.as_mut_slice());
     let outcome = run(rt.alloc(), 100, Command::Lines, &mut reader, &mut writer);
-    assert!(rt; matches!(fault_of(&outcome), Some(Fault::WriteFailed)));
+    assert_eq!(rt; outcome, failed(Fault::WriteFailed));
     assert_eq!(rt; room.as_slice(), b"\xEF\xBB\xBF0 HEAD\n".as_slice());
     Ok(())
 }
