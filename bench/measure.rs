@@ -1,9 +1,11 @@
 //! `measure ROUNDS FILE.. -- NAME PROGRAM WORD.. -- NAME PROGRAM WORD..` runs each program on each file, with the
-//! file's name after its words and its output thrown away, and prints a table of what each took.
+//! file's name after its words, and in place of each word `{}`, and its output thrown away, and prints a table of
+//! what each took.
 //!
 //! All runs are interleaved: a round runs every command on every file once, so that other work on the machine
 //! falls on all of them alike. CPU time (user and system) is the best of the rounds, peak memory the greatest.
-//! Ratios are to the commands named `wc -l` and `baseline`, where there are such.
+//! Ratios are to the commands named `wc -l` and `baseline`, where there are such. A program's baseline is the one
+//! that has its words and whose name begins with `baseline`; one without such is compared to `baseline` itself.
 
 use std::env;
 use std::fs;
@@ -75,7 +77,7 @@ fn read_words(words: &[String]) -> Option<(usize, &[String], Vec<Tool<'_>>)> {
 /// Runs the tool once on the file. A status other than 0 and 1 (a fault of the file) is an error.
 fn run(tool: &Tool<'_>, input: &Input) -> Result<Cost> {
     let child = Command::new(tool.program)
-        .args(tool.words)
+        .args(tool.words.iter().map(|word| if word == "{}" { &input.path } else { word }))
         .arg(&input.path)
         .stdin(Stdio::null())
         .stdout(Stdio::null())
@@ -102,10 +104,10 @@ fn print_table(inputs: &[Input], tools: &[Tool<'_>], costs: &[Vec<Cost>]) {
     println!("|---|---:|---|---:|---:|---:|---:|---:|---:|");
     for (input, costs) in inputs.iter().zip(costs) {
         let name = input.path.rsplit('/').next().unwrap_or(&input.path);
-        let cpu_of = |name: &str| tools.iter().position(|tool| tool.name == name).map(|place| costs[place].cpu_seconds);
         for (tool, cost) in tools.iter().zip(costs) {
-            let ratio =
-                |other: Option<f64>| other.map_or(String::new(), |other| format!("{:.2}", cost.cpu_seconds / other));
+            let ratio = |other: Option<usize>| {
+                other.map_or(String::new(), |place| format!("{:.2}", cost.cpu_seconds / costs[place].cpu_seconds))
+            };
             let bytes = input.bytes as f64;
             println!(
                 "| {name} | {:.1} | {} | {:.4} | {:.2} | {} | {} | {:.1} | {:.2} |",
@@ -113,11 +115,17 @@ fn print_table(inputs: &[Input], tools: &[Tool<'_>], costs: &[Vec<Cost>]) {
                 tool.name,
                 cost.cpu_seconds,
                 cost.cpu_seconds * 1e9 / bytes,
-                ratio(cpu_of("wc -l")),
-                ratio(cpu_of("baseline")),
+                ratio(tools.iter().position(|other| other.name == "wc -l")),
+                ratio(baseline_of(tool, tools)),
                 cost.peak_bytes as f64 / 1e6,
                 cost.peak_bytes as f64 / bytes,
             );
         }
     }
+}
+
+/// The place of the tool that does the same work in the baseline.
+fn baseline_of(tool: &Tool<'_>, tools: &[Tool<'_>]) -> Option<usize> {
+    let has_its_words = |other: &Tool<'_>| other.name.starts_with("baseline") && other.words == tool.words;
+    tools.iter().position(has_its_words).or_else(|| tools.iter().position(|other| other.name == "baseline"))
 }

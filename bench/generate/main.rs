@@ -1,8 +1,9 @@
 //! `generate SHAPE BYTES SEED FILE` writes a made file of just so many bytes: equal arguments, equal bytes.
 //!
 //! The shape `ordinary` is a family tree as programs write it, valid GEDCOM 7.0 with every link given in both
-//! directions. The other shapes are meant to be hard to read; `shapes.rs` says what each is.
+//! directions. The other shapes are meant to be hard to read or to walk through; `shapes.rs` says what each is.
 
+mod disorder;
 mod people;
 mod prose;
 mod random;

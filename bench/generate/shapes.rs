@@ -1,8 +1,10 @@
-//! Files that are hard to read: long lines, short lines, unusual bytes, faults.
+//! Files that are hard to read: long lines, short lines, unusual bytes, faults; and files that are hard to walk
+//! through: many structures in one place, deep ones, ones in an unlucky order.
 
+use crate::disorder::disordered;
 use std::io::{Error, Result, Write};
 
-/// Writes a file of this shape.
+/// Writes a file of this shape. Those that are listed here are hard for the reading of lines.
 pub fn write(shape: &str, bytes: usize, seed: u64, out: &mut impl Write) -> Result<()> {
     match shape {
         // One line of a text.
@@ -29,8 +31,78 @@ pub fn write(shape: &str, bytes: usize, seed: u64, out: &mut impl Write) -> Resu
         "pointers" => stretch("", &format!("1 FAMS @{}@\n", "F".repeat(200)), bytes, out),
         // An ordinary file whose last line has a fault.
         "late-fault" => super::ordinary(bytes - "0 x\n".len(), seed, out).and_then(|()| out.write_all(b"0 x\n")),
+        _ => write_tree(shape, bytes, seed, out),
+    }
+}
+
+/// The same for shapes that are hard for what follows on the reading of lines. Each is an accepted file.
+fn write_tree(shape: &str, bytes: usize, seed: u64, out: &mut impl Write) -> Result<()> {
+    match shape {
+        // An ordinary file whose records, and the structures in them, stand in any order that keeps its meaning.
+        "disordered" => disordered(bytes, seed, out),
+        // One person with very many facts of several kinds.
+        "many-children" => grow("0 INDI\n", bytes, |number| FACTS[number % FACTS.len()].to_string(), out),
+        // One family with very many children, each of whom names it in turn.
+        "big-family" => big_family(bytes, out),
+        // Very many persons with nothing but an identifier.
+        "many-records" => grow("", bytes, |number| format!("0 @I{number:07}@ INDI\n"), out),
+        // Very many persons, each of whom names one half the file away.
+        "far-pointers" => far_pointers(bytes, out),
+        // Structures one below the other down to the deepest level, again and again.
+        "deep" => grow("", bytes, |_| (0..100).map(|level| format!("{level} _A\n")).collect(), out),
+        // One text of very many lines.
+        "long-payload" => grow("0 SNOTE a\n", bytes, |_| "1 CONT b\n".to_string(), out),
+        // One person with very many notes that are all the same.
+        "equal-siblings" => grow("0 INDI\n", bytes, |_| "1 NOTE Nothing is known.\n".to_string(), out),
+        // One person with very many facts of two kinds, in turn.
+        "alternating-tags" => grow("0 INDI\n", bytes, |number| FACTS[1 + number % 2].to_string(), out),
+        // One person with very many structures, each with a tag of its own, the last in order first.
+        "falling-tags" => grow("0 INDI\n", bytes, |number| format!("1 _T{:08}\n", 99_999_999 - number), out),
+        // Very many records of several kinds, in turn.
+        "mixed-records" => grow("", bytes, |number| RECORDS[number % RECORDS.len()].to_string(), out),
         _ => Err(Error::other(format!("no such shape: {shape}"))),
     }
+}
+
+const FACTS: [&str; 6] = ["1 NAME A /B/\n", "1 OCCU a\n", "1 NOTE b\n", "1 DEAT Y\n", "1 NCHI 3\n", "1 _A\n"];
+
+const RECORDS: [&str; 7] = ["0 INDI\n", "0 FAM\n", "0 SOUR a\n", "0 _A\n", "0 OBJE\n", "0 SNOTE b\n", "0 _B\n"];
+
+const HEADER: &str = "0 HEAD\n1 GEDC\n2 VERS 7.0\n";
+
+const TRAILER: &str = "0 TRLR\n";
+
+/// The header, the start, as many parts as the size has room for, each made from its number, and the trailer.
+fn grow(start: &str, bytes: usize, part: impl Fn(usize) -> String, out: &mut impl Write) -> Result<()> {
+    write!(out, "{HEADER}{start}")?;
+    let mut room = bytes.saturating_sub(HEADER.len() + start.len() + TRAILER.len());
+    for number in 0.. {
+        let part = part(number);
+        if part.len() > room {
+            break;
+        }
+        out.write_all(part.as_bytes())?;
+        room -= part.len();
+    }
+    out.write_all(TRAILER.as_bytes())
+}
+
+fn big_family(bytes: usize, out: &mut impl Write) -> Result<()> {
+    let child = |number: usize| format!("1 CHIL @I{number:07}@\n");
+    let person = |number: usize| format!("0 @I{number:07}@ INDI\n1 FAMC @F@\n");
+    let family = "0 @F@ FAM\n";
+    let room = bytes.saturating_sub(HEADER.len() + family.len() + TRAILER.len());
+    let count = room / (child(0).len() + person(0).len());
+    write!(out, "{HEADER}{family}")?;
+    (0..count).try_for_each(|number| out.write_all(child(number).as_bytes()))?;
+    (0..count).try_for_each(|number| out.write_all(person(number).as_bytes()))?;
+    out.write_all(TRAILER.as_bytes())
+}
+
+fn far_pointers(bytes: usize, out: &mut impl Write) -> Result<()> {
+    let part = |number: usize, other: usize| format!("0 @I{number:07}@ INDI\n1 ALIA @I{other:07}@\n");
+    let count = (bytes.saturating_sub(HEADER.len() + TRAILER.len()) / part(0, 0).len()).max(1);
+    grow("", bytes, |number| part(number, (number + count / 2) % count), out)
 }
 
 /// The start, then the part as often as the size has room for it.

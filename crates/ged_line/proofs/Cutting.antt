@@ -1,5 +1,5 @@
 -- How bytes are cut into pieces.
-use Rattle.std.proofs.Common.{◌≡◌, ◌≢◌, ℕ, suc, ◌+◌, ◌<◌, ◌≤◌, true, false, List, [], ◌∷◌, ◌++◌, ◌⊎◌, inl, inr, length, get_or, take, drop, refl, sym, ◌∙◌, ap, subst, arith, ◌==◌, ◌||◌, ◌-◌, get_or-take}
+use Rattle.std.proofs.Common.{◌≡◌, ◌≢◌, ℕ, suc, ◌+◌, ◌<◌, ◌≤◌, true, false, List, [], ◌∷◌, ◌++◌, ◌⊎◌, inl, inr, length, get_or, take, drop, refl, sym, ◌∙◌, ap, subst, arith, ◌==◌, ◌||◌, ◌-◌, get_or-take, length-append}
 use Rattle.std.proofs.lemmas.Bool.Decides.{nat_tests}
 use Rattle.std.proofs.lemmas.List.{take-append-drop, length-take-le, length-drop, get_or-drop}
 use Rattle.std.proofs.Math.Seq.{take-length}
@@ -19,11 +19,11 @@ pieces_whole [] f n = absurd (n refl)
 pieces_whole (b ∷ []) f n = pieces_front b [] f.0.0 f.0.1
 pieces_whole (b ∷ c ∷ bs) f n = pieces_front b (c ∷ bs) f.0.0 f.0.1 ∙ ap (with_front b) (pieces_whole (c ∷ bs) f.1 (λ z. cc))
 
-after_lf : (rest : List ℕ) → pieces_of (10 ∷ rest) ≡ [] ∷ pieces_of rest
+pub after_lf : (rest : List ℕ) → pieces_of (10 ∷ rest) ≡ [] ∷ pieces_of rest
 after_lf [] = refl
 after_lf (c ∷ cs) = refl
 
-after_cr : (rest : List ℕ) → ((more : List ℕ) → rest ≢ 10 ∷ more) → pieces_of (13 ∷ rest) ≡ [] ∷ pieces_of rest
+pub after_cr : (rest : List ℕ) → ((more : List ℕ) → rest ≢ 10 ∷ more) → pieces_of (13 ∷ rest) ≡ [] ∷ pieces_of rest
 after_cr [] f = refl
 after_cr (c ∷ cs) f = rw (not_same c 10 (λ e. f cs (ap (λ d. d ∷ cs) e))) refl
 
@@ -49,7 +49,7 @@ cut_front b bytes [] f g h = (((f, g), tt), inl (refl, ap (λ x. b ∷ x) h, λ 
 cut_front b bytes (piece ∷ pieces) f g (n, inl (none, e, m)) = (((f, g), n), inl (none, ap (λ x. b ∷ x) e, λ z. cc))
 cut_front b bytes (piece ∷ pieces) f g (n, inr (end, rest, e, s, h)) = (((f, g), n), inr (end, rest, e, ap (λ x. b ∷ x) s, h))
 
-same_or_not : (a b : ℕ) → (a ≡ b) ⊎ (a ≢ b)
+pub same_or_not : (a b : ℕ) → (a ≡ b) ⊎ (a ≢ b)
 same_or_not a b = elim (dec_lt a b) [
   | yes l ↦ inr (omega arith)
   | no f ↦ elim (dec_lt b a) [ yes l ↦ inr (omega arith) | no g ↦ inl (omega arith) ]
@@ -104,7 +104,7 @@ HasNoEnd-from_search bs n l h = recursion_from_All (λ b. (b ≢ 13) × (b ≢ 1
 abbrev pub EndsWithRest : List ℕ → List ℕ → Type 0
 EndsWithRest bytes rest = (end : List ℕ) × IsEnd end rest × (bytes ≡ end ++ rest)
 
-rest_of : (bs : List ℕ) (n : ℕ) → n ≤ length bs → take (length bs - n) (drop n bs) ≡ drop n bs
+pub rest_of : (bs : List ℕ) (n : ℕ) → n ≤ length bs → take (length bs - n) (drop n bs) ≡ drop n bs
 rest_of bs n h =
     let same : length (drop n bs) ≡ length bs - n = length-drop n bs in
     ap (λ k. take k (drop n bs)) (sym same) ∙ take-length (drop n bs)
@@ -187,3 +187,24 @@ pieces_of_nil (b ∷ bs) e = absurd (grind (arith, nat_tests))
 pub nil_of : (bs : List ℕ) → true ≡ (length bs == 0) → bs ≡ []
 nil_of [] e = refl
 nil_of (b ∷ bs) e = absurd (grind (arith, nat_tests))
+
+end_not_nil : (end rest : List ℕ) → IsEnd end rest → 0 < length end
+end_not_nil end rest (inl e) = omega (arith, ap length e)
+end_not_nil end rest (inr (inl e)) = omega (arith, ap length e)
+end_not_nil end rest (inr (inr (e, f))) = omega (arith, ap length e)
+
+some_bytes : (bs : List ℕ) → bs ≢ [] → 0 < length bs
+some_bytes [] n = absurd (n refl)
+some_bytes (b ∷ bs) n = omega arith
+
+-- each piece, with its end, has a byte
+pub length-AreCutInto : (pieces : List (List ℕ)) (bytes : List ℕ) → AreCutInto bytes pieces → length pieces ≤ length bytes
+length-AreCutInto [] bytes c = omega arith
+length-AreCutInto (piece ∷ pieces) bytes (f, inl (none, e, n)) =
+    let zero' : length pieces ≡ 0 = ap length none in
+    let some : 0 < length piece = some_bytes piece n in
+    omega (arith, ap length e)
+length-AreCutInto (piece ∷ pieces) bytes (f, inr (end, rest, e, s, h)) =
+    let more = length-AreCutInto pieces rest h in
+    let some = end_not_nil end rest e in
+    omega (arith, ap length s, length-append piece (end ++ rest), length-append end rest)

@@ -1,5 +1,5 @@
 -- The lines of a file and its pieces.
-use Rattle.std.proofs.Common.{◌≡◌, ◌≢◌, ℕ, ◌+◌, Bool, true, false, List, [], ◌∷◌, ◌++◌, inl, inr, Option, Some, None, Result, Ok, Err, length, get_or, refl, sym, ◌∙◌, ap, subst, arith, MatchOption, IfOk}
+use Rattle.std.proofs.Common.{◌≡◌, ◌≢◌, ℕ, ◌+◌, ◌≤◌, Bool, true, false, List, [], ◌∷◌, ◌++◌, inl, inr, Option, Some, None, Result, Ok, Err, length, length-append, get_or, refl, sym, ◌∙◌, ap, subst, arith, MatchOption, IfOk}
 use Rattle.std.proofs.lemmas.List.{append-nil, append_assoc}
 use Rattle.std.proofs.lemmas.List.Elements.{recursion_from_All, All-from_get_or}
 use Rattle.std.proofs.lemmas.Str.{NoCharPasses-byte}
@@ -17,7 +17,7 @@ use Rattle.ged_line.specs.declared.fault.LineFault.{LineFault}
 use Rattle.ged_line.specs.declared.fault.LineFault.TheVariants.{EmptyLine}
 use Rattle.ged_line.specs.declared.fault.LineAt.{LineAt}
 use Rattle.ged_line.specs.declared.lines.Lines.{Lines}
-use Rattle.ged_line.proofs.Cutting.{pieces_only}
+use Rattle.ged_line.proofs.Cutting.{pieces_only, length-AreCutInto}
 use Rattle.ged_line.proofs.LineLaws.{IsPlain, one_line, no_fault, line_plain}
 
 carriage_banned : (b : ℕ) → b ≡ 13 → is_banned b ≡ true
@@ -102,6 +102,11 @@ one_cut file pieces others (a, m, c) (b, n, d) =
     let same : a ≡ b = behind_same file a b m n in
     pieces_only pieces a c ∙ ap pieces_of same ∙ sym (pieces_only others b d)
 
+-- no more pieces than bytes
+pub length-ArePiecesOf : (file : Bytes) (pieces : List Bytes) → ArePiecesOf file pieces → length pieces ≤ length file
+length-ArePiecesOf file pieces (bytes, inl e, c) = let few = length-AreCutInto pieces bytes c in omega (arith, ap length e)
+length-ArePiecesOf file pieces (bytes, inr (e, f), c) = let few = length-AreCutInto pieces bytes c in omega (arith, ap length e)
+
 same_texts : (a b : List LineParts) (pieces : List Bytes) → AreTexts a pieces → AreTexts b pieces → a ≡ b
 same_texts [] [] pieces s t = refl
 same_texts [] (y ∷ b) pieces s t = let z : AreTexts (y ∷ b) [] = subst (AreTexts (y ∷ b)) s t in absurd z
@@ -166,6 +171,47 @@ pub HaveRead-fault : (bytes : Bytes) (lines : List LineParts) (left rest : List 
 HaveRead-fault bytes lines left rest piece fault at e f n (before, p, a) =
     let count : length lines ≡ length before = length-AreTexts lines before a in
     record { before = before; piece = piece; after = rest; cut = subst (AreCutInto bytes) (ap (λ x. before ++ x) e) p; texts = a; fault_is = f; line_is = omega arith }
+
+AreTexts-append : (lines more : List LineParts) (before pieces : List Bytes) → AreTexts lines before → AreTexts more pieces → AreTexts (lines ++ more) (before ++ pieces)
+AreTexts-append [] more before pieces a t = rw a t
+AreTexts-append (l ∷ lines) more [] pieces a t = absurd a
+AreTexts-append (l ∷ lines) more (b ∷ before) pieces a t = (a.0, AreTexts-append lines more before pieces a.1 t)
+
+-- the lines of a block, whose pieces are the first of those that are left
+pub HaveRead-block : (bytes : Bytes) (lines more : List LineParts) (left rest : List Bytes) (block : Bytes)
+    → left ≡ pieces_of block ++ rest → SpellLines more block → HaveRead bytes lines left → HaveRead bytes (lines ++ more) rest
+HaveRead-block bytes lines more left rest block e s (before, p, a) =
+    let (pieces, c, t) = spelled_texts more block s in
+    let moved : before ++ left ≡ (before ++ pieces) ++ rest =
+    ap (λ x. before ++ x) (e ∙ ap (λ x. x ++ rest) (sym (pieces_only pieces block c))) ∙ sym (append_assoc before pieces rest) in
+    (before ++ pieces, subst (AreCutInto bytes) moved p, AreTexts-append lines more before pieces a t)
+
+-- a block's fault is the fault of what it stands in
+pub StopsIn-block : (bytes : Bytes) (lines more : List LineParts) (line : ℕ) (left rest : List Bytes) (block : Bytes) (fault : LineFault)
+    → left ≡ pieces_of block ++ rest → StopsIn block more line fault → HaveRead bytes lines left → StopsIn bytes (lines ++ more) (length lines + line) fault
+StopsIn-block bytes lines more line left rest block fault e s (before, p, a) =
+    let own = s.before ++ (s.piece ∷ s.after) in
+    let count : length lines ≡ length before = length-AreTexts lines before a in
+    let number : line ≡ length s.before + 1 = s.line_is in
+    let moved : before ++ left ≡ (before ++ s.before) ++ (s.piece ∷ (s.after ++ rest)) =
+    ap (λ x. before ++ x) (e ∙ ap (λ x. x ++ rest) (sym (pieces_only own block s.cut)) ∙ append_assoc s.before (s.piece ∷ s.after) rest)
+    ∙ sym (append_assoc before s.before (s.piece ∷ (s.after ++ rest))) in
+    record {
+      before = before ++ s.before;
+      piece = s.piece;
+      after = s.after ++ rest;
+      cut = subst (AreCutInto bytes) moved p;
+      texts = AreTexts-append lines more before s.before a s.texts;
+      fault_is = s.fault_is;
+      line_is = omega (arith, length-append before s.before);
+    }
+
+-- no more lines than bytes stand before a fault and in its piece
+pub StopsIn-few : (bytes : Bytes) (lines : List LineParts) (line : ℕ) (fault : LineFault) → StopsIn bytes lines line fault → line ≤ length bytes
+StopsIn-few bytes lines line fault s =
+    let few = length-AreCutInto (s.before ++ (s.piece ∷ s.after)) bytes s.cut in
+    let number : line ≡ length s.before + 1 = s.line_is in
+    omega (arith, length-append s.before (s.piece ∷ s.after))
 
 -- the same of a file, which may have a mark
 abbrev pub HaveReadFile : Bytes → List LineParts → List Bytes → Type 0

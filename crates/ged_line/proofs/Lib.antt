@@ -12,3 +12,4 @@ pub mod FileLaws
 pub mod Respelling
 pub mod Fast
 pub mod EndLemmas
+pub mod BlockLemmas

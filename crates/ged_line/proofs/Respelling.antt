@@ -6,19 +6,20 @@ use Rattle.ged_line.specs.Bytes.{Bytes}
 use Rattle.ged_line.specs.Lines.{LineParts, Value, Empty, Void, Pointer, Text, LineText, IsValuePart, xref_part}
 use Rattle.ged_line.specs.Views.{viewed_value}
 use Rattle.ged_line.specs.Faults.{IsFaultOf}
-use Rattle.ged_line.specs.Pieces.{AreCutInto, IsEnd, pieces_of}
+use Rattle.ged_line.specs.Pieces.{AreCutInto, pieces_of}
 use Rattle.ged_line.specs.Spelling.{spelling, value_part, spelled_lines}
-use Rattle.ged_line.specs.Files.{SpellLines, StopsIn}
+use Rattle.ged_line.specs.Files.{StopsIn}
+use Rattle.ged_line.specs.Reading.{IsRespelledBehind}
 use Rattle.ged_line.specs.declared.fault.LineFault.{LineFault}
 use Rattle.ged_line.specs.declared.view.ValueView.{ValueView}
 use Rattle.ged_line.specs.declared.view.ValueView.TheVariants as views
 use Rattle.ged_line.proofs.Cuts.{Lacks, cut_not_whole}
 use Rattle.ged_line.proofs.NameTests.{tag_some}
-use Rattle.ged_line.proofs.Cutting.{are_cut}
+use Rattle.ged_line.proofs.Cutting.{are_cut, length-AreCutInto}
 use Rattle.ged_line.proofs.Scans.{Lacks-tag}
 use Rattle.ged_line.proofs.LineLaws.{line_is}
 use Rattle.ged_line.specs.Names.{is_tag}
-use Rattle.ged_line.proofs.FileLaws.{length-AreTexts, HaveRead, HaveRead-start, HaveRead-more, HaveRead-end, HaveRead-fault}
+use Rattle.ged_line.proofs.FileLaws.{length-AreTexts, HaveRead, HaveRead-start, HaveRead-more, HaveRead-end, HaveRead-fault, HaveRead-block, StopsIn-block}
 
 nothing_after : (xs ys : List ℕ) → ys ≢ [] → xs ++ ys ≡ [] → ⊥
 nothing_after [] ys n e = n e
@@ -107,33 +108,12 @@ HaveRespelled-more bytes count left rest piece old out now line e t n (lines, h,
 )
 
 pub HaveRespelled-end : (bytes : Bytes) (count : ℕ) (left : List Bytes) (old out : Bytes) → left ≡ [] → HaveRespelled bytes count left old out
-    → (lines : List LineParts) × SpellLines lines bytes × (out ≡ old ++ spelled_lines lines)
-HaveRespelled-end bytes count left old out e (lines, h, k, o) = (lines, HaveRead-end bytes lines left e h, o)
+    → IsRespelledBehind bytes count old out
+HaveRespelled-end bytes count left old out e (lines, h, k, o) = (lines, HaveRead-end bytes lines left e h, k, o)
 
 pub HaveRespelled-fault : (bytes : Bytes) (count : ℕ) (left rest : List Bytes) (piece old out : Bytes) (fault : LineFault)
     → left ≡ piece ∷ rest → IsFaultOf fault piece → HaveRespelled bytes count left old out → (lines : List LineParts) × StopsIn bytes lines (count + 1) fault
 HaveRespelled-fault bytes count left rest piece old out fault e f (lines, h, k, o) = (lines, HaveRead-fault bytes lines left rest piece fault (count + 1) e f (omega arith) h)
-
-end_not_nil : (end rest : Bytes) → IsEnd end rest → 0 < length end
-end_not_nil end rest (inl e) = omega (arith, ap length e)
-end_not_nil end rest (inr (inl e)) = omega (arith, ap length e)
-end_not_nil end rest (inr (inr (e, f))) = omega (arith, ap length e)
-
-some_bytes : (bs : Bytes) → bs ≢ [] → 0 < length bs
-some_bytes [] n = absurd (n refl)
-some_bytes (b ∷ bs) n = omega arith
-
--- each piece, with its end, has a byte
-length-AreCutInto : (pieces : List Bytes) (bytes : Bytes) → AreCutInto bytes pieces → length pieces ≤ length bytes
-length-AreCutInto [] bytes c = omega arith
-length-AreCutInto (piece ∷ pieces) bytes (f, inl (none, e, n)) =
-    let zero' : length pieces ≡ 0 = ap length none in
-    let some : 0 < length piece = some_bytes piece n in
-    omega (arith, ap length e)
-length-AreCutInto (piece ∷ pieces) bytes (f, inr (end, rest, e, s, h)) =
-    let more = length-AreCutInto pieces rest h in
-    let some = end_not_nil end rest e in
-    omega (arith, ap length s, length-append piece (end ++ rest), length-append end rest)
 
 pub HaveRespelled-room : (bytes : Bytes) (count : ℕ) (left rest : List Bytes) (piece old out : Bytes) → left ≡ piece ∷ rest → HaveRespelled bytes count left old out → count < length bytes
 HaveRespelled-room bytes count left rest piece old out e (lines, (before, c, a), k, o) =
@@ -188,7 +168,32 @@ IsRespelledTo-copied bytes count rest after uncopied old out now piece line p t 
     }
 
 pub IsRespelledTo-end : (bytes : Bytes) (count : ℕ) (rest uncopied old out now : Bytes) → pieces_of rest ≡ [] → rest ≡ [] → now ≡ out ++ uncopied
-    → IsRespelledTo bytes count rest uncopied old out → (lines : List LineParts) × SpellLines lines bytes × (now ≡ old ++ spelled_lines lines)
+    → IsRespelledTo bytes count rest uncopied old out → IsRespelledBehind bytes count old now
 IsRespelledTo-end bytes count rest uncopied old out now p e n r =
     let kept : uncopied ≡ r.kept = r.split ∙ ap (λ x. r.kept ++ x) e ∙ append-nil r.kept in
     HaveRespelled-end bytes count (pieces_of rest) old now p (subst (HaveRespelled bytes count (pieces_of rest) old) (sym (n ∙ ap (λ x. out ++ x) kept)) r.read)
+
+-- the lines of a block behind those that are respelled
+spelled-append : (lines more : List LineParts) → spelled_lines (lines ++ more) ≡ spelled_lines lines ++ spelled_lines more
+spelled-append [] more = refl
+spelled-append (l ∷ lines) more = ap (λ x. spelling l ++ (10 ∷ x)) (spelled-append lines more) ∙ sym (append_assoc (spelling l) (10 ∷ spelled_lines lines) (spelled_lines more))
+
+pub HaveRespelled-block : (bytes : Bytes) (count more : ℕ) (left rest : List Bytes) (block old out now : Bytes)
+    → left ≡ pieces_of block ++ rest → IsRespelledBehind block more out now → HaveRespelled bytes count left old out → HaveRespelled bytes (count + more) rest old now
+HaveRespelled-block bytes count more left rest block old out now e (added, s, m, n) (lines, h, k, o) = (
+  lines ++ added,
+  HaveRead-block bytes lines added left rest block e s h,
+  omega (arith, length-append lines added),
+  n ∙ ap (λ x. x ++ spelled_lines added) o ∙ append_assoc old (spelled_lines lines) (spelled_lines added) ∙ ap (λ x. old ++ x) (sym (spelled-append lines added)),
+)
+
+pub HaveRespelled-block_fault : (bytes : Bytes) (count line : ℕ) (left rest : List Bytes) (block old out : Bytes) (fault : LineFault)
+    → left ≡ pieces_of block ++ rest → ((lines : List LineParts) × StopsIn block lines line fault) → HaveRespelled bytes count left old out
+    → (lines : List LineParts) × StopsIn bytes lines (count + line) fault
+HaveRespelled-block_fault bytes count line left rest block old out fault e (more, s) (lines, h, k, o) = (lines ++ more, rw k (StopsIn-block bytes lines more line left rest block fault e s h))
+
+pub HaveRespelled-few : (bytes : Bytes) (count : ℕ) (left : List Bytes) (old out : Bytes) → HaveRespelled bytes count left old out → count ≤ length bytes
+HaveRespelled-few bytes count left old out (lines, (before, c, a), k, o) =
+    let all = length-AreCutInto (before ++ left) bytes c in
+    let same : length lines ≡ length before = length-AreTexts lines before a in
+    omega (arith, length-append before left)

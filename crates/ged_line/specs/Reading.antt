@@ -1,14 +1,26 @@
 -- What reading answers.
-use Rattle.std.specs.Prelude.{List, MatchOption}
+use Rattle.std.specs.Prelude.{◌≡◌, ℕ, List, [], ◌∷◌, ◌++◌, length, Option, Result, MatchOption, MatchResult}
 use Rattle.ged_line.specs.Bytes.{Bytes}
 use Rattle.ged_line.specs.Lines.{LineParts, LineText}
 use Rattle.ged_line.specs.Faults.{IsFaultOf}
-use Rattle.ged_line.specs.Files.{FileText, StopsIn, StopsAt, IsFirstFault}
+use Rattle.ged_line.specs.Files.{FileText, SpellLines, StopsIn, StopsAt, IsFirstFault}
+use Rattle.ged_line.specs.Spelling.{spelled_lines}
+use Rattle.ged_line.specs.declared.fault.LineFault.{LineFault}
 use Rattle.ged_line.specs.declared.lines.Lines.{Lines}
 use Rattle.ged_line.specs.declared.fault.ParseFault.{ParseFault}
 use Rattle.ged_line.specs.declared.fault.ParseFault.TheVariants as parsing
 use Rattle.ged_line.specs.declared.fault.RespellFault.{RespellFault}
 use Rattle.ged_line.specs.declared.fault.RespellFault.TheVariants as respelling
+
+-- the line that the piece spells, or its fault
+abbrev pub TellsView : Result LineParts LineFault → Bytes → Type 0
+TellsView told piece = MatchResult told (λ line. LineText line piece) (λ fault. IsFaultOf fault piece)
+
+-- A call for the first of the pieces that are left tells its line or its fault and leaves the others, or answers that
+-- none is left.
+abbrev pub YieldsLine : List Bytes → Option (Result LineParts LineFault) → List Bytes → Type 0
+YieldsLine pieces told rest = MatchOption told ((pieces ≡ []) × (rest ≡ []))
+    (λ line. (piece : Bytes) × (pieces ≡ piece ∷ rest) × TellsView line piece)
 
 -- the piece's fault; want of memory is answered for a piece with a line alone
 abbrev pub TellsParse : ParseFault → Bytes → Type 0
@@ -29,3 +41,8 @@ TellsRespell (respelling.Memory error) file = Unit {0}
 abbrev pub TellsRespellIn : RespellFault → Bytes → Type 0
 TellsRespellIn (respelling.At at) bytes = (lines : List LineParts) × StopsIn bytes lines at.line at.fault
 TellsRespellIn (respelling.Memory error) bytes = Unit {0}
+
+-- bytes without a mark spell so many lines, whose canonical spelling is put behind what stood there
+abbrev pub IsRespelledBehind : Bytes → ℕ → Bytes → Bytes → Type 0
+IsRespelledBehind bytes count old new = (lines : List LineParts) × SpellLines lines bytes × (count ≡ length lines)
+    × (new ≡ old ++ spelled_lines lines)

@@ -4,6 +4,7 @@
 //! types are copies of what a view shows.
 #![tactic(auto)]
 
+mod blocks;
 mod characters;
 mod cut;
 mod ends;
@@ -17,6 +18,7 @@ mod respell;
 mod scan;
 mod text;
 mod view;
+mod views;
 mod write;
 
 pub use fault::{LineAt, LineFault, ParseFault, RespellFault};
@@ -29,6 +31,7 @@ pub use respell::respell_lines;
 pub use scan::view_line;
 pub use text::Text;
 pub use view::{LineView, ValueView};
+pub use views::{LineViews, view_lines};
 pub use write::{write_line, write_lines, write_view};
 
 #[cfg(test)]

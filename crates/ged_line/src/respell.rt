@@ -3,9 +3,10 @@ ghost use Rattle.std.specs.Prelude.{◌≡◌, ◌-◌, ◌++◌, ◌∷◌, [],
 ghost use Rattle.ged_line.specs.Bytes.{Bytes, line_feed};
 ghost use Rattle.ged_line.specs.Lines.{LineParts, LineText};
 ghost use Rattle.ged_line.specs.Files.{SpellLines, IsRespelling};
-ghost use Rattle.ged_line.specs.Reading.{TellsRespell, TellsRespellIn};
+ghost use Rattle.ged_line.specs.Reading.{TellsRespell, TellsRespellIn, IsRespelledBehind};
 ghost use Rattle.ged_line.specs.Spelling.{spelling, spelled_lines};
 
+use crate::blocks::split_block;
 use crate::cut::{Cut, cut_line};
 use crate::fault::{LineAt, LineFault, RespellFault};
 use crate::pieces::{cut_pieces, skip_mark};
@@ -31,15 +32,38 @@ pub fn respell_lines(alloc: Global, bytes: &[u8]) -> Result<Vec<u8>, RespellFaul
     }
 }
 
-/// Appends the lines of bytes without a mark. UTF-8 is validated as a whole, many bytes at a time.
+/// Appends the lines of bytes without a mark, by blocks: each is validated, judged and copied while it is in the
+/// processor's cache.
 fn respell_rest(bytes: &[u8], out: &mut Vec<u8>) -> Result<(), RespellFault>
     ensures ok { OnOk result ((lines : List LineParts) × SpellLines lines bytes.now
         × (out.new.items ≡ out.old.items ++ spelled_lines lines)) }
     ensures fault { IfErr result (λ fault. TellsRespellIn fault bytes.now) }
 {
-    match simdutf8::basic::from_utf8(bytes) {
+    let mut unread = bytes;
+    let mut lines = 0u64;
+    while !unread.is_empty() {
+        let (block, behind) = split_block(unread);
+        match respell_block(block, out) {
+            Ok(count) => lines += count,
+            Err(RespellFault::At(at)) => {
+                let (line, fault) = (lines + at.line, at.fault);
+                return Err(RespellFault::At(LineAt { line, fault }));
+            }
+            Err(RespellFault::Memory(error)) => return Err(RespellFault::Memory(error)),
+        }
+        unread = behind;
+    }
+    Ok(())
+}
+
+/// Appends the lines of a block and counts them. UTF-8 is validated many bytes at a time.
+fn respell_block(block: &[u8], out: &mut Vec<u8>) -> Result<u64, RespellFault>
+    ensures ok { IfOk result (λ count. IsRespelledBehind block.now count out.old.items out.new.items) }
+    ensures fault { IfErr result (λ fault. TellsRespellIn fault block.now) }
+{
+    match simdutf8::basic::from_utf8(block) {
         Ok(text) => respell_text(text, out),
-        Err(_) => respell_pieces(bytes, out),
+        Err(_) => respell_pieces(block, out),
     }
 }
 
@@ -52,14 +76,10 @@ fn start_file(alloc: Global, length: usize) -> Result<Vec<u8>, AllocError>
     Ok(out)
 }
 
-/// Lines are copied together up to about this many bytes, while they are still in the processor's cache.
-const COPIED_RUN: usize = 65536;
-
-/// Appends the lines of a text. Lines that are spelled as they should be are copied together with their
-/// neighbours.
-fn respell_text(text: &str, out: &mut Vec<u8>) -> Result<(), RespellFault>
-    ensures ok { OnOk result ((lines : List LineParts) × SpellLines lines text.now
-        × (out.new.items ≡ out.old.items ++ spelled_lines lines)) }
+/// Appends the lines of a text and counts them. Lines that are spelled as they should be are copied together with
+/// their neighbours.
+fn respell_text(text: &str, out: &mut Vec<u8>) -> Result<u64, RespellFault>
+    ensures ok { IfOk result (λ count. IsRespelledBehind text.now count out.old.items out.new.items) }
     ensures fault { IfErr result (λ fault. TellsRespellIn fault text.now) }
 {
     // What is not in the answer yet, of which the lines before the rest are spelled as they should be.
@@ -82,7 +102,7 @@ fn respell_text(text: &str, out: &mut Vec<u8>) -> Result<(), RespellFault>
             Err(fault) => return Err(RespellFault::At(LineAt { line, fault })),
         };
         let spelled = canonical_text(piece, &view);
-        if uncopied.len() - after.len() >= COPIED_RUN || !is_line_before(rest, spelled, after) {
+        if !is_line_before(rest, spelled, after) {
             if let Err(error) = append_up_to(uncopied, rest, spelled, out) {
                 return Err(RespellFault::Memory(error));
             }
@@ -91,7 +111,7 @@ fn respell_text(text: &str, out: &mut Vec<u8>) -> Result<(), RespellFault>
         rest = after;
     }
     match out.extend_from_slice(uncopied) {
-        Ok(()) => Ok(()),
+        Ok(()) => Ok(line),
         Err(error) => Err(RespellFault::Memory(error)),
     }
 }
@@ -131,10 +151,9 @@ fn append_up_to(bytes: &[u8], rest: &str, line: &str, out: &mut Vec<u8>) -> Resu
     Ok(())
 }
 
-/// Appends the lines of any bytes without a mark.
-fn respell_pieces(bytes: &[u8], out: &mut Vec<u8>) -> Result<(), RespellFault>
-    ensures ok { OnOk result ((lines : List LineParts) × SpellLines lines bytes.now
-        × (out.new.items ≡ out.old.items ++ spelled_lines lines)) }
+/// Appends the lines of any bytes without a mark and counts them.
+fn respell_pieces(bytes: &[u8], out: &mut Vec<u8>) -> Result<u64, RespellFault>
+    ensures ok { IfOk result (λ count. IsRespelledBehind bytes.now count out.old.items out.new.items) }
     ensures fault { IfErr result (λ fault. TellsRespellIn fault bytes.now) }
 {
     let mut line = 0u64;
@@ -148,5 +167,5 @@ fn respell_pieces(bytes: &[u8], out: &mut Vec<u8>) -> Result<(), RespellFault>
             return Err(RespellFault::Memory(error));
         }
     }
-    Ok(())
+    Ok(line)
 }

@@ -8,6 +8,8 @@ use std::alloc::{AllocError, Global};
 use std::cmp::Ordering;
 use std::test::Fail;
 
+mod blocks;
+
 const MINIMAL: &[u8] = b"\xEF\xBB\xBF0 HEAD\n1 GEDC\n2 VERS 7.0\n0 TRLR\n";
 
 #[test]

@@ -35,7 +35,7 @@ is_line_before-requires c =
 pub loop-rest-preserved-in_default : goal.loop-rest-preserved-in_default
 loop-rest-preserved-in_default c = (
   c.cut_line-has_banned.ensures.utf8,
-  rw c.as_bytes-uncopied-then-uncopied-after-ge-COPIED_RUN.ensures.value
+  rw c.as_bytes-uncopied-then-not-is_line_before.ensures.value
       (IsRespelledTo-copied c.args.text.now c.loop-rest.line c.loop-rest.rest.now c.cut_line-has_banned.result.after.now c.loop-rest.uncopied.now c.args.out.now.items c.loop-rest.out.items c.append_up_to.new.out.items
       c.cut_line-has_banned.result.piece.now c.in-Ok.view c.cut_line-has_banned.ensures.pieces c.in-Ok.ensures (rw (← c.canonical_text-spelled.ensures.spelled) c.in_default.ensures) c.loop-rest.invariant.1),
 )

@@ -1,0 +1,126 @@
+// The lines of a file as slices of it, one after another.
+ghost use Rattle.std.specs.Prelude.{◌≡◌, ◌≤◌, ◌∷◌, [], length, MatchOption, IfSome, IsUtf8};
+ghost use Rattle.std.specs.Iterator.{item_count};
+ghost use Rattle.ged_line.specs.Bytes.{Bytes};
+ghost use Rattle.ged_line.specs.Pieces.{ArePiecesOf, pieces_of};
+ghost use Rattle.ged_line.specs.Reading.{TellsView, YieldsLine};
+
+use crate::blocks::split_block;
+use crate::cut::{Cut, cut_line};
+use crate::fault::LineFault;
+use crate::pieces::{Pieces, cut_pieces, skip_mark};
+use crate::scan::{view_line, view_text};
+use crate::view::LineView;
+use std::marker::Model;
+
+/// The lines of a file that are left, from the first.
+#[derive(Drop)]
+pub struct LineViews<'a> {
+    /// What is left of a block that is UTF-8.
+    text: &'a str,
+    /// What is left of a block that is not.
+    pieces: Pieces<'a>,
+    /// The blocks behind it.
+    unread: &'a [u8],
+}
+
+impl<'a> Model for LineViews<'a> {
+    ghost use Rattle.std.specs.Prelude.{List, ◌++◌};
+    ghost use Rattle.ged_line.specs.Bytes.{Bytes};
+    ghost use Rattle.ged_line.specs.Pieces.{pieces_of};
+
+    ghost Value = { List Bytes };
+
+    ghost view = { λ v. pieces_of v.text.now ++ (v.pieces ++ pieces_of v.unread.now) };
+}
+
+/// The lines of a file: for each of the pieces that [`crate::split_pieces`] gives, in order, what [`view_line`]
+/// answers.
+///
+/// They go on after a fault. UTF-8 is validated by blocks, many bytes at a time. Takes no memory
+/// (FamilySearch GEDCOM 7.0, "Lines").
+pub fn view_lines(bytes: &[u8]) -> LineViews<'_>
+    ensures pieces { ArePiecesOf bytes.now result }
+    ensures count { length result ≤ length bytes.now }
+{
+    LineViews {
+        text: "",
+        pieces: cut_pieces(&[]),
+        unread: skip_mark(bytes),
+    }
+}
+
+/// What the first line of a text is, and the text behind it.
+#[inline(always)]
+fn first_of_text(text: &str) -> Option<(Result<LineView<'_>, LineFault>, &str)>
+    ensures line { MatchOption result (pieces_of text.now ≡ []) (λ p. (piece : Bytes)
+        × (pieces_of text.now ≡ piece ∷ pieces_of p.1.now) × TellsView p.0 piece) }
+    ensures utf8 { IfSome result (λ p. IsUtf8 p.1.now) }
+{
+    if text.is_empty() {
+        return None;
+    }
+    let Cut {
+        piece,
+        after,
+        has_banned,
+    } = cut_line(text);
+    if has_banned {
+        return Some((Err(LineFault::BannedCharacter), after));
+    }
+    Some((view_text(piece), after))
+}
+
+/// What the first line of bytes without a mark is, and the lines behind it: those of its block are ready to be read.
+#[cold]
+fn first_of_blocks(bytes: &[u8]) -> Option<(Result<LineView<'_>, LineFault>, LineViews<'_>)>
+    ensures { MatchOption result (pieces_of bytes.now ≡ []) (λ p. (piece : Bytes)
+        × (pieces_of bytes.now ≡ piece ∷ p.1) × TellsView p.0 piece) }
+{
+    let (block, unread) = split_block(bytes);
+    let Ok(text) = simdutf8::basic::from_utf8(block) else {
+        let mut pieces = cut_pieces(block);
+        let Some(piece) = pieces.next() else {
+            return None;
+        };
+        let lines = LineViews {
+            text: "",
+            pieces,
+            unread,
+        };
+        return Some((view_line(piece), lines));
+    };
+    let Some((line, text)) = first_of_text(text) else {
+        return None;
+    };
+    let lines = LineViews {
+        text,
+        pieces: cut_pieces(&[]),
+        unread,
+    };
+    Some((line, lines))
+}
+
+impl<'a> Iterator for LineViews<'a> {
+    type Item = Result<LineView<'a>, LineFault>;
+
+    ghost next_gives = { YieldsLine };
+
+    ghost remaining = { item_count (λ pieces. pieces) };
+
+    #[inline(always)]
+    fn next(&mut self) -> Option<Result<LineView<'a>, LineFault>> {
+        if let Some((line, after)) = first_of_text(self.text) {
+            self.text = after;
+            return Some(line);
+        }
+        if let Some(piece) = self.pieces.next() {
+            return Some(view_line(piece));
+        }
+        let Some((line, lines)) = first_of_blocks(self.unread) else {
+            return None;
+        };
+        *self = lines;
+        Some(line)
+    }
+}

@@ -1,0 +1,49 @@
+-- A text that is cut at a character, and the parts put together again.
+use Rattle.std.proofs.Common.{◌≡◌, ◌≢◌, ℕ, suc, ◌<◌, Bool, true, false, cond, [], ◌∷◌, ◌++◌, length, get_or, Option, Some, None, refl, sym, ap, subst, ◌∙◌, arith, append-nil}
+use Rattle.std.specs.Prelude.{◌==◌}
+use Rattle.std.specs.List.{list_all, list_any}
+use Rattle.std.proofs.lemmas.Bool.{ne_eqb, or_from, or_parts, and_parts, false≢true, false_from_ne_true}
+use Rattle.std.proofs.lemmas.Bool.Decides.{Decides-eqb}
+use Rattle.ged_value.specs.Words.{Bytes}
+use Rattle.ged_value.specs.Cuts.{cut_at}
+use Rattle.ged_value.specs.Times.{marked}
+
+abbrev pub has : ℕ → Bytes → Bool
+has character text = list_any (λ b. b == character) text
+
+pub has_none_at : (c : ℕ) (w : Bytes) → ((i : ℕ) → i < length w → get_or w i 0 ≢ c) → has c w ≡ false
+has_none_at c [] h = refl
+has_none_at c (b ∷ bs) h = or_from _ _ (ne_eqb b c (h 0 (omega arith))) (has_none_at c bs (λ i l. h (suc i) (omega arith)))
+
+-- what passes a test of every byte, which the character fails, doesn't have it
+pub has_none : (p : ℕ → Bool) (c : ℕ) (w : Bytes) → p c ≡ false → list_all p w ≡ true → has c w ≡ false
+has_none p c [] f h = refl
+has_none p c (b ∷ bs) f h =
+    let q = and_parts _ _ h in
+    or_from _ _ (false_from_ne_true _ (λ t. false≢true (sym f ∙ subst (λ x. p x ≡ true) ((Decides-eqb b c).0 t) q.0))) (has_none p c bs f q.1)
+
+pub has_neither : (c : ℕ) (v w : Bytes) → has c v ≡ false → has c w ≡ false → has c (v ++ w) ≡ false
+has_neither c [] w g h = h
+has_neither c (b ∷ bs) w g h = let p = or_parts (b == c) (has c bs) g in or_from _ _ p.0 (has_neither c bs w p.1 h)
+
+-- a text is cut behind a front without the character
+pub cut_again : (c : ℕ) (front : Bytes) (back : Option Bytes) → has c front ≡ false → cut_at c (front ++ marked c back) ≡ (front, back)
+cut_again c [] None h = refl
+cut_again c [] (Some back) h = rw ((Decides-eqb c c).1 refl) refl
+cut_again c (b ∷ bs) back h = let p = or_parts (b == c) (has c bs) h in rw (p.0, cut_again c bs back p.1) refl
+
+joined_at : (t : Bool) (c b : ℕ) (bs : Bytes) (parts : Bytes × Option Bytes) → (t ≡ true → b ≡ c) → bs ≡ parts.0 ++ marked c parts.1
+    → let r : Bytes × Option Bytes = cond t ([], Some bs) (b ∷ parts.0, parts.1) in (b ∷ bs) ≡ r.0 ++ marked c r.1
+joined_at true c b bs parts e h = ap (λ x. x ∷ bs) (e refl)
+joined_at false c b bs parts e h = ap (λ x. b ∷ x) h
+
+pub cut_joined : (c : ℕ) (text : Bytes) → text ≡ (cut_at c text).0 ++ marked c (cut_at c text).1
+cut_joined c [] = refl
+cut_joined c (b ∷ bs) = joined_at (b == c) c b bs (cut_at c bs) (Decides-eqb b c).0 (cut_joined c bs)
+
+-- what `split_once` says of a text
+pub cut_there : (c : ℕ) (text front back : Bytes) → text ≡ front ++ (c ∷ back) → ((i : ℕ) → i < length front → get_or front i 0 ≢ c) → cut_at c text ≡ (front, Some back)
+cut_there c text front back e h = ap (cut_at c) e ∙ cut_again c front (Some back) (has_none_at c front h)
+
+pub cut_nowhere : (c : ℕ) (text : Bytes) → ((i : ℕ) → i < length text → get_or text i 0 ≢ c) → cut_at c text ≡ (text, None)
+cut_nowhere c text h = ap (cut_at c) (sym (append-nil text)) ∙ cut_again c text None (has_none_at c text h)

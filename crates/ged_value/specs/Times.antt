@@ -1,0 +1,48 @@
+-- Times of day: their parts, and the text that spells them (FamilySearch GEDCOM 7.0, "Time").
+use Rattle.std.specs.Prelude.{◌≡◌, ℕ, Bool, true, false, [], ◌∷◌, ◌++◌, ◌&&◌, ◌==◌, nat_le, Option, Some, None, IsTrue, length, codes}
+use Rattle.ged_value.specs.Words.{Bytes, is_integer, number}
+
+-- a time of day, in UTC or where it was taken
+pub record TimeParts : Type 0 where
+  pub hour : Bytes
+  pub minute : Bytes
+  pub second : Option Bytes
+  pub fraction : Option Bytes
+  pub utc : Bool
+
+-- 0 to 23, in one or two digits
+abbrev pub is_hour : Bytes → Bool
+is_hour digits = is_integer digits && (nat_le (length digits) 2 && nat_le (number digits) 23)
+
+-- 00 to 59, in two digits
+abbrev pub is_sixtieth : Bytes → Bool
+is_sixtieth digits = is_integer digits && (length digits == 2 && nat_le (number digits) 59)
+
+-- a fraction stands only behind a second
+abbrev pub is_second : Option Bytes → Option Bytes → Bool
+is_second None None = true
+is_second None (Some fraction) = false
+is_second (Some second) None = is_sixtieth second
+is_second (Some second) (Some fraction) = is_sixtieth second && is_integer fraction
+
+-- whether the parts are those of a time
+abbrev pub is_time : TimeParts → Bool
+is_time t = is_hour t.hour && (is_sixtieth t.minute && is_second t.second t.fraction)
+
+-- the character and what stands behind it, where there is such a part
+abbrev pub marked : ℕ → Option Bytes → Bytes
+marked character None = []
+marked character (Some part) = character ∷ part
+
+-- `Z` for UTC
+abbrev pub zone : Bool → Bytes
+zone true = codes "Z"
+zone false = []
+
+-- the hour, `:` and the minute, then `:` and the second, and `.` and its fraction
+abbrev pub clock : TimeParts → Bytes
+clock t = t.hour ++ (58 ∷ (t.minute ++ (marked 58 t.second ++ marked 46 t.fraction)))
+
+-- the text is the clock's, with `Z` behind it for UTC
+abbrev pub TimeText : TimeParts → Bytes → Type 0
+TimeText t text = IsTrue (is_time t) × (text ≡ clock t ++ zone t.utc)

@@ -1,0 +1,48 @@
+-- Texts and the words of a payload, and tests on them (FamilySearch GEDCOM 7.0, "Data Types").
+use Rattle.std.specs.Prelude.{ℕ, ◌+◌, ◌-◌, ◌*◌, Bool, false, List, [], ◌∷◌, ◌&&◌, ◌||◌, ◌==◌, nat_lt, length}
+use Rattle.std.specs.List.{list_all, list_any, slice_split, join_with_byte}
+use Rattle.std.specs.Char.{is_ascii_digit, is_ascii_uppercase}
+use Rattle.std.specs.Str.{bytes_eq}
+
+-- a text is the list of its bytes
+abbrev pub Bytes : Type 0
+Bytes = List ℕ
+
+-- one or more digits
+abbrev pub is_integer : Bytes → Bool
+is_integer text = nat_lt 0 (length text) && list_all is_ascii_digit text
+
+-- a capital letter, a digit or an underscore (the standard's tagchar)
+abbrev pub is_tag_character : ℕ → Bool
+is_tag_character c = (is_ascii_uppercase c || is_ascii_digit c) || c == 0x5F
+
+-- a capital letter and any tag characters
+abbrev pub is_standard_tag : Bytes → Bool
+is_standard_tag [] = false
+is_standard_tag (c ∷ cs) = is_ascii_uppercase c && list_all is_tag_character cs
+
+-- an underscore and one or more tag characters
+abbrev pub is_extension_tag : Bytes → Bool
+is_extension_tag [] = false
+is_extension_tag (c ∷ cs) = c == 0x5F && (nat_lt 0 (length cs) && list_all is_tag_character cs)
+
+-- the word is one of these
+abbrev pub is_one_of : List Bytes → Bytes → Bool
+is_one_of words word = list_any (λ w. bytes_eq w word) words
+
+-- the number that digits spell after those of n
+abbrev pub number_after : ℕ → Bytes → ℕ
+number_after n [] = n
+number_after n (c ∷ cs) = number_after (10 * n + (c - 0x30)) cs
+
+-- the number that digits spell
+abbrev pub number : Bytes → ℕ
+number text = number_after 0 text
+
+-- the words of a text, between single spaces; there is one at least, which may be empty
+abbrev pub words_of : Bytes → List Bytes
+words_of text = slice_split (λ b. b == 0x20) text
+
+-- the words, joined by single spaces
+abbrev pub joined : List Bytes → Bytes
+joined words = join_with_byte 0x20 words

@@ -1,0 +1,72 @@
+// Names of persons.
+ghost use Rattle.std.specs.Prelude.{◌≡◌};
+ghost use Rattle.std.specs.List.{list_all};
+ghost use Rattle.std.specs.Option.{option_map};
+ghost use Rattle.ged_value.specs.Reading.{Reads};
+ghost use Rattle.ged_value.specs.Names.{NameText, is_name_byte as tests_name_byte, is_name_part as tests_name_part};
+ghost use Rattle.ged_value.specs.NameReading.{name_at as reads_name};
+ghost use Rattle.ged_value.specs.NameViews.{name_parts};
+
+use crate::cut::cut_at;
+
+/// The name of a person, as the text spells it (FamilySearch GEDCOM 7.0, "Personal Name").
+#[derive(Clone, Copy, Debug, PartialEq, Eq)]
+pub enum PersonName<'a> {
+    /// A name without `/`, which may be empty.
+    Plain(&'a str),
+    /// A name about a surname, which stands between two `/`.
+    Parts {
+        /// What stands before the first `/`, with its blanks.
+        before: &'a str,
+        /// What stands between the two `/`.
+        surname: &'a str,
+        /// What stands behind the second `/`, with its blanks.
+        after: &'a str,
+    },
+}
+
+fn is_name_byte(byte: u8) -> bool
+    ensures { result ≡ tests_name_byte byte }
+{
+    byte >= b' ' && byte != b'/'
+}
+
+fn are_name_bytes(bytes: &[u8]) -> bool
+    ensures { result ≡ list_all tests_name_byte bytes.now }
+{
+    bytes.iter().all(|byte| is_name_byte(*byte))
+}
+
+/// Whether every character is U+0020 or above, and none is `/`.
+fn is_name_part(text: &str) -> bool
+    ensures { result ≡ tests_name_part text.now }
+{
+    are_name_bytes(text.as_bytes())
+}
+
+/// The one answer of [`read_name`].
+fn name_at(text: &str) -> Option<PersonName<'_>>
+    ensures { option_map name_parts result ≡ reads_name text.now }
+{
+    let (before, others) = cut_at(text, '/');
+    let Some(others) = others else {
+        return is_name_part(before).then_some(PersonName::Plain(before));
+    };
+    let (surname, after) = cut_at(others, '/');
+    let after = after?;
+    let is_name = is_name_part(before) && is_name_part(surname) && is_name_part(after);
+    is_name.then_some(PersonName::Parts {
+        before,
+        surname,
+        after,
+    })
+}
+
+/// The name that a text spells: without `/` it is the whole text, with two of them their surroundings. `None` where it
+/// has one `/` or more than two, or a character below U+0020, as a tab. Takes no memory (FamilySearch GEDCOM 7.0,
+/// "Personal Name").
+pub fn read_name(text: &str) -> Option<PersonName<'_>>
+    ensures { Reads result name_parts (λ name. NameText name text.now) }
+{
+    name_at(text)
+}

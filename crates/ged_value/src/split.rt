@@ -1,0 +1,60 @@
+// The words of a text, between single spaces.
+ghost use Rattle.std.specs.Prelude.{◌≡◌, ◌<◌, ◌≤◌, take, length, MatchOption};
+ghost use Rattle.std.specs.Option.{option_map};
+ghost use Rattle.ged_value.specs.Words.{words_of};
+ghost use Rattle.ged_value.specs.WordReading.{around};
+ghost use Rattle.ged_value.specs.Texts.{texts};
+ghost use Rattle.ged_value.specs.declared.split.TheConstants.{MOST};
+
+/// The most words that a value has: two keywords, each before a date of five words.
+const MOST: usize = 12;
+
+/// The words of a text that has no more than a value may have.
+#[derive(Drop)]
+pub(crate) struct WordList<'a> {
+    words: [&'a str; MOST],
+    count: usize,
+    ghost in_range: { count ≤ MOST },
+}
+
+impl<'a> WordList<'a> {
+    pub(crate) fn as_slice(&self) -> &[&'a str]
+        ensures { result.now ≡ take self.now.count self.now.words }
+    {
+        &self.words[..self.count]
+    }
+}
+
+/// The words of a text, or `None` where there are more than a value may have. The text is read up to the first word too
+/// many.
+pub(crate) fn words_of(text: &str) -> Option<WordList<'_>>
+    ensures { MatchOption result (MOST < length (words_of text.now))
+        (λ list. texts (take list.count list.words) ≡ words_of text.now) }
+{
+    let mut words = [""; MOST];
+    let mut count = 0;
+    for word in text.split(' ') {
+        if count == MOST {
+            return None;
+        }
+        words[count] = word;
+        count += 1;
+    }
+    Some(WordList { words, count })
+}
+
+/// The words before and after the first one that is the given word.
+pub(crate) fn around<'w, 'a>(
+    words: &'w [&'a str],
+    word: &str,
+) -> Option<(&'w [&'a str], &'w [&'a str])>
+    ensures { option_map (λ parts. (texts parts.0.now, texts parts.1.now)) result
+        ≡ around word.now (texts words.now) }
+{
+    for (place, other) in words.iter().enumerate() {
+        if *other == word {
+            return Some((&words[..place], &words[place + 1..]));
+        }
+    }
+    None
+}

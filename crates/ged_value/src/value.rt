@@ -1,0 +1,116 @@
+// Periods and date values.
+ghost use Rattle.std.specs.Prelude.{◌≡◌};
+ghost use Rattle.std.specs.Option.{option_map};
+ghost use Rattle.ged_value.specs.Texts.{texts};
+ghost use Rattle.ged_value.specs.WordReading.{around};
+ghost use Rattle.ged_value.specs.Reading.{Reads};
+ghost use Rattle.ged_value.specs.Values.{PeriodText, DateValueText};
+ghost use Rattle.ged_value.specs.ValueReading.{period_from, period_at, value_at, dates_at};
+ghost use Rattle.ged_value.specs.Views.{date_parts};
+ghost use Rattle.ged_value.specs.ValueViews.{period_parts, value_parts};
+
+use crate::date::{Date, date_at};
+use crate::split::{around, words_of};
+
+/// How long something lasted (FamilySearch GEDCOM 7.0, "Dates").
+#[derive(Clone, Copy, Debug, PartialEq, Eq)]
+pub enum Period<'a> {
+    /// The empty text.
+    Empty,
+    /// `TO`: it ended on the date, and began earlier.
+    To(Date<'a>),
+    /// `FROM`: it began on the date, and ended later.
+    From(Date<'a>),
+    /// `FROM` and `TO`: it began on the first date and ended on the second.
+    FromTo(Date<'a>, Date<'a>),
+}
+
+/// A date with what is known of it, or a period (FamilySearch GEDCOM 7.0, "Dates").
+#[derive(Clone, Copy, Debug, PartialEq, Eq)]
+pub enum DateValue<'a> {
+    /// A period, the empty one among them.
+    Span(Period<'a>),
+    /// A date without a keyword.
+    Plain(Date<'a>),
+    /// `BET` and `AND`: no earlier than the first date and no later than the second.
+    Between(Date<'a>, Date<'a>),
+    /// `AFT`: no earlier than the date.
+    After(Date<'a>),
+    /// `BEF`: no later than the date.
+    Before(Date<'a>),
+    /// `ABT`: near the date.
+    About(Date<'a>),
+    /// `CAL`: the date, which is calculated from other data.
+    Calculated(Date<'a>),
+    /// `EST`: near the date, which is calculated from other data.
+    Estimated(Date<'a>),
+}
+
+/// The dates before and after a word, if it stands there.
+fn dates_at<'a>(words: &[&'a str], word: &str) -> Option<(Date<'a>, Date<'a>)>
+    ensures { option_map (λ dates. (date_parts dates.0, date_parts dates.1)) result
+        ≡ dates_at (around word.now (texts words.now)) }
+{
+    let (before, after) = around(words, word)?;
+    Some((date_at(before)?, date_at(after)?))
+}
+
+/// The period of the words behind `FROM`.
+fn period_from<'a>(words: &[&'a str]) -> Option<Period<'a>>
+    ensures { option_map period_parts result ≡ period_from (texts words.now) }
+{
+    match around(words, "TO") {
+        Some((start, end)) => Some(Period::FromTo(date_at(start)?, date_at(end)?)),
+        None => Some(Period::From(date_at(words)?)),
+    }
+}
+
+/// The period that the words spell.
+fn period_at<'a>(words: &[&'a str]) -> Option<Period<'a>>
+    ensures { option_map period_parts result ≡ period_at (texts words.now) }
+{
+    let (first, others) = words.split_first()?;
+    match *first {
+        "TO" => Some(Period::To(date_at(others)?)),
+        "FROM" => period_from(others),
+        "" => others.is_empty().then_some(Period::Empty),
+        _ => None,
+    }
+}
+
+/// The date value that the words spell.
+fn value_at<'a>(words: &[&'a str]) -> Option<DateValue<'a>>
+    ensures { option_map value_parts result ≡ value_at (texts words.now) }
+{
+    let (first, others) = words.split_first()?;
+    match *first {
+        "BET" => {
+            let (first, last) = dates_at(others, "AND")?;
+            Some(DateValue::Between(first, last))
+        }
+        "AFT" => Some(DateValue::After(date_at(others)?)),
+        "BEF" => Some(DateValue::Before(date_at(others)?)),
+        "ABT" => Some(DateValue::About(date_at(others)?)),
+        "CAL" => Some(DateValue::Calculated(date_at(others)?)),
+        "EST" => Some(DateValue::Estimated(date_at(others)?)),
+        "" | "TO" | "FROM" => Some(DateValue::Span(period_at(words)?)),
+        _ => Some(DateValue::Plain(date_at(words)?)),
+    }
+}
+
+/// The period that a text spells, or `None` exactly where it spells none: the empty text, or one or two dates behind
+/// `FROM` and `TO`. The parts are slices of the text. Takes no memory (FamilySearch GEDCOM 7.0, "Dates").
+pub fn read_period(text: &str) -> Option<Period<'_>>
+    ensures { Reads result period_parts (λ parts. PeriodText parts text.now) }
+{
+    period_at(words_of(text)?.as_slice())
+}
+
+/// The date value that a text spells, or `None` exactly where it spells none: a period, a date, or a date or two behind
+/// keywords, with single spaces between the words. The parts are slices of the text. Takes no memory (FamilySearch
+/// GEDCOM 7.0, "Dates").
+pub fn read_date(text: &str) -> Option<DateValue<'_>>
+    ensures { Reads result value_parts (λ parts. DateValueText parts text.now) }
+{
+    value_at(words_of(text)?.as_slice())
+}
