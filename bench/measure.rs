@@ -5,7 +5,7 @@
 //! All runs are interleaved: a round runs every command on every file once, so that other work on the machine
 //! falls on all of them alike. CPU time (user and system) is the best of the rounds, peak memory the greatest.
 //! Ratios are to the commands named `wc -l` and `baseline`, where there are such. A program's baseline is the one
-//! that has its words and whose name begins with `baseline`; one without such is compared to `baseline` itself.
+//! whose name begins with `baseline` and ends with the same word; one without such is compared to `baseline` itself.
 
 use std::env;
 use std::fs;
@@ -124,8 +124,10 @@ fn print_table(inputs: &[Input], tools: &[Tool<'_>], costs: &[Vec<Cost>]) {
     }
 }
 
-/// The place of the tool that does the same work in the baseline.
+/// The place of the tool that does the same work in the baseline: the one whose name ends with the same word, as
+/// `baseline check` for `gedtool check`, or else the one that is named `baseline` alone.
 fn baseline_of(tool: &Tool<'_>, tools: &[Tool<'_>]) -> Option<usize> {
-    let has_its_words = |other: &Tool<'_>| other.name.starts_with("baseline") && other.words == tool.words;
-    tools.iter().position(has_its_words).or_else(|| tools.iter().position(|other| other.name == "baseline"))
+    let work = |name: &str| name.rsplit(' ').next() == tool.name.rsplit(' ').next();
+    let does_same = |other: &Tool<'_>| other.name.starts_with("baseline ") && work(other.name);
+    tools.iter().position(does_same).or_else(|| tools.iter().position(|other| other.name == "baseline"))
 }

@@ -1,6 +1,6 @@
 // The characters that may not stand in a line.
 ghost use Rattle.std.specs.Prelude.{◌≡◌, ℕ, MatchBool};
-ghost use Rattle.ged_line.specs.Characters.{has_banned as tests_banned};
+ghost use Rattle.ged_line.specs.Characters.{has_banned as tests_banned, is_plain as tests_plain};
 ghost use Rattle.ged_line.specs.Lines.{is_line_text as tests_line_text};
 ghost use Rattle.ged_line.specs.ByteTests.{is_control as tests_control, ControlAt, NoncharacterAt};
 
@@ -39,6 +39,14 @@ pub(crate) fn has_banned(text: &str) -> bool
 {
     let bytes = text.as_bytes();
     first_special(bytes).is_some() && (has_control(bytes) || has_noncharacter(bytes))
+}
+
+/// Whether all characters of a text may stand in a line; the empty text has none. Takes no memory
+/// (FamilySearch GEDCOM 7.0, "Characters").
+pub fn is_plain(text: &str) -> bool
+    ensures { result ≡ tests_plain text.now }
+{
+    !has_banned(text)
 }
 
 /// Whether a text may be a line's value: not empty, and without a character that may not stand in a line.

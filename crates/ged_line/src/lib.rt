@@ -21,6 +21,7 @@ mod view;
 mod views;
 mod write;
 
+pub use characters::is_plain;
 pub use fault::{LineAt, LineFault, ParseFault, RespellFault};
 pub use laws::{line_or_fault, one_cut, one_line, one_reading, spelling_spells, written_is_read};
 pub use line::{Line, LineValue, parse_line};

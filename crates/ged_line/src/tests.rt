@@ -1,8 +1,8 @@
 // Values that the standard and worked examples give, and each public call once.
 use crate::{
     Line, LineAt, LineFault, LineValue, LineView, ParseFault, RespellFault, Tag, Text, ValueView,
-    Xref, parse_line, read_lines, respell_lines, split_pieces, tag_order, view_line, write_line,
-    write_lines, write_view,
+    Xref, is_plain, parse_line, read_lines, respell_lines, split_pieces, tag_order, view_line,
+    write_line, write_lines, write_view,
 };
 use std::alloc::{AllocError, Global};
 use std::cmp::Ordering;
@@ -51,6 +51,22 @@ fn reads_tags_and_identifiers(rt: HostRuntime) -> Result<(), Fail> {
         _ => assert!(rt; false, "a tag and an identifier are read"),
     }
     Ok(())
+}
+
+#[test]
+fn tells_which_characters_may_stand_in_a_line(rt: HostRuntime) {
+    for (text, answer) in [
+        ("", true),
+        ("a\tb \u{FEFF}\u{80}\u{FDD0}", true),
+        ("a\n", false),
+        ("\r", false),
+        ("a\u{7F}", false),
+        ("\u{0}", false),
+        ("\u{FFFE}", false),
+        ("a\u{FFFF}b", false),
+    ] {
+        assert_eq!(rt; is_plain(text), answer, "{text:?}");
+    }
 }
 
 #[test]

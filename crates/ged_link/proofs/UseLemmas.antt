@@ -1,0 +1,115 @@
+-- Marks of the records that pointers name.
+use Rattle.std.proofs.Common.{◌≡◌, ◌≢◌, ℕ, ◌+◌, ◌<◌, Bool, true, false, Option, Some, None, List, ◌∷◌, ◌⊎◌, inl, inr, length, refl, sym, subst, ◌∙◌, arith, get_or-set_other, slice_set, option_map, Bor}
+use Rattle.std.proofs.Math.Nat.{eq-or-lt_of_le}
+use Rattle.std.proofs.lemmas.Bool.{cases_lt}
+use Rattle.std.proofs.lemmas.Grind.{get_or-set_at}
+use Rattle.std.proofs.lemmas.Option.{slice_get_within}
+use Rattle.ged_line.specs.Bytes.{Bytes}
+use Rattle.ged_tree.specs.Trees.{Trees, trees_count, records_of}
+use Rattle.ged_tree.specs.Places.{structure_at}
+use Rattle.ged_tree.specs.declared.payload.Payload.{Payload}
+use Rattle.ged_tree.specs.declared.payload.Payload.TheVariants.{Void, Pointer, Text}
+use Rattle.ged_tree.specs.declared.payload.PayloadView.{PayloadView}
+use Rattle.ged_tree.specs.declared.payload.PayloadView.TheVariants as views
+use Rattle.ged_tree.specs.Views.{payload_of}
+use Rattle.ged_link.specs.declared.index.RecordPlace.{RecordPlace}
+use Rattle.std.specs.HashMap.{get_by_text}
+use Rattle.ged_link.specs.Links.{identifiers}
+use Rattle.ged_link.specs.LinkFaults.{HasXref, HasPointer, IsDangling, IsLowest}
+use Rattle.ged_link.specs.Indexes.{RecordMap, AreRecords, number_in}
+use Rattle.ged_link.specs.Resolving.{AreUsedBefore, NoneDanglesBefore, AreUsed}
+use Rattle.ged_link.proofs.LinkLemmas.{named_at, at_named}
+
+same_or_not : (k n : ℕ) → (k ≡ n) ⊎ (k ≢ n)
+same_or_not k n = elim (cases_lt k n) [
+  | inl below ↦ inr (λ e. omega arith)
+  | inr above ↦ elim (eq-or-lt_of_le above) [ inl e ↦ inl (sym e) | inr more ↦ inr (λ e. omega arith) ]
+]
+
+pointer_name : (a b : Bytes) → Pointer a ≡ Pointer b → a ≡ b
+pointer_name a b e = cc
+
+before_cases : (d : Trees) (place other : ℕ) (name : Bytes) → (other < place + 1) × HasPointer d other name → ((other < place) × HasPointer d other name) ⊎ HasPointer d place name
+before_cases d place other name h = elim (cases_lt other place) [
+  | inl before ↦ inl (before, h.1)
+  | inr past ↦ (let e : other ≡ place = omega (arith, h.0) in inr (rw e at h.1))
+]
+
+-- a name has a place exactly where it has a number
+number_place : (o : Option RecordPlace) (number : ℕ) → option_map (λ r. r.number) o ≡ Some number → (place : ℕ) × (option_map (λ r. r.place) o ≡ Some place)
+number_place None number e = cc
+number_place (Some found) number e = (found.place, refl)
+
+no_place : (o : Option RecordPlace) → option_map (λ r. r.number) o ≡ None → option_map (λ r. r.place) o ≡ None
+no_place None e = refl
+no_place (Some found) e = cc
+
+pub not_pointer : (v : PayloadView) (further : List Bytes) (p : Payload) → payload_of v further ≡ p → ((x : Bor Bytes) → v ≡ views.Pointer x → ⊥) → (name : Bytes) → p ≡ Pointer name → ⊥
+not_pointer views.Void further p e other name h = absurd (let f : Void ≡ Pointer name = e ∙ h in cc)
+not_pointer (views.Pointer x) further p e other name h = other x refl
+not_pointer (views.Text first) further p e other name h = absurd (let f : Text (first.now ∷ further) ≡ Pointer name = e ∙ h in cc)
+
+module _ (d : Trees) (place : ℕ) (within : place < trees_count d) where
+  -- a structure without a pointer changes nothing
+  pub used_kept : (used : List Bool) → ((name : Bytes) → (structure_at d place).payload ≡ Pointer name → ⊥) → AreUsedBefore d place used → AreUsedBefore d (place + 1) used
+  used_kept used other are number = (
+    λ e. let h = (are number).0 e in (h.0, h.1, (h.2.0, omega (arith, h.2.1), h.2.2)),
+    λ h. elim (before_cases d place h.2.0 h.0 (h.2.1, h.2.2)) [
+      | inl before ↦ (are number).1 (h.0, h.1, (h.2.0, before.0, before.1))
+      | inr here ↦ absurd (other h.0 here.1)
+    ],
+  )
+
+  pub dangles_kept : ((name : Bytes) → (structure_at d place).payload ≡ Pointer name → ⊥) → NoneDanglesBefore d place → NoneDanglesBefore d (place + 1)
+  dangles_kept other none k before h = elim (before_cases d place k h.0 (before, h.1)) [
+    | inl earlier ↦ none k earlier.0 h
+    | inr here ↦ other h.0 here.1
+  ]
+
+  module _ (records : RecordMap) (name : Bytes) (are : AreRecords d records) (here : (structure_at d place).payload ≡ Pointer name) where
+    -- one more pointer marks the record that it names
+    pub used_more : (used : List Bool) (found : ℕ) → number_in records name ≡ Some found → found < length used → AreUsedBefore d place used → AreUsedBefore d (place + 1) (slice_set used found true)
+    used_more used found named inside before number = (
+      λ e. elim (same_or_not number found) [
+        | inl same ↦ (name, (rw same ((are.numbered name found).0 named)), (place, omega arith, (within, here)))
+        | inr other ↦ (let h = (before number).0 (sym (get_or-set_other used found number true false other) ∙ e) in (h.0, h.1, (h.2.0, omega (arith, h.2.1), h.2.2)))
+      ],
+      λ h. elim (same_or_not number found) [
+        | inl same ↦ get_or-set_at used found number true false same inside
+        | inr other ↦ get_or-set_other used found number true false other ∙ elim (before_cases d place h.2.0 h.0 (h.2.1, h.2.2)) [
+          | inl earlier ↦ (before number).1 (h.0, h.1, (h.2.0, earlier.0, earlier.1))
+          | inr now ↦ (
+              let same : h.0 ≡ name = pointer_name h.0 name (sym now.1 ∙ here) in
+              let at_number : number_in records name ≡ Some number = (are.numbered name number).1 (rw same at h.1) in
+              absurd (other (let e : Some number ≡ Some found = sym at_number ∙ named in cc)))
+        ]
+      ],
+    )
+
+    pub dangles_more : (number : ℕ) → number_in records name ≡ Some number → NoneDanglesBefore d place → NoneDanglesBefore d (place + 1)
+    dangles_more number named none k before h = elim (before_cases d place k h.0 (before, h.1)) [
+      | inl earlier ↦ none k earlier.0 h
+      | inr now ↦ (
+          let same : h.0 ≡ name = pointer_name h.0 name (sym now.1 ∙ here) in
+          let at_place = number_place (get_by_text records name) number named in
+          h.2 at_place.0 (subst (HasXref d at_place.0) (sym same) ((are.placed name at_place.0).0 at_place.1)))
+    ]
+
+    pub first_dangling : number_in records name ≡ None → NoneDanglesBefore d place → IsLowest (IsDangling d) place
+    first_dangling missing none = (
+      (name, (within, here), λ other h. let e = (are.placed name other).1 h in let f : None ≡ Some other = sym (no_place (get_by_text records name) missing) ∙ e in cc),
+      λ other h. elim (cases_lt other place) [ inl earlier ↦ absurd (none other earlier h) | inr past ↦ past ],
+    )
+
+pub number_inside : (d : Trees) (records : RecordMap) (name : Bytes) (number : ℕ) → AreRecords d records → number_in records name ≡ Some number → number < length (identifiers (records_of d))
+number_inside d records name number are e = slice_get_within (identifiers (records_of d)) number (Some name) ((are.numbered name number).0 e)
+
+-- all pointers are gone through
+pub used_all : (d : Trees) (place : ℕ) (used : List Bool) → place ≡ trees_count d → AreUsedBefore d place used → AreUsed d used
+used_all d place used all are number = (
+  λ e. let h = (are number).0 e in (h.0, h.1, at_named d h.2.0 h.0 h.2.2),
+  λ h. let there = named_at d h.0 h.2 in (are number).1 (h.0, h.1, (there.0, omega (arith, there.1.0, all), there.1)),
+)
+
+pub dangles_all : (d : Trees) (place : ℕ) → place ≡ trees_count d → NoneDanglesBefore d place → (other : ℕ) → IsDangling d other → ⊥
+dangles_all d place all none other h = none other (omega (arith, h.1.0, all)) h

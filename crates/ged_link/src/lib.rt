@@ -1,0 +1,21 @@
+//! Cross-references: the records that pointers name, and links in one direction only.
+#![tactic(auto)]
+
+mod fault;
+mod index;
+mod laws;
+mod links;
+mod notices;
+mod resolving;
+
+pub use fault::LinkFault;
+pub use index::Index;
+pub use laws::{
+    identifiers_have_places, one_link_fault, one_record_has_name, one_way_has_place,
+    resolved_is_faultless,
+};
+pub use notices::{Notice, NoticeKind, first_one_way, one_way};
+pub use resolving::resolve;
+
+#[cfg(test)]
+mod tests;

@@ -1,0 +1,124 @@
+// Whether each pointer names one record, and the index of the records.
+ghost use Rattle.std.specs.Prelude.{◌≡◌, ◌⊎◌, ℕ, true, None, IfOk, IfErr, OnOk, length, alloc_error};
+ghost use Rattle.std.specs.HashMap.{get_by_text};
+ghost use Rattle.ged_tree.specs.Trees.{records_of, trees_count};
+ghost use Rattle.ged_tree.specs.Documents.{is_document};
+ghost use Rattle.ged_tree.specs.Runs.{trees_between, IsRun};
+ghost use Rattle.ged_link.specs.Links.{Resolved, identifiers};
+ghost use Rattle.ged_link.specs.LinkFaults.{HasLinkFault, IsRepeated, IsDangling};
+ghost use Rattle.ged_link.specs.Indexes.{IsIndexOf, AreRecords};
+ghost use Rattle.ged_link.specs.Resolving.{AddsName, AreUsed};
+ghost use Rattle.ged_link.specs.declared.fault.LinkFault.TheVariants.{Memory};
+
+use crate::fault::LinkFault;
+use crate::index::{Index, RecordPlace, find_number};
+use crate::links::find_one_way;
+use ged_tree::{Forest, PayloadView, end_of_all, next_in_run};
+use indexmap::IndexMap;
+use std::alloc::{AllocError, Global};
+
+/// The index of a document whose identifiers are distinct and each of whose pointers names one of them; else its fault,
+/// or that a growth was refused. Grows.
+pub fn resolve<F: Forest>(alloc: Global, forest: &F) -> Result<Index, LinkFault>
+    ensures resolved { IfOk result (λ _. Resolved (F.trees forest.now)) }
+    ensures index { IfOk result (λ index. IsIndexOf (F.trees forest.now) index) }
+    ensures fault { IfErr result (λ fault. (fault ≡ Memory alloc_error) ⊎ HasLinkFault (F.trees forest.now) fault) }
+{
+    let (records, count) = find_records(alloc, forest)?;
+    let used = find_used(alloc, forest, &records, count)?;
+    let Ok(one_way) = find_one_way(alloc, forest, &records) else {
+        return Err(LinkFault::Memory(AllocError));
+    };
+    Ok(Index {
+        records,
+        used,
+        one_way,
+    })
+}
+
+/// The place of the first record. The run of records goes on to the end of all.
+fn first_record<F: Forest>(forest: &F, end: usize) -> usize
+    requires end { end ≡ trees_count (F.trees forest.now) }
+    ensures run { IsRun (F.trees forest.now) result end }
+    ensures records { trees_between (F.trees forest.now) result end ≡ records_of (F.trees forest.now) }
+{
+    match next_in_run(forest, 0, end) {
+        Some(first) => first,
+        None => end,
+    }
+}
+
+/// Adds a name that isn't there yet.
+fn insert_name(
+    alloc: Global,
+    records: &mut IndexMap<String, RecordPlace>,
+    name: &str,
+    found: RecordPlace,
+) -> Result<(), AllocError>
+    requires { get_by_text records.old name.now ≡ None }
+    ensures { OnOk result (AddsName records.old records.new name.now found) }
+{
+    let key = String::from_str(alloc, name)?;
+    records.insert(key, found)?;
+    Ok(())
+}
+
+/// The records by their identifiers, and how many records there are; or the fault of the first record whose identifier
+/// an earlier one has.
+fn find_records<F: Forest>(
+    alloc: Global,
+    forest: &F,
+) -> Result<(IndexMap<String, RecordPlace>, usize), LinkFault>
+    ensures records { IfOk result (λ found. AreRecords (F.trees forest.now) found.0) }
+    ensures count { IfOk result (λ found. found.1 ≡ length (identifiers (records_of (F.trees forest.now)))) }
+    ensures document { is_document (F.trees forest.now) ≡ true }
+    ensures distinct { IfOk result (λ _. (place : ℕ) → IsRepeated (F.trees forest.now) place → ⊥) }
+    ensures fault { IfErr result (λ fault. (fault ≡ Memory alloc_error) ⊎ HasLinkFault (F.trees forest.now) fault) }
+{
+    let mut records = IndexMap::new(alloc);
+    let mut number = 0;
+    let end = end_of_all(forest);
+    let mut place = first_record(forest, end);
+    while let Some(after) = next_in_run(forest, place, end) {
+        if let Some(name) = forest.xref(place) {
+            if records.contains_key(name) {
+                return Err(LinkFault::Duplicate(forest.line(place)));
+            }
+            let Ok(()) = insert_name(alloc, &mut records, name, RecordPlace { number, place })
+            else {
+                return Err(LinkFault::Memory(AllocError));
+            };
+        }
+        number += 1;
+        place = after;
+    }
+    Ok((records, number))
+}
+
+/// Which records some pointer names; or the fault of the first pointer that names none.
+fn find_used<F: Forest>(
+    alloc: Global,
+    forest: &F,
+    records: &IndexMap<String, RecordPlace>,
+    count: usize,
+) -> Result<Vec<bool>, LinkFault>
+    requires records { AreRecords (F.trees forest.now) records.now }
+    requires count { count ≡ length (identifiers (records_of (F.trees forest.now))) }
+    requires distinct { (place : ℕ) → IsRepeated (F.trees forest.now) place → ⊥ }
+    ensures used { IfOk result (λ used. AreUsed (F.trees forest.now) used.items) }
+    ensures found { IfOk result (λ _. (place : ℕ) → IsDangling (F.trees forest.now) place → ⊥) }
+    ensures fault { IfErr result (λ fault. (fault ≡ Memory alloc_error) ⊎ HasLinkFault (F.trees forest.now) fault) }
+{
+    let Ok(mut used) = vec![in alloc; false; count] else {
+        return Err(LinkFault::Memory(AllocError));
+    };
+    for place in 0..forest.size() {
+        if let PayloadView::Pointer(name) = forest.payload(place) {
+            let Some(number) = find_number(records, name) else {
+                return Err(LinkFault::Dangling(forest.line(place)));
+            };
+            used[number] = true;
+        }
+    }
+    Ok(used)
+}

@@ -1,0 +1,177 @@
+// Values that the standard and worked examples give, and each public call once.
+use crate::{Index, LinkFault, Notice, NoticeKind, first_one_way, one_way, resolve};
+use ged_line::Xref;
+use ged_tree::flatten;
+use std::alloc::{AllocError, Global};
+use std::test::Fail;
+
+/// The file that has these lines between its header and its trailer.
+fn file_of(alloc: Global, lines: &str) -> Result<String, AllocError> {
+    format!(in alloc; "0 HEAD\n1 GEDC\n2 VERS 7.0\n{lines}0 TRLR\n")
+}
+
+#[derive(Clone, Copy, Debug, PartialEq, Eq)]
+enum Answer {
+    NoDocument,
+    NoMemory,
+    Duplicate(u64),
+    Dangling(u64),
+    Index,
+}
+
+fn answer_to(alloc: Global, file: &str) -> Answer {
+    let Ok(flat) = flatten(alloc, file.as_bytes()) else {
+        return Answer::NoDocument;
+    };
+    match resolve(alloc, &flat) {
+        Ok(_) => Answer::Index,
+        Err(LinkFault::Duplicate(line)) => Answer::Duplicate(line),
+        Err(LinkFault::Dangling(line)) => Answer::Dangling(line),
+        Err(LinkFault::Memory(_)) => Answer::NoMemory,
+    }
+}
+
+fn index_of(alloc: Global, file: &str) -> Option<Index> {
+    let flat = flatten(alloc, file.as_bytes()).ok()?;
+    resolve(alloc, &flat).ok()
+}
+
+/// The notices of links in one direction only, and the line of the first.
+fn notices_of(alloc: Global, file: &str) -> Option<(Vec<Notice>, Option<u64>)> {
+    let Ok(flat) = flatten(alloc, file.as_bytes()) else {
+        return None;
+    };
+    let Ok(index) = resolve(alloc, &flat) else {
+        return None;
+    };
+    let Ok(notices) = one_way(alloc, &flat, &index) else {
+        return None;
+    };
+    Some((notices, first_one_way(&flat, &index)))
+}
+
+#[test]
+fn finds_records_by_their_identifiers(rt: HostRuntime) -> Result<(), Fail> {
+    let alloc = rt.alloc();
+    let file = file_of(alloc, "0 @X1@ INDI\n1 FAMS @X2@\n0 @X2@ FAM\n1 HUSB @X1@\n")?;
+    let first = Xref::read(alloc, "X1")?;
+    let other = Xref::read(alloc, "X9")?;
+    match (index_of(alloc, file.as_str()), first, other) {
+        (Some(index), Some(first), Some(other)) => {
+            assert_eq!(rt; index.record_of(&first), Some(0));
+            assert_eq!(rt; index.record_of(&other), None);
+            assert_eq!(rt; index.record_named("X2"), Some(1));
+            assert_eq!(rt; index.record_named("@X2@"), None);
+            assert_eq!(rt; index.record_named(""), None);
+            assert_eq!(rt; index.place_of("X1"), Some(3));
+            assert_eq!(rt; index.place_of("X2"), Some(5));
+            assert_eq!(rt; index.place_of("VOID"), None);
+        }
+        _ => assert!(rt; false, "the file is resolved"),
+    }
+    Ok(())
+}
+
+#[test]
+fn tells_which_records_are_used(rt: HostRuntime) -> Result<(), Fail> {
+    let alloc = rt.alloc();
+    for (lines, used) in [
+        (
+            "0 @X1@ INDI\n1 FAMS @X2@\n0 @X2@ FAM\n1 HUSB @X1@\n",
+            [true, true, false],
+        ),
+        ("0 @X1@ INDI\n1 NOTE @@X1@\n", [false, false, false]),
+        ("0 @I@ INDI\n1 ALIA @I@\n", [true, false, false]),
+        ("0 @I@ INDI\n1 ALIA @VOID@\n", [false, false, false]),
+        (
+            "0 @N@ SNOTE text\n0 @P@ INDI\n1 _REF\n2 _TO @N@\n",
+            [true, false, false],
+        ),
+        (
+            "0 INDI\n1 NOTE a\n0 @N@ SNOTE b\n0 _X @N@\n",
+            [false, true, false],
+        ),
+    ] {
+        let file = file_of(alloc, lines)?;
+        match index_of(alloc, file.as_str()) {
+            Some(index) => {
+                for (number, want) in used.iter().enumerate() {
+                    assert_eq!(rt; index.is_used(number), *want, "{lines}");
+                }
+                assert!(rt; !index.is_used(usize::MAX), "past the last record");
+            }
+            None => assert!(rt; false, "the file is resolved"),
+        }
+    }
+    Ok(())
+}
+
+#[test]
+fn tells_the_first_fault(rt: HostRuntime) -> Result<(), Fail> {
+    let alloc = rt.alloc();
+    for (lines, answer) in [
+        ("0 @I@ INDI\n1 FAMS @F@\n", Answer::Dangling(5)),
+        ("0 @I@ INDI\n1 FAMS @F@\n0 @F@ FAM\n", Answer::Index),
+        ("0 @I@ INDI\n1 FAMS @I@\n", Answer::Index),
+        ("0 @A@ INDI\n1 FAMS @Q@\n0 @A@ FAM\n", Answer::Duplicate(6)),
+        (
+            "0 @A@ INDI\n0 @B@ FAM\n0 @B@ FAM\n0 @A@ FAM\n",
+            Answer::Duplicate(6),
+        ),
+        (
+            "1 _X\n2 _Y @Q@\n0 @I@ INDI\n1 FAMC @R@\n",
+            Answer::Dangling(5),
+        ),
+        ("0 INDI\n1 FAMC @VOID@\n", Answer::Index),
+    ] {
+        let file = file_of(alloc, lines)?;
+        assert_eq!(rt; answer_to(alloc, file.as_str()), answer, "{lines}");
+    }
+    Ok(())
+}
+
+#[test]
+fn tells_links_in_one_direction_only(rt: HostRuntime) -> Result<(), Fail> {
+    let alloc = rt.alloc();
+    let tables: [(&str, &[u64]); 9] = [
+        ("0 @X1@ INDI\n1 FAMS @X2@\n0 @X2@ FAM\n1 HUSB @X1@\n", &[]),
+        ("0 @I@ INDI\n1 FAMS @F@\n0 @F@ FAM\n", &[5]),
+        (
+            "0 @I@ INDI\n1 FAMC @F@\n1 FAMS @F@\n0 @F@ FAM\n1 HUSB @I@\n1 WIFE @I@\n",
+            &[5],
+        ),
+        ("0 @I@ INDI\n0 @F@ FAM\n1 CHIL @I@\n1 HUSB @I@\n", &[6, 7]),
+        (
+            "0 @F@ FAM\n1 WIFE @I@\n1 CHIL @J@\n0 @I@ INDI\n1 FAMS @F@\n0 @J@ INDI\n1 FAMC @F@\n",
+            &[],
+        ),
+        (
+            "0 @I@ INDI\n1 FAMS @F@\n1 FAMS @F@\n0 @F@ FAM\n1 HUSB @I@\n",
+            &[],
+        ),
+        ("0 INDI\n1 FAMS @F@\n0 @F@ FAM\n1 HUSB @VOID@\n", &[5]),
+        (
+            "0 @I@ INDI\n1 FAMS @I@\n1 FAMC @VOID@\n1 NOTE\n2 FAMS @F@\n0 @F@ FAM\n",
+            &[],
+        ),
+        (
+            "0 @I@ INDI\n1 FAMS @F@\n0 @F@ FAM\n1 _X\n2 HUSB @I@\n",
+            &[5],
+        ),
+    ];
+    for (lines, wanted) in tables {
+        let file = file_of(alloc, lines)?;
+        match notices_of(alloc, file.as_str()) {
+            Some((notices, first)) => {
+                assert_eq!(rt; notices.len(), wanted.len(), "{lines}");
+                for (notice, line) in notices.iter().zip(wanted) {
+                    assert_eq!(rt; notice.line, *line, "{lines}");
+                    assert_eq!(rt; notice.kind, NoticeKind::OneWay);
+                }
+                assert_eq!(rt; first, wanted.first().copied(), "{lines}");
+            }
+            None => assert!(rt; false, "the file is resolved"),
+        }
+    }
+    Ok(())
+}

@@ -1,0 +1,217 @@
+-- A closed table of a document's lines lists the document's structures.
+use Rattle.std.proofs.Common.{◌≡◌, ℕ, suc, ◌+◌, ◌-◌, ◌<◌, true, List, [], ◌∷◌, ◌++◌, length, take, drop, map, inl, inr, refl, sym, ◌∙◌, ap, arith, append_assoc, append-nil, length-append}
+use Rattle.std.specs.Borrow.{Bor}
+use Rattle.std.proofs.lemmas.List.{take_at, drop_at, drop-drop}
+use Rattle.std.proofs.lemmas.Bool.{cases_lt}
+use Rattle.ged_line.specs.Bytes.{Bytes}
+use Rattle.ged_line.specs.Lines.{LineParts, line_parts}
+use Rattle.ged_tree.specs.Trees.{Structure, Trees, none, tree, trees_count, further_lines, line_count, lines_count}
+use Rattle.ged_tree.specs.Documents.{is_document, are_at}
+use Rattle.ged_tree.specs.DocumentLines.{line_value, first_value, continued, lines_of}
+use Rattle.ged_tree.specs.Views.{payload_of}
+use Rattle.ged_tree.specs.Rows.{Row, rows_of, rows_from, further_end, trees_of_rows, flat_rows, flat_trees, IsFlat}
+use Rattle.ged_tree.specs.Tables.{OwnLine, own_line, own_lines, own_value, further_texts, texts_of, line_text, deeper, levels_of, IsClosed}
+use Rattle.ged_tree.specs.declared.flat.FlatStructure.{FlatStructure}
+use Rattle.ged_tree.specs.declared.payload.Payload.TheVariants.{Text as Texts}
+use Rattle.ged_tree.specs.declared.payload.PayloadView.{PayloadView}
+use Rattle.ged_tree.specs.declared.payload.PayloadView.TheVariants.{Void, Pointer, Text}
+use Rattle.ged_tree.proofs.Growing.{payload_from}
+use Rattle.ged_tree.proofs.Again.{tree_is, payload_again, laid, document_placed}
+use Rattle.ged_tree.proofs.RowLemmas.{trees_of_rows_of}
+use Rattle.ged_tree.proofs.AfterLemmas.{deeper_more, deeper_none, first_of}
+
+abbrev own_levels : List OwnLine → List ℕ
+own_levels rs = map (λ r. r.line.level) rs
+
+-- where the first of the lines has its further lines, or the end where there is none
+abbrev next_start : ℕ → List OwnLine → ℕ
+next_start end [] = end
+next_start end (r ∷ rs) = r.start
+
+abbrev row_from : List Bytes → ℕ → ℕ → ℕ → OwnLine → Row
+row_from further place after count r = record { level = r.line.level; after = after; line = place + r.start + 1; further = count; structure = record { xref = r.line.xref; tag = r.line.tag; payload = payload_from r.line.value (take count (drop r.start further)) } }
+
+-- the rows of the own lines of a closed table
+abbrev closed_rows : List Bytes → ℕ → ℕ → List OwnLine → List Row
+closed_rows further end place [] = []
+closed_rows further end place (r ∷ rs) = row_from further place (place + 1 + deeper r.line.level (own_levels rs)) (next_start end rs - r.start) r ∷ closed_rows further end (place + 1) rs
+
+text_same : (t : Bytes) (further : List Bytes) → Texts (t ∷ further) ≡ payload_from (line_value t) further
+text_same [] further = refl
+text_same (b ∷ bs) further = refl
+
+payload_same : (v : PayloadView) (further : List Bytes) → payload_of v further ≡ payload_from (own_value v) further
+payload_same Void further = refl
+payload_same (Pointer name) further = refl
+payload_same (Text first) further = text_same first.now further
+
+levels_same : (items : List FlatStructure) → levels_of items ≡ own_levels (map own_line items)
+levels_same [] = refl
+levels_same (s ∷ rest) = ap (λ (ls : List ℕ). s.level ∷ ls) (levels_same rest)
+
+ends_same : (total : ℕ) (items : List FlatStructure) → further_end total items ≡ next_start total (map own_line items)
+ends_same total [] = refl
+ends_same total (s ∷ rest) = refl
+
+table_rows : (further : List Bytes) (place : ℕ) (items : List FlatStructure) → IsClosed place items → rows_from further place items ≡ closed_rows further (length further) place (map own_line items)
+table_rows further place [] c = refl
+table_rows further place (s ∷ rest) c =
+    let after = ap first_of c in
+    let end = ends_same (length further) rest in
+    rw (after, levels_same rest, end, payload_same s.payload (take (next_start (length further) (map own_line rest) - s.further_start) (drop s.further_start further)), table_rows further (place + 1) rest (ap (drop 1) c)) refl
+
+-- the further lines and the own lines of trees
+abbrev tree_texts : Trees → List Bytes
+tree_texts none = []
+tree_texts (tree s b n) = further_lines s.payload ++ (tree_texts b ++ tree_texts n)
+
+abbrev tree_lines : ℕ → ℕ → Trees → List OwnLine
+tree_lines k count none = []
+tree_lines k count (tree s b n) =
+    record { line = line_parts k s.xref s.tag (first_value s.payload); start = count }
+    ∷ (tree_lines (k + 1) (count + length (further_lines s.payload)) b ++ tree_lines k (count + length (further_lines s.payload) + length (tree_texts b)) n)
+
+lines_are : (w : Trees) → lines_count w ≡ trees_count w + length (tree_texts w)
+lines_are none = refl
+lines_are (tree s b n) = omega (arith, lines_are b, lines_are n, length-append (further_lines s.payload) (tree_texts b ++ tree_texts n), length-append (tree_texts b) (tree_texts n))
+
+lines_deeper : (l k count : ℕ) (w : Trees) (rs : List OwnLine) → l < k → deeper l (own_levels (tree_lines k count w ++ rs)) ≡ trees_count w + deeper l (own_levels rs)
+lines_deeper l k count none rs h = omega arith
+lines_deeper l k count (tree s b n) rs h =
+    let c1 = count + length (further_lines s.payload) in
+    let c2 = c1 + length (tree_texts b) in
+    let below = tree_lines (k + 1) c1 b in
+    let next = tree_lines k c2 n in
+    let a = lines_deeper l (k + 1) c1 b (next ++ rs) (omega arith) in
+    let z = lines_deeper l k c2 n rs h in
+    rw (append_assoc below next rs, deeper_more l k (own_levels (below ++ (next ++ rs))) h) (omega (arith, a, z))
+
+lines_stop : (k count : ℕ) (w : Trees) (rs : List OwnLine) → deeper k (own_levels rs) ≡ 0 → deeper k (own_levels (tree_lines k count w ++ rs)) ≡ 0
+lines_stop k count none rs h = h
+lines_stop k count (tree s b n) rs h = deeper_none k k _ (omega arith)
+
+lines_over : (k count : ℕ) (w : Trees) (rs : List OwnLine) → deeper k (own_levels rs) ≡ 0 → deeper (k + 1) (own_levels (tree_lines k count w ++ rs)) ≡ 0
+lines_over k count none rs h = less (own_levels rs) h
+  where
+    less : (ls : List ℕ) → deeper k ls ≡ 0 → deeper (k + 1) ls ≡ 0
+    less [] h = refl
+    less (x ∷ xs) h = elim (cases_lt k x) [
+      | inl far ↦ absurd (let q = sym (deeper_more k x xs far) ∙ h in omega (arith, q))
+      | inr near ↦ deeper_none (k + 1) x xs (omega arith)
+    ]
+lines_over k count (tree s b n) rs h = deeper_none (k + 1) k _ (omega arith)
+
+lines_start : (end k count : ℕ) (w : Trees) (rs : List OwnLine) → next_start end rs ≡ count + length (tree_texts w) → next_start end (tree_lines k count w ++ rs) ≡ count
+lines_start end k count none rs h = (let z : count + 0 ≡ count = omega arith in h ∙ z)
+lines_start end k count (tree s b n) rs h = refl
+
+-- a structure's row, where its own line's neighbours are known
+abbrev row_is : ℕ → ℕ → ℕ → Structure → Trees → Row
+row_is k place number s b = record { level = k; after = place + (1 + trees_count b); line = number; further = length (further_lines s.payload); structure = s }
+
+lines_rows : (further : List Bytes) (end k place count number : ℕ) (w : Trees) (more_texts : List Bytes) (rs : List OwnLine)
+    → are_at k w ≡ true → number ≡ place + count + 1 → drop count further ≡ tree_texts w ++ more_texts → deeper k (own_levels rs) ≡ 0 → next_start end rs ≡ count + length (tree_texts w)
+    → closed_rows further end place (tree_lines k count w ++ rs) ≡ rows_of k place number w ++ closed_rows further end (place + trees_count w) rs
+lines_rows further end k place count number none more_texts rs f m d z e = (let p : place ≡ place + 0 = omega arith in ap (λ (j : ℕ). closed_rows further end j rs) p)
+lines_rows further end k place count number (tree s b n) more_texts rs f m d z e =
+    let g = tree_is k s b n f in
+    let own = further_lines s.payload in
+    let tb = tree_texts b in
+    let tn = tree_texts n in
+    let c1 = count + length own in
+    let c2 = count + length own + length tb in
+    let m1 = number + line_count s.payload in
+    let m2 = number + (line_count s.payload + lines_count b) in
+    let below = tree_lines (k + 1) c1 b in
+    let next = tree_lines k c2 n in
+    let split : drop count further ≡ own ++ (tb ++ (tn ++ more_texts)) = d ∙ append_assoc own (tb ++ tn) more_texts ∙ ap (λ (xs : List Bytes). own ++ xs) (append_assoc tb tn more_texts) in
+    let d1 : drop c1 further ≡ tb ++ (tn ++ more_texts) = sym (drop-drop (length own) count further) ∙ ap (λ (xs : List Bytes). drop (length own) xs) split ∙ drop_at own (tb ++ (tn ++ more_texts)) (length own) refl in
+    let d2 : drop c2 further ≡ tn ++ more_texts = sym (drop-drop (length tb) c1 further) ∙ ap (λ (xs : List Bytes). drop (length tb) xs) d1 ∙ drop_at tb (tn ++ more_texts) (length tb) refl in
+    let e2 : next_start end rs ≡ c2 + length tn = omega (arith, e, length-append own (tb ++ tn), length-append tb tn) in
+    let e1 : next_start end (next ++ rs) ≡ c1 + length tb = lines_start end k c2 n rs e2 in
+    let e0 : next_start end (below ++ (next ++ rs)) ≡ c1 = lines_start end (k + 1) c1 b (next ++ rs) e1 in
+    let span : next_start end (below ++ (next ++ rs)) - count ≡ length own = omega (arith, e0) in
+    let stop : deeper k (own_levels (next ++ rs)) ≡ 0 = lines_stop k c2 n rs z in
+    let stop_below : deeper (k + 1) (own_levels (next ++ rs)) ≡ 0 = lines_over k c2 n rs z in
+    let size : deeper k (own_levels (below ++ (next ++ rs))) ≡ trees_count b = (let q = lines_deeper k (k + 1) c1 b (next ++ rs) (omega arith) in omega (arith, q, stop)) in
+    let place_is : place + 1 + trees_count b ≡ place + (1 + trees_count b) = omega arith in
+    let last : place + (1 + trees_count b) + trees_count n ≡ place + (1 + trees_count b + trees_count n) = omega arith in
+    let payload : payload_from (first_value s.payload) (take (length own) (drop count further)) ≡ s.payload = rw (split, take_at own (tb ++ (tn ++ more_texts)) (length own) refl) (payload_again k s.payload g.payload) in
+    let inside = lines_rows further end (k + 1) (place + 1) c1 m1 b (tn ++ more_texts) (next ++ rs) g.below_is (omega (arith, m)) d1 stop_below e1 in
+    let after = lines_rows further end k (place + (1 + trees_count b)) c2 m2 n more_texts rs g.next_is (omega (arith, m, lines_are b)) d2 z e2 in
+    let first : row_from further place (place + 1 + deeper k (own_levels (below ++ (next ++ rs)))) (next_start end (below ++ (next ++ rs)) - count) (record { line = line_parts k s.xref s.tag (first_value s.payload); start = count }) ≡ row_is k place number s b = rw (span, size, payload, place_is, m) refl in
+    let joined : closed_rows further end (place + 1) (below ++ (next ++ rs)) ≡ (rows_of (k + 1) (place + 1) m1 b ++ rows_of k (place + (1 + trees_count b)) m2 n) ++ closed_rows further end (place + (1 + trees_count b + trees_count n)) rs =
+    inside ∙ ap (λ (j : ℕ). rows_of (k + 1) (place + 1) m1 b ++ closed_rows further end j (next ++ rs)) place_is ∙ ap (λ (xs : List Row). rows_of (k + 1) (place + 1) m1 b ++ xs) (after ∙ ap (λ (j : ℕ). rows_of k (place + (1 + trees_count b)) m2 n ++ closed_rows further end j rs) last) ∙ sym (append_assoc (rows_of (k + 1) (place + 1) m1 b) (rows_of k (place + (1 + trees_count b)) m2 n) (closed_rows further end (place + (1 + trees_count b + trees_count n)) rs)) in
+    rw (append_assoc below next rs, first, joined) refl
+
+conts_own : (count m : ℕ) (texts : List Bytes) (rest : List LineParts) → own_lines count (continued m texts ++ rest) ≡ own_lines (count + length texts) rest
+conts_own count m [] rest = (let z : count ≡ count + 0 = omega arith in ap (λ (j : ℕ). own_lines j rest) z)
+conts_own count m (text ∷ texts) rest = conts_own (count + 1) m texts rest ∙ (let z : count + 1 + length texts ≡ count + suc (length texts) = omega arith in ap (λ (j : ℕ). own_lines j rest) z)
+
+value_text : (text : Bytes) → line_text (line_value text) ≡ text
+value_text [] = refl
+value_text (b ∷ bs) = refl
+
+texts_conts : (m : ℕ) (texts : List Bytes) (rest : List LineParts) → further_texts (continued m texts ++ rest) ≡ texts ++ further_texts rest
+texts_conts m [] rest = refl
+texts_conts m (text ∷ texts) rest = rw (value_text text, texts_conts m texts rest) refl
+
+-- the own lines of trees
+own_of_trees : (k count : ℕ) (w : Trees) (rest : List LineParts) → are_at k w ≡ true → own_lines count (lines_of k w ++ rest) ≡ tree_lines k count w ++ own_lines (count + length (tree_texts w)) rest
+own_of_trees k count none rest f = (let z : count ≡ count + 0 = omega arith in ap (λ (j : ℕ). own_lines j rest) z)
+own_of_trees k count (tree s b n) rest f =
+    let g = tree_is k s b n f in
+    let own = further_lines s.payload in
+    let line = line_parts k s.xref s.tag (first_value s.payload) in
+    let after = lines_of k n ++ rest in
+    let c1 = count + length own in
+    let c2 = c1 + length (tree_texts b) in
+    let total : c2 + length (tree_texts n) ≡ count + length (tree_texts (tree s b n)) = omega (arith, length-append own (tree_texts b ++ tree_texts n), length-append (tree_texts b) (tree_texts n)) in
+    let first : own_lines count (line ∷ (continued (k + 1) own ++ (lines_of (k + 1) b ++ after))) ≡ record { line = line; start = count } ∷ own_lines count (continued (k + 1) own ++ (lines_of (k + 1) b ++ after)) = rw g.own refl in
+    ap (λ (ls : List LineParts). own_lines count ls) (laid k s b n rest)
+    ∙ first
+    ∙ ap (λ (rs : List OwnLine). record { line = line; start = count } ∷ rs) (
+    conts_own count (k + 1) own (lines_of (k + 1) b ++ after)
+    ∙ own_of_trees (k + 1) c1 b after g.below_is
+    ∙ ap (λ (rs : List OwnLine). tree_lines (k + 1) c1 b ++ rs) (own_of_trees k c2 n rest g.next_is ∙ ap (λ (j : ℕ). tree_lines k c2 n ++ own_lines j rest) total)
+    ∙ sym (append_assoc (tree_lines (k + 1) c1 b) (tree_lines k c2 n) (own_lines (count + length (tree_texts (tree s b n))) rest)))
+
+-- the further lines of trees
+texts_of_trees : (k : ℕ) (w : Trees) (rest : List LineParts) → are_at k w ≡ true → further_texts (lines_of k w ++ rest) ≡ tree_texts w ++ further_texts rest
+texts_of_trees k none rest f = refl
+texts_of_trees k (tree s b n) rest f =
+    let g = tree_is k s b n f in
+    let own = further_lines s.payload in
+    let line = line_parts k s.xref s.tag (first_value s.payload) in
+    let after = lines_of k n ++ rest in
+    let first : further_texts (line ∷ (continued (k + 1) own ++ (lines_of (k + 1) b ++ after))) ≡ further_texts (continued (k + 1) own ++ (lines_of (k + 1) b ++ after)) = rw g.own refl in
+    ap further_texts (laid k s b n rest)
+    ∙ first
+    ∙ texts_conts (k + 1) own (lines_of (k + 1) b ++ after)
+    ∙ ap (λ (ts : List Bytes). own ++ ts) (texts_of_trees (k + 1) b after g.below_is ∙ ap (λ (ts : List Bytes). tree_texts b ++ ts) (texts_of_trees k n rest g.next_is) ∙ sym (append_assoc (tree_texts b) (tree_texts n) (further_texts rest)))
+    ∙ sym (append_assoc own (tree_texts b ++ tree_texts n) (further_texts rest))
+
+-- a closed table of a document's lines lists the document's rows
+listed : (w : Trees) (items : List FlatStructure) (further : List (Bor Bytes)) → is_document w ≡ true → map own_line items ≡ own_lines 0 (lines_of 0 w) → texts_of further ≡ further_texts (lines_of 0 w)
+    → IsClosed 0 items → flat_rows items further ≡ rows_of 0 0 1 w
+listed w items further a r t c =
+    let f = document_placed w a in
+    let whole_lines : map own_line items ≡ tree_lines 0 0 w ++ [] = r ∙ ap (λ (ls : List LineParts). own_lines 0 ls) (sym (append-nil (lines_of 0 w))) ∙ own_of_trees 0 0 w [] f in
+    let whole_texts : texts_of further ≡ tree_texts w ++ [] = t ∙ ap further_texts (sym (append-nil (lines_of 0 w))) ∙ texts_of_trees 0 w [] f in
+    let size : length (texts_of further) ≡ 0 + length (tree_texts w) = (let q = ap (λ (xs : List Bytes). length xs) (whole_texts ∙ append-nil (tree_texts w)) in omega (arith, q)) in
+    table_rows (texts_of further) 0 items c
+    ∙ ap (closed_rows (texts_of further) (length (texts_of further)) 0) whole_lines
+    ∙ lines_rows (texts_of further) (length (texts_of further)) 0 0 0 1 w [] [] f refl whole_texts refl size
+    ∙ append-nil (rows_of 0 0 1 w)
+
+-- and it is seen as the document
+pub record Lists (items : List FlatStructure) (further : List (Bor Bytes)) (w : Trees) : Type 0 where
+  pub flat : IsFlat items further
+  pub seen : flat_trees items further ≡ w
+
+pub lists : (w : Trees) (items : List FlatStructure) (further : List (Bor Bytes)) → is_document w ≡ true → map own_line items ≡ own_lines 0 (lines_of 0 w) → texts_of further ≡ further_texts (lines_of 0 w)
+    → IsClosed 0 items → Lists items further w
+lists w items further a r t c =
+    let e : flat_rows items further ≡ rows_of 0 0 1 w = listed w items further a r t c in
+    let seen : flat_trees items further ≡ w = ap (trees_of_rows 0) e ∙ trees_of_rows_of 0 0 1 w in
+    record { flat = record { listed = e ∙ ap (rows_of 0 0 1) (sym seen); document = ap is_document seen ∙ a }; seen = seen }

@@ -1,0 +1,13 @@
+use Rattle.std.proofs.Common.{◌≡◌, ◌≤◌, drop, length, map}
+use Rattle.ged_tree.specs.Tables.{IsClosed, own_line}
+use Rattle.ged_tree.proofs.table.close.Given as goal
+
+abbrev pub invariant-loop-place : goal.invariant-loop-place
+invariant-loop-place l = record {
+  within : l.place ≤ length l.structures.items;
+  rows : map own_line l.structures.items ≡ map own_line l.fn.structures.items;
+  closed : IsClosed l.place (drop l.place l.structures.items);
+}
+
+abbrev pub decreases-loop-place : goal.decreases-loop-place
+decreases-loop-place l = l.place

@@ -1,0 +1,51 @@
+-- What building a document answers: the document that has the lines, or their first fault (FamilySearch GEDCOM 7.0,
+-- "Lines" and "Structures").
+use Rattle.std.specs.Prelude.{◌≡◌, ◌↔◌, ℕ, ◌≤◌, ◌⊎◌, List, length, Option, Some, None}
+use Rattle.ged_line.specs.Bytes.{Bytes}
+use Rattle.ged_line.specs.Lines.{LineParts}
+use Rattle.ged_line.specs.Files.{FileText, StopsAt}
+use Rattle.ged_line.specs.declared.fault.LineAt.{LineAt}
+use Rattle.ged_tree.specs.Trees.{Trees}
+use Rattle.ged_tree.specs.DocumentLines.{HasLines}
+use Rattle.ged_tree.specs.TreeFaults.{Pass, FirstFault}
+use Rattle.ged_tree.specs.FileFaults.{FirstFaultIn}
+use Rattle.ged_tree.specs.declared.fault.TreeFault.{TreeFault}
+use Rattle.ged_tree.specs.declared.fault.TreeFault.TheVariants.{Line}
+use Rattle.ged_tree.specs.declared.fault.BuildFault.{BuildFault}
+use Rattle.ged_tree.specs.declared.fault.BuildFault.TheVariants.{At, Memory}
+
+-- The first fault of lines and of where reading stopped behind them. Without a stop it is the lines' own; with one, it is
+-- theirs where it stands at one of them, and where all of them pass, the stop's.
+abbrev pub IsBuildFault : List LineParts → Option LineAt → ℕ → TreeFault → Type 0
+IsBuildFault lines None line fault = FirstFault lines line fault
+IsBuildFault lines (Some stop) line fault = (FirstFault lines line fault × (line ≤ length lines))
+    ⊎ (Pass lines × (line ≡ stop.line) × (fault ≡ Line stop.fault))
+
+-- the document is that of the lines that the file spells
+abbrev pub HasFile : Trees → Bytes → Type 0
+HasFile document file = (lines : List LineParts) × FileText lines file × HasLines document lines
+
+-- the first fault of the file; of want of memory nothing is said
+abbrev pub TellsFile : BuildFault → Bytes → Type 0
+TellsFile (At at) file = FirstFaultIn file at.line at.fault
+TellsFile (Memory error) file = Unit {0}
+
+-- the first fault of the lines and of the stop behind them; of want of memory nothing is said
+abbrev pub TellsBuild : BuildFault → List LineParts → Option LineAt → Type 0
+TellsBuild (At at) lines stop = IsBuildFault lines stop at.line at.fault
+TellsBuild (Memory error) lines stop = Unit {0}
+
+-- reading the file gives these lines and this stop
+abbrev pub ReadsAs : Bytes → List LineParts → Option LineAt → Type 0
+ReadsAs file lines None = FileText lines file
+ReadsAs file lines (Some stop) = StopsAt file lines stop.line stop.fault
+
+-- a file that has a fault has no document
+abbrev pub FaultyFileHasNone : Type 0
+FaultyFileHasNone = (file : Bytes) (line : ℕ) (fault : TreeFault)
+    → FirstFaultIn file line fault → (document : Trees) → ¬ (HasFile document file)
+
+-- the first fault of a file is that of the lines and the stop that reading it gives
+abbrev pub FileFaultIsBuildFault : Type 0
+FileFaultIsBuildFault = (file : Bytes) (lines : List LineParts) (stop : Option LineAt) → ReadsAs file lines stop
+    → (line : ℕ) (fault : TreeFault) → FirstFaultIn file line fault ↔ IsBuildFault lines stop line fault

@@ -1,0 +1,47 @@
+-- The lines of a document (FamilySearch GEDCOM 7.0, "Lines" and "Structures").
+use Rattle.std.specs.Prelude.{◌≡◌, ℕ, true, ◌+◌, List, [], ◌∷◌, ◌++◌, None, codes}
+use Rattle.ged_line.specs.Bytes.{Bytes}
+use Rattle.ged_line.specs.Lines.{Value, Empty, LineParts, line_parts}
+use Rattle.ged_line.specs.Lines.{Void as VoidValue, Pointer as PointerValue, Text as TextValue}
+use Rattle.ged_tree.specs.Trees.{Structure, Trees, none, tree, further_lines}
+use Rattle.ged_tree.specs.Documents.{is_document}
+use Rattle.ged_tree.specs.declared.payload.Payload.{Payload}
+use Rattle.ged_tree.specs.declared.payload.Payload.TheVariants.{Void, Pointer, Text}
+
+-- the value of the line that shows one line of a text
+abbrev pub line_value : Bytes → Value
+line_value [] = Empty
+line_value (b ∷ bs) = TextValue (b ∷ bs)
+
+-- the value of a structure's own line
+abbrev pub first_value : Payload → Value
+first_value Void = VoidValue
+first_value (Pointer name) = PointerValue name
+first_value (Text []) = Empty
+first_value (Text (line ∷ lines)) = line_value line
+
+-- one CONT line for each further line of a payload
+abbrev pub continued : ℕ → List Bytes → List LineParts
+continued level [] = []
+continued level (line ∷ lines) = line_parts level None (codes "CONT") (line_value line) ∷ continued level lines
+
+-- a structure's own line, and CONT lines one level deeper
+abbrev pub structure_lines : ℕ → Structure → List LineParts
+structure_lines level s = line_parts level s.xref s.tag (first_value s.payload) ∷ continued (level + 1) (further_lines s.payload)
+
+-- the lines of a structure, then those of the trees below it one level deeper, then those of the trees after it
+abbrev pub lines_of : ℕ → Trees → List LineParts
+lines_of level none = []
+lines_of level (tree s below next) = structure_lines level s ++ lines_of (level + 1) below ++ lines_of level next
+
+abbrev pub trailer_line : LineParts
+trailer_line = line_parts 0 None (codes "TRLR") Empty
+
+-- HEAD's tree, the records' trees, and TRLR
+abbrev pub document_lines : Trees → List LineParts
+document_lines document = lines_of 0 document ++ trailer_line ∷ []
+
+-- the document has these lines
+pub record HasLines (document : Trees) (lines : List LineParts) : Type 0 where
+  pub allowed : is_document document ≡ true
+  pub told : lines ≡ document_lines document

@@ -1,0 +1,13 @@
+// Laws of what building answers for files. The functions do nothing: their contracts are proved.
+ghost use Rattle.ged_tree.specs.Building.{FaultyFileHasNone, FileFaultIsBuildFault};
+
+/// A file that has a fault has no document.
+pub fn faulty_file_has_none()
+    ensures { FaultyFileHasNone }
+{}
+
+/// The first fault of a file is that of the lines and the stop that reading it gives: [`crate::flatten`] answers what
+/// [`crate::build`] answers for what [`ged_line::read_lines`] reads.
+pub fn file_fault_is_build_fault()
+    ensures { FileFaultIsBuildFault }
+{}

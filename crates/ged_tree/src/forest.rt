@@ -1,0 +1,140 @@
+// The structures of a document by their places, whatever holds them.
+ghost use Rattle.std.specs.Prelude.{◌≡◌, ◌<◌, Some, true, length, slice_get, MatchOption};
+ghost use Rattle.std.specs.Option.{option_copied};
+ghost use Rattle.ged_tree.specs.Trees.{Trees, none, trees_count, further_lines};
+ghost use Rattle.ged_tree.specs.Documents.{is_document};
+ghost use Rattle.ged_tree.specs.Places.{structure_at, place_after, level_at, line_at};
+ghost use Rattle.ged_tree.specs.Runs.{trees_between, IsRun, IsStep};
+ghost use Rattle.ged_tree.specs.Views.{payload_of};
+
+use crate::document::Document;
+use crate::found::count;
+use crate::payload::PayloadView;
+
+/// The structures of a document by their places, which count from 0 in the order of a file: HEAD stands at place 0, and
+/// TRLR at none. No call takes memory.
+///
+/// A [`Document`] finds a place by a walk over its nodes from the first one on; a [`crate::Flat`] has it at hand.
+pub trait Forest {
+    /// The document that it is seen as.
+    ghost trees: { Self → Trees };
+
+    /// How many structures there are.
+    fn size(&self) -> usize
+        ensures count { result ≡ trees_count (trees self.now) }
+        ensures document { is_document (trees self.now) ≡ true };
+
+    /// From 0 to 99.
+    fn level(&self, place: usize) -> u8
+        requires { place < trees_count (trees self.now) }
+        ensures { result ≡ level_at 0 (trees self.now) place };
+
+    /// The first place past the structure and all below it.
+    fn after(&self, place: usize) -> usize
+        requires { place < trees_count (trees self.now) }
+        ensures { result ≡ place_after (trees self.now) place };
+
+    /// The line on which the structure begins, counted from 1.
+    fn line(&self, place: usize) -> u64
+        requires { place < trees_count (trees self.now) }
+        ensures { result ≡ line_at 1 (trees self.now) place };
+
+    /// Never CONT, whose lines belong to a payload.
+    fn tag(&self, place: usize) -> &str
+        requires { place < trees_count (trees self.now) }
+        ensures { result.now ≡ (structure_at (trees self.now) place).tag };
+
+    /// The cross-reference identifier of a record, without its `@`.
+    fn xref(&self, place: usize) -> Option<&str>
+        requires { place < trees_count (trees self.now) }
+        ensures { option_copied result ≡ (structure_at (trees self.now) place).xref };
+
+    /// The payload by its first line.
+    fn payload(&self, place: usize) -> PayloadView<'_>
+        requires { place < trees_count (trees self.now) }
+        ensures { payload_of result (further_lines (structure_at (trees self.now) place).payload)
+            ≡ (structure_at (trees self.now) place).payload };
+
+    /// How many lines the payload has past the first.
+    fn further(&self, place: usize) -> usize
+        requires { place < trees_count (trees self.now) }
+        ensures { result ≡ length (further_lines (structure_at (trees self.now) place).payload) };
+
+    /// A line of the payload past the first, counted from 0.
+    fn further_line(&self, place: usize, number: usize) -> &str
+        requires within { place < trees_count (trees self.now) }
+        requires further { number < length (further_lines (structure_at (trees self.now) place).payload) }
+        ensures { slice_get (further_lines (structure_at (trees self.now) place).payload) number ≡ Some result.now };
+}
+
+#[tactic(auto, using(crate::proofs::PlaceLemmas::after_fits), unfolding(crate::specs::Places::structure_at, crate::specs::Places::below_at, crate::specs::Places::place_after))]
+impl Forest for Document {
+    ghost trees = { λ document. document };
+
+    fn size(&self) -> usize {
+        self.count()
+    }
+
+    fn level(&self, place: usize) -> u8 {
+        self.find(place).level
+    }
+
+    fn after(&self, place: usize) -> usize {
+        let node = self.find(place).node;
+        place + 1 + count(node.children.as_slice())
+    }
+
+    fn line(&self, place: usize) -> u64 {
+        self.line_at(place)
+    }
+
+    fn tag(&self, place: usize) -> &str {
+        let node = self.find(place).node;
+        node.tag.as_str()
+    }
+
+    fn xref(&self, place: usize) -> Option<&str> {
+        match self.find(place).xref {
+            Some(name) => Some(name.as_str()),
+            None => None,
+        }
+    }
+
+    fn payload(&self, place: usize) -> PayloadView<'_> {
+        let node = self.find(place).node;
+        node.payload.view()
+    }
+
+    fn further(&self, place: usize) -> usize {
+        let node = self.find(place).node;
+        node.payload.further_lines().len()
+    }
+
+    fn further_line(&self, place: usize, number: usize) -> &str {
+        let node = self.find(place).node;
+        node.payload.further_lines()[number].as_str()
+    }
+}
+
+/// The place after the first tree of the run of places from `place` up to `end`, or `None` where the run has no tree.
+/// What stands below the tree's structure is the run from `place + 1` up to the place that is answered. Takes no memory.
+pub fn next_in_run<F: Forest>(forest: &F, place: usize, end: usize) -> Option<usize>
+    requires run { IsRun (F.trees forest.now) place end }
+    ensures { MatchOption result
+        (trees_between (F.trees forest.now) place end ≡ none)
+        (λ after. IsStep (F.trees forest.now) place end after) }
+{
+    if place >= end {
+        return None;
+    }
+    Some(forest.after(place))
+}
+
+/// The end of the run of all trees, which begins at place 0. Takes no memory.
+pub fn end_of_all<F: Forest>(forest: &F) -> usize
+    ensures run { IsRun (F.trees forest.now) 0 result }
+    ensures all { trees_between (F.trees forest.now) 0 result ≡ F.trees forest.now }
+    ensures document { is_document (F.trees forest.now) ≡ true }
+{
+    forest.size()
+}

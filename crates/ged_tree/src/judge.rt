@@ -1,0 +1,187 @@
+// The faults of a document's lines, found line by line.
+ghost use Rattle.std.specs.Prelude.{◌≡◌, ◌++◌, ◌∷◌, [], List, Some, None, IfOk, IfErr, option_map, Option};
+ghost use Rattle.std.specs.List.{find};
+ghost use Rattle.ged_line.specs.Lines.{LineParts};
+ghost use Rattle.ged_tree.specs.TreeFaults.{has_trailer, fault_after, stands};
+ghost use Rattle.ged_tree.specs.TreeFaults.{jumps as tests_jump, continues as tests_continues};
+ghost use Rattle.ged_tree.specs.TreeFaults.{is_misplaced_cont as tests_misplaced_cont, is_below_cont as tests_below_cont};
+ghost use Rattle.ged_tree.specs.TreeFaults.{is_cont as tests_cont, is_header as tests_header, is_trailer as tests_trailer};
+ghost use Rattle.ged_tree.specs.TreeFaults.{is_reference as tests_reference, is_empty as tests_empty, has_forbidden_xref as tests_forbidden_xref};
+ghost use Rattle.ged_tree.specs.Judging.{StandsFor, seen, end_faults};
+
+use crate::fault::TreeFault;
+use ged_line::{LineView, ValueView};
+use std::marker::Model;
+
+/// What a judge keeps of a line.
+#[derive(Clone, Copy)]
+struct Previous {
+    level: u8,
+    is_cont: bool,
+    is_reference: bool,
+}
+
+/// Finds the faults of a document's lines one line at a time, from a few facts of the lines taken so far. Contracts say
+/// which lists of lines it stands for.
+#[derive(Drop)]
+pub struct Judge {
+    previous: Option<Previous>,
+    has_ended: bool,
+}
+
+impl Model for Judge {
+    ghost use Rattle.std.specs.Prelude.{◌≤◌, option_map, IfSome};
+    ghost use Rattle.ged_tree.specs.Judging.{Facts, Seen};
+
+    ghost Value = { Facts };
+
+    ghost view = { λ j. record { before = option_map (λ p. record { level = p.level; cont = p.is_cont; reference = p.is_reference }) j.previous; ended = j.has_ended } };
+
+    ghost invariant = { λ j. IfSome j.previous (λ p. p.level ≤ 99) };
+}
+
+impl Judge {
+    /// A judge of no lines. Takes no memory.
+    pub fn new() -> Judge
+        ensures { StandsFor result [] }
+    {
+        Judge {
+            previous: None,
+            has_ended: false,
+        }
+    }
+
+    /// Takes one more line. Where a fault stands at it, answers the lowest, from `LevelJump` to `AfterTrailer`, and is
+    /// unchanged. Takes no memory (FamilySearch GEDCOM 7.0, "Lines" and "Structures").
+    #[tactic(auto, using(crate::proofs::JudgeLemmas::judging))]
+    pub fn line(&mut self, line: &LineView<'_>) -> Result<(), TreeFault>
+        ensures takes { IfOk result (λ _. (lines : List LineParts) → StandsFor self.old lines
+            → (fault_after lines line.now ≡ None) × StandsFor self.new (lines ++ line.now ∷ [])) }
+        ensures refuses { IfErr result (λ fault. (self.new ≡ self.old)
+            × ((lines : List LineParts) → StandsFor self.old lines → fault_after lines line.now ≡ Some fault)) }
+    {
+        if let Some(fault) = self.fault(line) {
+            return Err(fault);
+        }
+        self.previous = Some(Previous {
+            level: line.level(),
+            is_cont: is_cont(line),
+            is_reference: is_reference(line),
+        });
+        self.has_ended = self.has_ended || is_trailer(line);
+        Ok(())
+    }
+
+    /// Whether TRLR has come. Takes no memory.
+    pub fn has_ended(&self) -> bool
+        ensures { (lines : List LineParts) → StandsFor self.now lines → result ≡ has_trailer lines }
+    {
+        self.has_ended
+    }
+
+    // The lowest fault that stands at the line.
+    fn fault(&self, line: &LineView<'_>) -> Option<TreeFault>
+        ensures { (lines : List LineParts) → StandsFor self.now lines → result ≡ fault_after lines line.now }
+    {
+        if self.jumps(line) {
+            return Some(TreeFault::LevelJump);
+        }
+        if has_forbidden_xref(line) {
+            return Some(TreeFault::XrefNotAllowed);
+        }
+        if self.is_misplaced_cont(line) || self.is_below_cont(line) {
+            return Some(TreeFault::MisplacedCont);
+        }
+        self.fault_of_ends(line)
+    }
+
+    // The lowest of the faults of HEAD and TRLR that stands at the line.
+    fn fault_of_ends(&self, line: &LineView<'_>) -> Option<TreeFault>
+        ensures { (lines : List LineParts) → StandsFor self.now lines → result ≡ find (stands lines line.now) end_faults }
+    {
+        if self.previous.is_none() && !is_header(line) {
+            return Some(TreeFault::NoHeader);
+        }
+        if self.previous.is_some() && is_header(line) {
+            return Some(TreeFault::SecondHeader);
+        }
+        if (is_trailer(line) && !is_empty(line)) || (self.has_ended && line.level() > 0) {
+            return Some(TreeFault::TrailerNotEmpty);
+        }
+        if self.has_ended && line.level() == 0 {
+            return Some(TreeFault::AfterTrailer);
+        }
+        None
+    }
+
+    fn jumps(&self, line: &LineView<'_>) -> bool
+        ensures { (before : Option LineParts) → self.now.before ≡ option_map seen before → result ≡ tests_jump before line.now }
+    {
+        match self.previous {
+            None => line.level() > 0,
+            Some(previous) => line.level() > previous.level + 1,
+        }
+    }
+
+    fn is_misplaced_cont(&self, line: &LineView<'_>) -> bool
+        ensures { (before : Option LineParts) → self.now.before ≡ option_map seen before → result ≡ tests_misplaced_cont before line.now }
+    {
+        is_cont(line) && (line.level() == 0 || is_reference(line) || !self.continues(line))
+    }
+
+    fn continues(&self, line: &LineView<'_>) -> bool
+        ensures { (before : Option LineParts) → self.now.before ≡ option_map seen before → result ≡ tests_continues before line.now }
+    {
+        match self.previous {
+            None => false,
+            Some(previous) if previous.is_cont => line.level() == previous.level,
+            Some(previous) => line.level() == previous.level + 1 && !previous.is_reference,
+        }
+    }
+
+    fn is_below_cont(&self, line: &LineView<'_>) -> bool
+        ensures { (before : Option LineParts) → self.now.before ≡ option_map seen before → result ≡ tests_below_cont before line.now }
+    {
+        match self.previous {
+            None => false,
+            Some(previous) => previous.is_cont && line.level() > previous.level,
+        }
+    }
+}
+
+pub(crate) fn is_cont(line: &LineView<'_>) -> bool
+    ensures { result ≡ tests_cont line.now }
+{
+    line.tag() == "CONT"
+}
+
+pub(crate) fn is_header(line: &LineView<'_>) -> bool
+    ensures { result ≡ tests_header line.now }
+{
+    line.level() == 0 && line.tag() == "HEAD"
+}
+
+pub(crate) fn is_trailer(line: &LineView<'_>) -> bool
+    ensures { result ≡ tests_trailer line.now }
+{
+    line.level() == 0 && line.tag() == "TRLR"
+}
+
+fn has_forbidden_xref(line: &LineView<'_>) -> bool
+    ensures { result ≡ tests_forbidden_xref line.now }
+{
+    line.xref().is_some() && (line.level() > 0 || is_header(line) || is_trailer(line))
+}
+
+// A pointer or void.
+fn is_reference(line: &LineView<'_>) -> bool
+    ensures { result ≡ tests_reference line.now.value }
+{
+    matches!(line.value(), ValueView::Void | ValueView::Pointer(_))
+}
+
+fn is_empty(line: &LineView<'_>) -> bool
+    ensures { result ≡ tests_empty line.now.value }
+{
+    matches!(line.value(), ValueView::Empty)
+}
