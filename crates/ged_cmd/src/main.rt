@@ -11,7 +11,8 @@ mod tells;
 mod tests;
 mod words;
 
-use answers::answer_file;
+use answers::{answer_file, compare_files};
+use ged_tool::Outcome;
 use std::alloc::Global;
 use std::io::{Read, Write};
 use std::process::ExitCode;
@@ -43,8 +44,30 @@ fn words_of(rt: &HostRuntime) -> io::Result<Vec<String>> {
     Ok(words)
 }
 
+/// Answers a request, and gives the outcome.
+fn answer_request<F: Files, R: Read, W: Write>(
+    alloc: Global,
+    files: &F,
+    request: Request<'_>,
+    input: &mut R,
+    output: &mut W,
+) -> Outcome {
+    match request {
+        Request::Run {
+            command,
+            settings,
+            file,
+        } => answer_file(alloc, files, settings, command, file, input, output),
+        Request::Same {
+            settings,
+            first,
+            second,
+        } => compare_files(alloc, files, settings, first, second, input, output),
+    }
+}
+
 /// Does what the words ask for, and gives the program's status: 0 where the answer or the help was
-/// written, 1 for a fault of the file, 2 for a mistake in the words, 3 for a fault of a device or
+/// written, 1 for a fault of the file or two files that differ, 2 for a mistake in the words, 3 for a fault of a device or
 /// want of memory.
 fn perform<F: Files, R: Read, W: Write, E: Write>(
     alloc: Global,
@@ -62,9 +85,9 @@ fn perform<F: Files, R: Read, W: Write, E: Write>(
         Err(error) => return refuse_unread(&error, &mut streams.errors),
     };
     match read_words(alloc, words.as_slice()) {
-        Ok(Some(Request::Run { command, file })) => {
+        Ok(Some(request)) => {
             let (input, output) = (&mut streams.input, &mut streams.output);
-            let outcome = answer_file(alloc, files, command, file, input, output);
+            let outcome = answer_request(alloc, files, request, input, output);
             finish(&outcome, &mut streams.errors)
         }
         Ok(None) => USAGE_STATUS,

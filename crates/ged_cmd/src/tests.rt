@@ -1,10 +1,13 @@
 // Whole runs of the program over words, files and streams in memory.
+mod canons;
+mod checks;
+mod compares;
 mod devices;
 mod faults;
 mod usage;
 
 use super::{Streams, perform};
-use devices::{Book, Disk, Shelf};
+use devices::{Book, Disk, Entry, Shelf};
 use std::alloc::{AllocError, Global};
 use std::test::Fail;
 
@@ -14,11 +17,7 @@ const HEAD: &str = "0 HEAD\n1 GEDC\n2 VERS 7.0\n";
 const SMALLEST: &[u8] = b"\xef\xbb\xbf0 HEAD\n1 GEDC\n2 VERS 7.0\n0 TRLR\n";
 
 /// No file can be opened.
-const NOTHING: Shelf<'static> = Shelf {
-    name: "",
-    bytes: b"",
-    fails: false,
-};
+const NOTHING: Shelf<'static> = Shelf { entries: &[] };
 
 /// What a run left behind.
 #[derive(Drop)]
@@ -164,7 +163,8 @@ fn a_named_file_is_read_in_place_of_the_input(rt: HostRuntime) -> Result<(), Fai
     for (line, fails, status, output, errors) in rows {
         let name = "family.ged";
         let bytes = SMALLEST;
-        let files = Shelf { name, bytes, fails };
+        let entries = [Entry { name, bytes, fails }];
+        let files = Shelf { entries: &entries };
         let input = Book {
             rest: b"0 INPUT\n",
             fails: false,

@@ -1,16 +1,11 @@
 -- Bytes cut into blocks of whole lines, and the pieces that are left of them.
-use Rattle.std.proofs.Common.{◌≡◌, ◌≢◌, ℕ, ◌+◌, ◌-◌, ◌<◌, ◌≤◌, ◌==◌, true, List, [], ◌∷◌, ◌++◌, inl, inr, Result, Ok, Err, length, get_or, take, drop, refl, sym, ◌∙◌, ap, subst, arith}
+use Rattle.std.proofs.Common.{◌≡◌, ◌≢◌, ℕ, ◌+◌, ◌-◌, ◌<◌, ◌≤◌, ◌==◌, true, List, [], ◌∷◌, ◌++◌, inl, inr, length, get_or, take, drop, refl, sym, ◌∙◌, ap, subst, arith}
 use Rattle.std.proofs.lemmas.Bool.Decides.{nat_tests}
 use Rattle.std.proofs.lemmas.List.{take-append-drop, drop_more, get_or-drop, length-drop}
 use Rattle.std.proofs.Math.Numerals.{add-one}
 use Rattle.std.proofs.Math.Seq.{take-suc}
-use Rattle.std.specs.Prelude.{IfOk, IfErr}
 use Rattle.ged_line.specs.Bytes.{Bytes}
-use Rattle.ged_line.specs.Lines.{LineParts, LineText}
-use Rattle.ged_line.specs.Faults.{IsFaultOf}
 use Rattle.ged_line.specs.Pieces.{AreCutInto, with_front, pieces_of}
-use Rattle.ged_line.specs.Reading.{TellsView}
-use Rattle.ged_line.specs.declared.fault.LineFault.{LineFault}
 use Rattle.ged_line.proofs.Cutting.{same_or_not, pieces_front, pieces_only, after_lf, after_cr, are_cut, rest_of}
 
 feed_not_nil : (bs : List ℕ) → bs ++ (10 ∷ []) ≢ []
@@ -116,7 +111,3 @@ first_of_block bytes block piece others rest e f = e ∙ ap (λ ps. ps ++ rest) 
 pub first_behind : (now none pieces others rest : List Bytes) (piece : Bytes) → none ++ (pieces ++ rest) ≡ now → none ≡ [] → pieces ≡ piece ∷ others
     → now ≡ piece ∷ (none ++ (others ++ rest))
 first_behind now none pieces others rest piece e n f = rw n (sym e ∙ ap (λ ps. ps ++ (pieces ++ rest)) n ∙ ap (λ ps. ps ++ rest) f)
-
-pub TellsView-cases : (told : Result LineParts LineFault) (piece : Bytes) → IfOk told (λ line. LineText line piece) → IfErr told (λ fault. IsFaultOf fault piece) → TellsView told piece
-TellsView-cases (Ok line) piece t f = t
-TellsView-cases (Err fault) piece t f = f

@@ -144,7 +144,7 @@ line_cut : (xref : Option (List ℕ)) (tag part : List ℕ) → may_be_xref xref
 line_cut None tag part x t = (refl, no_sign tag part t)
 line_cut (Some name) tag part x t = record { name_is = x; spelled = ap (λ w. 64 ∷ w) (append_assoc name (64 ∷ 32 ∷ []) (tag ++ part)) }
 
-part_ends : (value : Value) (part : List ℕ) → IsValuePart value part → (part ≡ []) ⊎ ((more : List ℕ) × (part ≡ 32 ∷ more))
+pub part_ends : (value : Value) (part : List ℕ) → IsValuePart value part → (part ≡ []) ⊎ ((more : List ℕ) × (part ≡ 32 ∷ more))
 part_ends Empty part (inl e) = inl e
 part_ends Empty part (inr e) = inr ([], e)
 part_ends Void part e = inr (64 ∷ 86 ∷ 79 ∷ 73 ∷ 68 ∷ 64 ∷ [], e)

@@ -58,7 +58,7 @@ tag_some h = cc
 pub xref_each : (name : List ℕ) → is_xref name ≡ true → AreTagCharacters name
 xref_each name h = all_each is_tag_character name (and_right (not (length name == 0) && not (bytes_eq name (codes "VOID"))) (list_all is_tag_character name) h)
 
-xref_apart : (name : List ℕ) → is_xref name ≡ true → not (bytes_eq name (codes "VOID")) ≡ true
+pub xref_apart : (name : List ℕ) → is_xref name ≡ true → not (bytes_eq name (codes "VOID")) ≡ true
 xref_apart name h = and_right (not (length name == 0)) (not (bytes_eq name (codes "VOID"))) (and_left (not (length name == 0) && not (bytes_eq name (codes "VOID"))) (list_all is_tag_character name) h)
 
 pub xref_not_void : (name : List ℕ) → is_xref name ≡ true → name ≢ codes "VOID"

@@ -6,21 +6,22 @@ use Rattle.ged_line.specs.Faults.{IsFaultOf}
 use Rattle.ged_line.specs.Files.{FileText, SpellLines, StopsIn, StopsAt, IsFirstFault}
 use Rattle.ged_line.specs.Spelling.{spelled_lines}
 use Rattle.ged_line.specs.declared.fault.LineFault.{LineFault}
+use Rattle.ged_line.specs.declared.spelled.SpelledLine.{SpelledLine}
 use Rattle.ged_line.specs.declared.lines.Lines.{Lines}
 use Rattle.ged_line.specs.declared.fault.ParseFault.{ParseFault}
 use Rattle.ged_line.specs.declared.fault.ParseFault.TheVariants as parsing
 use Rattle.ged_line.specs.declared.fault.RespellFault.{RespellFault}
 use Rattle.ged_line.specs.declared.fault.RespellFault.TheVariants as respelling
 
--- the line that the piece spells, or its fault
-abbrev pub TellsView : Result LineParts LineFault → Bytes → Type 0
-TellsView told piece = MatchResult told (λ line. LineText line piece) (λ fault. IsFaultOf fault piece)
+-- the line that the piece spells and the piece itself, or its fault
+abbrev pub TellsSpelled : Result SpelledLine LineFault → Bytes → Type 0
+TellsSpelled told piece = MatchResult told (λ spelled. LineText spelled.line piece × (spelled.text.now ≡ piece)) (λ fault. IsFaultOf fault piece)
 
 -- A call for the first of the pieces that are left tells its line or its fault and leaves the others, or answers that
 -- none is left.
-abbrev pub YieldsLine : List Bytes → Option (Result LineParts LineFault) → List Bytes → Type 0
+abbrev pub YieldsLine : List Bytes → Option (Result SpelledLine LineFault) → List Bytes → Type 0
 YieldsLine pieces told rest = MatchOption told ((pieces ≡ []) × (rest ≡ []))
-    (λ line. (piece : Bytes) × (pieces ≡ piece ∷ rest) × TellsView line piece)
+    (λ line. (piece : Bytes) × (pieces ≡ piece ∷ rest) × TellsSpelled line piece)
 
 -- the piece's fault; want of memory is answered for a piece with a line alone
 abbrev pub TellsParse : ParseFault → Bytes → Type 0

@@ -86,12 +86,14 @@ impl Line {
         self.xref.as_ref()
     }
 
+    /// The tag, standard or of an extension. Takes no memory.
     pub fn tag(&self) -> &Tag
         ensures { result.now ≡ self.now.tag }
     {
         &self.tag
     }
 
+    /// What stands behind the tag. Takes no memory.
     pub fn value(&self) -> &LineValue
         ensures { held_value result.now ≡ self.now.value }
     {

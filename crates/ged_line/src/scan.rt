@@ -7,11 +7,13 @@ ghost use Rattle.ged_line.specs.Characters.{is_banned, is_digit, has_banned as t
 ghost use Rattle.ged_line.specs.Names.{is_tag as tests_tag, is_xref as tests_xref};
 ghost use Rattle.ged_line.specs.Lines.{LineParts, LineText, IsValuePart, is_value, Empty};
 ghost use Rattle.ged_line.specs.Views.{viewed_value};
+ghost use Rattle.ged_line.specs.Reading.{TellsSpelled};
 ghost use Rattle.ged_line.specs.Faults.{StandsAt, IsFaultOf, number_after, AfterXref, BeginsWith, word, IsPointer, is_level as tests_level};
 
 use crate::characters::has_banned;
 use crate::fault::LineFault;
 use crate::names::{begins_as_tag, is_xref, tag_characters};
+use crate::spelled::SpelledLine;
 use crate::view::{LineView, ValueView};
 
 fn are_digits(bytes: &[u8]) -> bool
@@ -168,9 +170,10 @@ fn view_value(text: &str) -> Result<ValueView<'_>, LineFault>
     }
 }
 
-/// The line that a text without banned characters is.
+/// The line that a text is, as slices of it, or the lowest fault that stands at it, where no character of the text is
+/// banned. Takes no memory (FamilySearch GEDCOM 7.0, "Lines").
 #[inline(always)]
-pub(crate) fn view_text(text: &str) -> Result<LineView<'_>, LineFault>
+pub fn view_text(text: &str) -> Result<LineView<'_>, LineFault>
     requires { tests_banned text.now ≡ false }
     ensures { MatchResult result (λ line. LineText line text.now) (λ fault. IsFaultOf fault text.now) }
 {
@@ -184,8 +187,21 @@ pub(crate) fn view_text(text: &str) -> Result<LineView<'_>, LineFault>
     Ok(LineView::of_parts(level, xref, tag, value))
 }
 
-fn scan_line(piece: &[u8]) -> Result<LineView<'_>, LineFault>
-    ensures { MatchResult result (λ line. LineText line piece.now) (λ fault. IsFaultOf fault piece.now) }
+/// The line that a text without banned characters is, beside the text.
+#[inline(always)]
+pub(crate) fn spelled_text(text: &str) -> Result<SpelledLine<'_>, LineFault>
+    requires { tests_banned text.now ≡ false }
+    ensures { TellsSpelled result text.now }
+{
+    match view_text(text) {
+        Ok(line) => Ok(SpelledLine { line, text }),
+        Err(fault) => Err(fault),
+    }
+}
+
+/// The line that a piece of a file is, beside the piece's text, or the lowest fault that stands at the piece.
+pub(crate) fn spelled_line(piece: &[u8]) -> Result<SpelledLine<'_>, LineFault>
+    ensures { TellsSpelled result piece.now }
 {
     let Ok(text) = simdutf8::basic::from_utf8(piece) else {
         return Err(LineFault::NotUtf8);
@@ -193,7 +209,16 @@ fn scan_line(piece: &[u8]) -> Result<LineView<'_>, LineFault>
     if has_banned(text) {
         return Err(LineFault::BannedCharacter);
     }
-    view_text(text)
+    spelled_text(text)
+}
+
+fn scan_line(piece: &[u8]) -> Result<LineView<'_>, LineFault>
+    ensures { MatchResult result (λ line. LineText line piece.now) (λ fault. IsFaultOf fault piece.now) }
+{
+    match spelled_line(piece) {
+        Ok(spelled) => Ok(spelled.line),
+        Err(fault) => Err(fault),
+    }
 }
 
 /// The line that a piece of a file is, as slices of it, or the lowest fault that stands at the piece.

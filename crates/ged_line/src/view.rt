@@ -103,6 +103,7 @@ impl<'a> LineView<'a> {
         self.xref
     }
 
+    /// The tag, standard or of an extension. Takes no memory.
     pub fn tag(&self) -> &'a str
         ensures tag { result.now ≡ self.now.tag }
         ensures name { tests_tag self.now.tag ≡ true }
@@ -110,6 +111,7 @@ impl<'a> LineView<'a> {
         self.tag
     }
 
+    /// What stands behind the tag; of a text that is escaped, without the sign that escapes it. Takes no memory.
     pub fn value(&self) -> ValueView<'a>
         ensures value { viewed_value result ≡ self.now.value }
         ensures text { tests_value self.now.value ≡ true }

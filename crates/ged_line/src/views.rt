@@ -3,14 +3,14 @@ ghost use Rattle.std.specs.Prelude.{◌≡◌, ◌≤◌, ◌∷◌, [], length,
 ghost use Rattle.std.specs.Iterator.{item_count};
 ghost use Rattle.ged_line.specs.Bytes.{Bytes};
 ghost use Rattle.ged_line.specs.Pieces.{ArePiecesOf, pieces_of};
-ghost use Rattle.ged_line.specs.Reading.{TellsView, YieldsLine};
+ghost use Rattle.ged_line.specs.Reading.{TellsSpelled, YieldsLine};
 
 use crate::blocks::split_block;
 use crate::cut::{Cut, cut_line};
 use crate::fault::LineFault;
 use crate::pieces::{Pieces, cut_pieces, skip_mark};
-use crate::scan::{view_line, view_text};
-use crate::view::LineView;
+use crate::scan::{spelled_line, spelled_text};
+use crate::spelled::SpelledLine;
 use std::marker::Model;
 
 /// The lines of a file that are left, from the first.
@@ -34,8 +34,8 @@ impl<'a> Model for LineViews<'a> {
     ghost view = { λ v. pieces_of v.text.now ++ (v.pieces ++ pieces_of v.unread.now) };
 }
 
-/// The lines of a file: for each of the pieces that [`crate::split_pieces`] gives, in order, what [`view_line`]
-/// answers.
+/// The lines of a file: for each of the pieces that [`crate::split_pieces`] gives, in order, the line that [`view_line`]
+/// answers and the text of the piece, or the piece's fault.
 ///
 /// They go on after a fault. UTF-8 is validated by blocks, many bytes at a time. Takes no memory
 /// (FamilySearch GEDCOM 7.0, "Lines").
@@ -52,9 +52,9 @@ pub fn view_lines(bytes: &[u8]) -> LineViews<'_>
 
 /// What the first line of a text is, and the text behind it.
 #[inline(always)]
-fn first_of_text(text: &str) -> Option<(Result<LineView<'_>, LineFault>, &str)>
+fn first_of_text(text: &str) -> Option<(Result<SpelledLine<'_>, LineFault>, &str)>
     ensures line { MatchOption result (pieces_of text.now ≡ []) (λ p. (piece : Bytes)
-        × (pieces_of text.now ≡ piece ∷ pieces_of p.1.now) × TellsView p.0 piece) }
+        × (pieces_of text.now ≡ piece ∷ pieces_of p.1.now) × TellsSpelled p.0 piece) }
     ensures utf8 { IfSome result (λ p. IsUtf8 p.1.now) }
 {
     if text.is_empty() {
@@ -68,14 +68,14 @@ fn first_of_text(text: &str) -> Option<(Result<LineView<'_>, LineFault>, &str)>
     if has_banned {
         return Some((Err(LineFault::BannedCharacter), after));
     }
-    Some((view_text(piece), after))
+    Some((spelled_text(piece), after))
 }
 
 /// What the first line of bytes without a mark is, and the lines behind it: those of its block are ready to be read.
 #[cold]
-fn first_of_blocks(bytes: &[u8]) -> Option<(Result<LineView<'_>, LineFault>, LineViews<'_>)>
+fn first_of_blocks(bytes: &[u8]) -> Option<(Result<SpelledLine<'_>, LineFault>, LineViews<'_>)>
     ensures { MatchOption result (pieces_of bytes.now ≡ []) (λ p. (piece : Bytes)
-        × (pieces_of bytes.now ≡ piece ∷ p.1) × TellsView p.0 piece) }
+        × (pieces_of bytes.now ≡ piece ∷ p.1) × TellsSpelled p.0 piece) }
 {
     let (block, unread) = split_block(bytes);
     let Ok(text) = simdutf8::basic::from_utf8(block) else {
@@ -88,7 +88,7 @@ fn first_of_blocks(bytes: &[u8]) -> Option<(Result<LineView<'_>, LineFault>, Lin
             pieces,
             unread,
         };
-        return Some((view_line(piece), lines));
+        return Some((spelled_line(piece), lines));
     };
     let Some((line, text)) = first_of_text(text) else {
         return None;
@@ -102,20 +102,20 @@ fn first_of_blocks(bytes: &[u8]) -> Option<(Result<LineView<'_>, LineFault>, Lin
 }
 
 impl<'a> Iterator for LineViews<'a> {
-    type Item = Result<LineView<'a>, LineFault>;
+    type Item = Result<SpelledLine<'a>, LineFault>;
 
     ghost next_gives = { YieldsLine };
 
     ghost remaining = { item_count (λ pieces. pieces) };
 
     #[inline(always)]
-    fn next(&mut self) -> Option<Result<LineView<'a>, LineFault>> {
+    fn next(&mut self) -> Option<Result<SpelledLine<'a>, LineFault>> {
         if let Some((line, after)) = first_of_text(self.text) {
             self.text = after;
             return Some(line);
         }
         if let Some(piece) = self.pieces.next() {
-            return Some(view_line(piece));
+            return Some(spelled_line(piece));
         }
         let Some((line, lines)) = first_of_blocks(self.unread) else {
             return None;

@@ -1,7 +1,8 @@
 // Writing lines in their canonical spelling.
-ghost use Rattle.std.specs.Prelude.{◌≡◌, ◌++◌, ◌∷◌, List, ℕ, [], OnOk, OnErr, IfOk, option_map};
+ghost use Rattle.std.specs.Prelude.{◌≡◌, true, ◌++◌, ◌∷◌, List, ℕ, [], OnOk, OnErr, IfOk, option_map};
 ghost use Rattle.ged_line.specs.Bytes.{Bytes, line_feed};
-ghost use Rattle.ged_line.specs.Lines.{xref_part};
+ghost use Rattle.ged_line.specs.Lines.{xref_part, is_line};
+ghost use Rattle.ged_line.specs.Files.{FileText};
 ghost use Rattle.ged_line.specs.Views.{viewed_value};
 ghost use Rattle.ged_line.specs.Spelling.{spelling, value_part, file_of};
 
@@ -48,6 +49,7 @@ fn append_value(value: ValueView<'_>, out: &mut Vec<u8>) -> Result<(), AllocErro
 fn append_line(view: &LineView<'_>, out: &mut Vec<u8>) -> Result<(), AllocError>
     ensures ok { OnOk result (out.new.items ≡ out.old.items ++ (spelling view.now ++ line_feed ∷ [])) }
     ensures kept { (more : Bytes) × (out.new.items ≡ out.old.items ++ more) }
+    ensures line { is_line view.now ≡ true }
 {
     let mut buffer = Buffer::new();
     out.extend_from_slice(buffer.format(view.level()).as_bytes())?;
@@ -64,6 +66,7 @@ fn append_line(view: &LineView<'_>, out: &mut Vec<u8>) -> Result<(), AllocError>
 pub fn write_view(view: &LineView<'_>, out: &mut Vec<u8>) -> Result<(), AllocError>
     ensures ok { OnOk result (out.new.items ≡ out.old.items ++ (spelling view.now ++ line_feed ∷ [])) }
     ensures err { OnErr result (out.new.items ≡ out.old.items) }
+    ensures line { is_line view.now ≡ true }
 {
     let start = out.len();
     let result = append_line(view, out);
@@ -78,13 +81,15 @@ pub fn write_view(view: &LineView<'_>, out: &mut Vec<u8>) -> Result<(), AllocErr
 pub fn write_line(line: &Line, out: &mut Vec<u8>) -> Result<(), AllocError>
     ensures ok { OnOk result (out.new.items ≡ out.old.items ++ (spelling line.now ++ line_feed ∷ [])) }
     ensures err { OnErr result (out.new.items ≡ out.old.items) }
+    ensures line { is_line line.now ≡ true }
 {
     write_view(&line.as_view(), out)
 }
 
 /// The byte order mark, and each line as [`write_line`] writes it. Grows.
 pub fn write_lines(alloc: Global, lines: &[Line]) -> Result<Vec<u8>, AllocError>
-    ensures { IfOk result (λ out. out.items ≡ file_of lines.now) }
+    ensures bytes { IfOk result (λ out. out.items ≡ file_of lines.now) }
+    ensures text { IfOk result (λ out. FileText lines.now out.items) }
 {
     let mut out = Vec::from_slice(alloc, &[0xEF, 0xBB, 0xBF])?;
     for line in lines {

@@ -10,8 +10,8 @@ use Rattle.ged_tree.specs.Documents.{are_at}
 use Rattle.ged_tree.specs.Places.{structure_at}
 use Rattle.ged_tree.specs.declared.payload.Payload.{Payload}
 use Rattle.ged_tree.specs.declared.payload.Payload.TheVariants.{Void, Pointer, Text}
-use Rattle.ged_link.specs.declared.links.Role.{Role}
-use Rattle.ged_link.specs.declared.links.Role.TheVariants.{Partner, Child}
+use Rattle.ged_link.specs.declared.pairs.Role.{Role}
+use Rattle.ged_link.specs.declared.pairs.Role.TheVariants.{Partner, Child}
 use Rattle.ged_link.specs.Links.{IsAmong, SomeIn, SomeTree}
 use Rattle.ged_link.specs.LinkFaults.{HasXref}
 use Rattle.ged_link.specs.Notices.{Link, links, PointsBack, IsUnanswered, IsOneWay}

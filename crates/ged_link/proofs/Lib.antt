@@ -1,4 +1,5 @@
 pub mod WalkLemmas
+pub mod PairLemmas
 pub mod PlaceCases
 pub mod LinkLemmas
 pub mod LawLemmas
@@ -6,3 +7,4 @@ pub mod RecordLemmas
 pub mod UseLemmas
 pub mod AnswerLemmas
 pub mod OneWayLemmas
+pub mod Deciding

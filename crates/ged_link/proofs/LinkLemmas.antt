@@ -172,7 +172,7 @@ unrepeated_distinct (tree s b n) h =
     h (1 + trees_count b + k.0) (name, 0, (omega (arith, k.1.0), rw (at_next s b n k.0) k.1.1), (omega arith, rw (at_first s b n) here), omega arith))
     (unrepeated_distinct n (λ place r. h (1 + trees_count b + place) (repeated_next s b n place r)))
 
-same_or_other : (a b : Bytes) → (a ≡ b) ⊎ (a ≡ b → ⊥)
+pub same_or_other : (a b : Bytes) → (a ≡ b) ⊎ (a ≡ b → ⊥)
 same_or_other a b = go (bytes_eq a b) (bytes_eq-Decides a b)
   where
     go : (same : Bool) → Decides same (a ≡ b) → (a ≡ b) ⊎ (a ≡ b → ⊥)

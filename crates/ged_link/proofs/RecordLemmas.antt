@@ -40,6 +40,10 @@ module _ (d : Trees) (e : ℕ) (h : e ≡ trees_count d) where
 pub whole_end : (d : Trees) (e : ℕ) → IsRun d 0 e → trees_between d 0 e ≡ d → e ≡ trees_count d
 whole_end d e run is = let f : 0 + trees_count d ≡ e = rw is at run.fills in omega arith
 
+-- a run without a tree is over
+pub run_over : (d : Trees) (p e : ℕ) → IsRun d p e → trees_between d p e ≡ none → p ≡ e
+run_over d p e run ends = let f : p + 0 ≡ e = rw ends at run.fills in omega arith
+
 pub empty_none : (records : RecordMap) → IsEmpty records → (name : Bytes) → get_by_text records name ≡ None
 empty_none records empty name = search rules
 

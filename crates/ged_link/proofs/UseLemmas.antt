@@ -1,8 +1,9 @@
 -- Marks of the records that pointers name.
-use Rattle.std.proofs.Common.{◌≡◌, ◌≢◌, ℕ, ◌+◌, ◌<◌, Bool, true, false, Option, Some, None, List, ◌∷◌, ◌⊎◌, inl, inr, length, refl, sym, subst, ◌∙◌, arith, get_or-set_other, slice_set, option_map, Bor}
+use Rattle.std.proofs.Common.{◌≡◌, ◌≢◌, ℕ, ◌+◌, ◌<◌, Bool, true, false, Option, Some, None, List, ◌∷◌, ◌⊎◌, inl, inr, length, refl, sym, subst, ◌∙◌, arith, get_or-set_other, slice_set, slice_index_or, replicate, zero, suc, ap, option_map, Bor}
 use Rattle.std.proofs.Math.Nat.{eq-or-lt_of_le}
 use Rattle.std.proofs.lemmas.Bool.{cases_lt}
 use Rattle.std.proofs.lemmas.Grind.{get_or-set_at}
+use Rattle.std.proofs.lemmas.List.{length-replicate}
 use Rattle.std.proofs.lemmas.Option.{slice_get_within}
 use Rattle.ged_line.specs.Bytes.{Bytes}
 use Rattle.ged_tree.specs.Trees.{Trees, trees_count, records_of}
@@ -17,7 +18,8 @@ use Rattle.std.specs.HashMap.{get_by_text}
 use Rattle.ged_link.specs.Links.{identifiers}
 use Rattle.ged_link.specs.LinkFaults.{HasXref, HasPointer, IsDangling, IsLowest}
 use Rattle.ged_link.specs.Indexes.{RecordMap, AreRecords, number_in}
-use Rattle.ged_link.specs.Resolving.{AreUsedBefore, NoneDanglesBefore, AreUsed}
+use Rattle.ged_link.specs.LinkWalks.{target}
+use Rattle.ged_link.specs.Resolving.{AreUsedBefore, NoneDanglesBefore, AreFollowed, AreUsed}
 use Rattle.ged_link.proofs.LinkLemmas.{named_at, at_named}
 
 same_or_not : (k n : ℕ) → (k ≡ n) ⊎ (k ≢ n)
@@ -48,6 +50,25 @@ pub not_pointer : (v : PayloadView) (further : List Bytes) (p : Payload) → pay
 not_pointer views.Void further p e other name h = absurd (let f : Void ≡ Pointer name = e ∙ h in cc)
 not_pointer (views.Pointer x) further p e other name h = other x refl
 not_pointer (views.Text first) further p e other name h = absurd (let f : Text (first.now ∷ further) ≡ Pointer name = e ∙ h in cc)
+
+pub no_target : (find : Bytes → Option ℕ) (v : PayloadView) (further : List Bytes) (p : Payload) → payload_of v further ≡ p → ((x : Bor Bytes) → v ≡ views.Pointer x → ⊥) → target find p ≡ None
+no_target find views.Void further p e other = ap (target find) (sym e)
+no_target find (views.Pointer x) further p e other = absurd (other x refl)
+no_target find (views.Text first) further p e other = ap (target find) (sym e)
+
+-- before the first pointer no record is marked
+none_marked : (count number : ℕ) → slice_index_or (replicate count false) number false ≡ true → ⊥
+none_marked zero zero e = cc
+none_marked zero (suc number) e = cc
+none_marked (suc count) zero e = cc
+none_marked (suc count) (suc number) e = none_marked count number e
+
+pub followed_start : (d : Trees) (count : ℕ) (used : List Bool) → used ≡ replicate count false → count ≡ length (identifiers (records_of d)) → AreFollowed d 0 used
+followed_start d count used is long = record {
+  long = ap (λ (us : List Bool). length us) is ∙ length-replicate count false ∙ long;
+  marked = λ number. (λ e. absurd (none_marked count number (rw is at e)), λ h. absurd (omega (arith, h.2.1)));
+  found = λ other before h. absurd (omega (arith, before));
+}
 
 module _ (d : Trees) (place : ℕ) (within : place < trees_count d) where
   -- a structure without a pointer changes nothing

@@ -1,6 +1,7 @@
 pub mod Links
 pub mod LinkFaults
 pub mod LinkLaws
+pub mod ResolvedLaws
 pub mod Notices
 pub mod Indexes
 pub mod LinkWalks

@@ -7,8 +7,8 @@ use Rattle.ged_tree.specs.Trees.{Structure, Trees, none, tree, trees_count}
 use Rattle.ged_tree.specs.Places.{structure_at}
 use Rattle.ged_tree.specs.declared.payload.Payload.{Payload}
 use Rattle.ged_tree.specs.declared.payload.Payload.TheVariants.{Void, Pointer, Text}
-use Rattle.ged_link.specs.declared.links.Role.{Role}
-use Rattle.ged_link.specs.declared.links.Role.TheVariants.{Partner, Child}
+use Rattle.ged_link.specs.declared.pairs.Role.{Role}
+use Rattle.ged_link.specs.declared.pairs.Role.TheVariants.{Partner, Child}
 
 abbrev pub pair_eq : ℕ × ℕ → ℕ × ℕ → Bool
 pair_eq x y = nat_eq x.0 y.0 && nat_eq x.1 y.1

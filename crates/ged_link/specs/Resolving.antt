@@ -1,11 +1,11 @@
 -- How far the walks of resolving have come; only private functions cite this.
-use Rattle.std.specs.Prelude.{◌≡◌, ℕ, ◌<◌, Bool, true, false, List, Some, ◌↔◌, if◌then◌else◌, slice_index_or}
+use Rattle.std.specs.Prelude.{◌≡◌, ℕ, ◌<◌, Bool, true, false, List, Some, ◌↔◌, if◌then◌else◌, slice_index_or, length}
 use Rattle.std.specs.HashMap.{get_by_text}
 use Rattle.std.specs.Str.{bytes_eq}
 use Rattle.ged_line.specs.Bytes.{Bytes}
-use Rattle.ged_tree.specs.Trees.{Trees}
+use Rattle.ged_tree.specs.Trees.{Trees, records_of}
 use Rattle.ged_link.specs.declared.index.RecordPlace.{RecordPlace}
-use Rattle.ged_link.specs.Links.{IsRecordNumber, IsUsed}
+use Rattle.ged_link.specs.Links.{identifiers, IsRecordNumber, IsUsed}
 use Rattle.ged_link.specs.LinkFaults.{HasXref, HasPointer, IsDangling}
 use Rattle.ged_link.specs.Indexes.{RecordMap, place_in, number_in}
 
@@ -26,6 +26,12 @@ AreUsedBefore d place used =
 -- no pointer before a place dangles
 abbrev pub NoneDanglesBefore : Trees → ℕ → Type 0
 NoneDanglesBefore d place = (other : ℕ) → other < place → IsDangling d other → ⊥
+
+-- all pointers before a place name records, and those are marked
+pub record AreFollowed (d : Trees) (place : ℕ) (used : List Bool) : Type 0 where
+  pub long : length used ≡ length (identifiers (records_of d))
+  pub marked : AreUsedBefore d place used
+  pub found : NoneDanglesBefore d place
 
 -- a record is marked exactly where some pointer names it
 abbrev pub AreUsed : Trees → List Bool → Type 0

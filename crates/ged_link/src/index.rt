@@ -1,5 +1,6 @@
 // The records of a document by their cross-reference identifiers.
 ghost use Rattle.std.specs.Prelude.{◌≡◌, ◌↔◌, ℕ, Some, true};
+ghost use Rattle.std.specs.HashMap.{get_by_text};
 ghost use Rattle.ged_tree.specs.Trees.{Trees};
 ghost use Rattle.ged_link.specs.Links.{IsRecordNumber, IsUsed};
 ghost use Rattle.ged_link.specs.LinkFaults.{HasXref};
@@ -62,11 +63,21 @@ impl Index {
     }
 }
 
+/// Where the record that has an identifier stands.
+pub(crate) fn find_record(
+    records: &IndexMap<String, RecordPlace>,
+    name: &str,
+) -> Option<RecordPlace>
+    ensures { result ≡ get_by_text records.now name.now }
+{
+    records.get(name).copied()
+}
+
 /// The number of the record that has an identifier.
-pub(crate) fn find_number(records: &IndexMap<String, RecordPlace>, name: &str) -> Option<usize>
+fn find_number(records: &IndexMap<String, RecordPlace>, name: &str) -> Option<usize>
     ensures { result ≡ number_in records.now name.now }
 {
-    let found = records.get(name)?;
+    let found = find_record(records, name)?;
     Some(found.number)
 }
 
@@ -74,6 +85,6 @@ pub(crate) fn find_number(records: &IndexMap<String, RecordPlace>, name: &str) -
 pub(crate) fn find_place(records: &IndexMap<String, RecordPlace>, name: &str) -> Option<usize>
     ensures { result ≡ place_in records.now name.now }
 {
-    let found = records.get(name)?;
+    let found = find_record(records, name)?;
     Some(found.place)
 }

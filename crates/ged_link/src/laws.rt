@@ -1,6 +1,7 @@
 // Laws of the definitions that the contracts of this crate cite. The functions do nothing: their contracts are proved.
 ghost use Rattle.ged_link.specs.LinkLaws.{ResolvedIsFaultless, OneLinkFault, OneWayHasPlace};
 ghost use Rattle.ged_link.specs.LinkLaws.{IdentifiersHavePlaces, OneRecordHasName};
+ghost use Rattle.ged_link.specs.ResolvedLaws.{ResolvedOrFault};
 
 /// A document's cross-references have no fault exactly where they are resolved.
 pub fn resolved_is_faultless()
@@ -26,4 +27,9 @@ pub fn identifiers_have_places()
 /// both.
 pub fn one_record_has_name()
     ensures { OneRecordHasName }
+{}
+
+/// A document's cross-references are resolved or have a fault.
+pub fn resolved_or_fault()
+    ensures { ResolvedOrFault }
 {}

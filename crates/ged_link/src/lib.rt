@@ -2,17 +2,19 @@
 #![tactic(auto)]
 
 mod fault;
+mod following;
 mod index;
 mod laws;
 mod links;
 mod notices;
+mod pairs;
 mod resolving;
 
 pub use fault::LinkFault;
 pub use index::Index;
 pub use laws::{
     identifiers_have_places, one_link_fault, one_record_has_name, one_way_has_place,
-    resolved_is_faultless,
+    resolved_is_faultless, resolved_or_fault,
 };
 pub use notices::{Notice, NoticeKind, first_one_way, one_way};
 pub use resolving::resolve;

@@ -1,30 +1,21 @@
 // Links between persons and families: those that the other record answers, and those in one direction only.
-ghost use Rattle.std.specs.Prelude.{◌≡◌, ◌<◌, ◌+◌, ℕ, IfOk, OnOk, nat_eq, ◌&&◌, ◌||◌, ◌++◌};
+ghost use Rattle.std.specs.Prelude.{◌≡◌, ◌<◌, ◌+◌, IfOk, OnOk, ◌++◌};
 ghost use Rattle.ged_tree.specs.Trees.{trees_count};
 ghost use Rattle.ged_tree.specs.Places.{structure_at};
 ghost use Rattle.ged_tree.specs.Runs.{trees_between, IsRun};
 ghost use Rattle.ged_link.specs.Indexes.{AreRecords, place_in};
-ghost use Rattle.ged_link.specs.LinkWalks.{pair_eq, role_eq, role_under, target, has_link_to, one_way_below, one_way_places};
+ghost use Rattle.ged_link.specs.LinkWalks.{role_under, target, one_way_below, one_way_places};
 ghost use Rattle.ged_link.specs.LinkWalks.{is_one_way as one_way_under, other_tag as tag_of_other};
-ghost use Rattle.ged_link.specs.PairSets.{pairs_have, ArePairs};
+ghost use Rattle.ged_link.specs.PairSets.{ArePairs};
 
 use crate::index::{RecordPlace, find_place};
+use crate::pairs::{Pairs, Role};
 use ged_tree::{Forest, PayloadView, end_of_all, next_in_run};
-use indexmap::{IndexMap, IndexSet};
+use indexmap::IndexMap;
 use std::alloc::{AllocError, Global};
 
-/// What a person is in a family that is linked with it (FamilySearch GEDCOM 7.0, "INDIVIDUAL_RECORD" and
-/// "FAMILY_RECORD").
-#[derive(Clone, Copy, Debug, PartialEq, Eq)]
-pub(crate) enum Role {
-    /// FAMS, which HUSB and WIFE answer.
-    Partner,
-    /// FAMC, which CHIL answers.
-    Child,
-}
-
 /// The role of the person that a structure directly under a record tells.
-fn role_of(record_tag: &str, tag: &str) -> Option<Role>
+pub(crate) fn role_of(record_tag: &str, tag: &str) -> Option<Role>
     ensures { result ≡ role_under record_tag.now tag.now }
 {
     if record_tag == "INDI" {
@@ -63,85 +54,6 @@ fn target_of<F: Forest>(
     }
 }
 
-/// The pairs of places of linked records, by the role: the one that points, and the one that it points to.
-#[derive(Drop)]
-struct Pairs {
-    partners: IndexSet<(usize, usize)>,
-    children: IndexSet<(usize, usize)>,
-}
-
-impl Pairs {
-    fn has(&self, role: Role, from: usize, to: usize) -> bool
-        ensures { result ≡ pairs_have self.now role (from, to) }
-    {
-        match role {
-            Role::Partner => self.partners.contains(&(from, to)),
-            Role::Child => self.children.contains(&(from, to)),
-        }
-    }
-
-    fn insert(&mut self, role: Role, from: usize, to: usize) -> Result<(), AllocError>
-        ensures { OnOk result ((other : Role) (pair : ℕ × ℕ) → pairs_have self.new other pair
-            ≡ ((role_eq other role && pair_eq pair (from, to)) || pairs_have self.old other pair)) }
-    {
-        match role {
-            Role::Partner => self.partners.insert((from, to))?,
-            Role::Child => self.children.insert((from, to))?,
-        };
-        Ok(())
-    }
-}
-
-/// Adds the pairs of a record and those that it links to.
-#[tactic(auto, using(crate::proofs::WalkLemmas::pairs))]
-fn add_pairs<F: Forest>(
-    forest: &F,
-    records: &IndexMap<String, RecordPlace>,
-    from: usize,
-    end: usize,
-    pairs: &mut Pairs,
-) -> Result<(), AllocError>
-    requires within { from < trees_count (F.trees forest.now) }
-    requires run { IsRun (F.trees forest.now) (from + 1) end }
-    ensures { OnOk result ((role : Role) (pair : ℕ × ℕ) → pairs_have pairs.new role pair
-        ≡ ((nat_eq pair.0 from && has_link_to (place_in records.now) role (structure_at (F.trees forest.now) from).tag pair.1 (trees_between (F.trees forest.now) (from + 1) end))
-        || pairs_have pairs.old role pair)) }
-{
-    let record_tag = forest.tag(from);
-    let mut place = from + 1;
-    while let Some(after) = next_in_run(forest, place, end) {
-        if let Some(role) = role_of(record_tag, forest.tag(place)) {
-            if let Some(other) = target_of(forest, records, place) {
-                pairs.insert(role, from, other)?;
-            }
-        }
-        place = after;
-    }
-    Ok(())
-}
-
-/// The pairs of all linked records.
-#[tactic(auto, using(crate::proofs::WalkLemmas::pairs))]
-fn find_pairs<F: Forest>(
-    alloc: Global,
-    forest: &F,
-    records: &IndexMap<String, RecordPlace>,
-) -> Result<Pairs, AllocError>
-    ensures { IfOk result (ArePairs (place_in records.now) (F.trees forest.now)) }
-{
-    let mut pairs = Pairs {
-        partners: IndexSet::new(alloc),
-        children: IndexSet::new(alloc),
-    };
-    let end = end_of_all(forest);
-    let mut place = 0;
-    while let Some(after) = next_in_run(forest, place, end) {
-        add_pairs(forest, records, place, after, &mut pairs)?;
-        place = after;
-    }
-    Ok(pairs)
-}
-
 /// The tag of the records that the links of persons, or of families, lead to.
 fn other_tag(record_tag: &str) -> &'static str
     ensures { result.now ≡ tag_of_other record_tag.now }
@@ -150,6 +62,7 @@ fn other_tag(record_tag: &str) -> &'static str
 }
 
 /// Whether a structure directly under a record is a link that the other record does not answer.
+#[tactic(auto, using(crate::proofs::WalkLemmas::not_one_way))]
 fn is_one_way<F: Forest>(
     forest: &F,
     records: &IndexMap<String, RecordPlace>,
@@ -163,14 +76,14 @@ fn is_one_way<F: Forest>(
     requires pairs { ArePairs (place_in records.now) (F.trees forest.now) pairs.now }
     ensures { result ≡ one_way_under (place_in records.now) (F.trees forest.now) (structure_at (F.trees forest.now) from).tag from (structure_at (F.trees forest.now) place) }
 {
+    let Some(other) = target_of(forest, records, place) else {
+        return false;
+    };
     let record_tag = forest.tag(from);
     let Some(role) = role_of(record_tag, forest.tag(place)) else {
         return false;
     };
-    let Some(other) = target_of(forest, records, place) else {
-        return false;
-    };
-    forest.tag(other) == other_tag(record_tag) && !pairs.has(role, other, from)
+    !pairs.has(role, other, from) && forest.tag(other) == other_tag(record_tag)
 }
 
 /// Adds the places of a record's links in one direction only.
@@ -200,22 +113,26 @@ fn push_one_way<F: Forest>(
     Ok(())
 }
 
-/// The places of all links in one direction only, in order.
+/// The places of all links in one direction only, in order. Only where there are some are the links gone through again.
 #[tactic(auto, using(crate::proofs::WalkLemmas::one_ways))]
 pub(crate) fn find_one_way<F: Forest>(
     alloc: Global,
     forest: &F,
     records: &IndexMap<String, RecordPlace>,
+    pairs: &Pairs,
 ) -> Result<Vec<usize>, AllocError>
     requires records { AreRecords (F.trees forest.now) records.now }
+    requires pairs { ArePairs (place_in records.now) (F.trees forest.now) pairs.now }
     ensures { IfOk result (λ places. places.items ≡ one_way_places (place_in records.now) (F.trees forest.now) 0 (F.trees forest.now)) }
 {
-    let pairs = find_pairs(alloc, forest, records)?;
     let mut places = Vec::new(alloc);
+    if pairs.are_answered() {
+        return Ok(places);
+    }
     let end = end_of_all(forest);
     let mut place = 0;
     while let Some(after) = next_in_run(forest, place, end) {
-        push_one_way(forest, records, &pairs, place, after, &mut places)?;
+        push_one_way(forest, records, pairs, place, after, &mut places)?;
         place = after;
     }
     Ok(places)

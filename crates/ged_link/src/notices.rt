@@ -16,7 +16,7 @@ pub enum NoticeKind {
     /// points to the other, whose record has none that points back (FamilySearch GEDCOM 7.0, "INDIVIDUAL_RECORD" and
     /// "FAMILY_RECORD").
     OneWay,
-    /// A standard tag that has no row where it stands.
+    /// A standard tag without a row, in a context whose tags the structure tables list.
     Unlisted,
 }
 

@@ -5,15 +5,16 @@ ghost use Rattle.ged_tree.specs.Trees.{records_of, trees_count};
 ghost use Rattle.ged_tree.specs.Documents.{is_document};
 ghost use Rattle.ged_tree.specs.Runs.{trees_between, IsRun};
 ghost use Rattle.ged_link.specs.Links.{Resolved, identifiers};
-ghost use Rattle.ged_link.specs.LinkFaults.{HasLinkFault, IsRepeated, IsDangling};
+ghost use Rattle.ged_link.specs.LinkFaults.{HasLinkFault, IsRepeated};
 ghost use Rattle.ged_link.specs.Indexes.{IsIndexOf, AreRecords};
-ghost use Rattle.ged_link.specs.Resolving.{AddsName, AreUsed};
+ghost use Rattle.ged_link.specs.Resolving.{AddsName};
 ghost use Rattle.ged_link.specs.declared.fault.LinkFault.TheVariants.{Memory};
 
 use crate::fault::LinkFault;
-use crate::index::{Index, RecordPlace, find_number};
+use crate::following::follow_pointers;
+use crate::index::{Index, RecordPlace};
 use crate::links::find_one_way;
-use ged_tree::{Forest, PayloadView, end_of_all, next_in_run};
+use ged_tree::{Forest, end_of_all, next_in_run};
 use indexmap::IndexMap;
 use std::alloc::{AllocError, Global};
 
@@ -25,8 +26,8 @@ pub fn resolve<F: Forest>(alloc: Global, forest: &F) -> Result<Index, LinkFault>
     ensures fault { IfErr result (λ fault. (fault ≡ Memory alloc_error) ⊎ HasLinkFault (F.trees forest.now) fault) }
 {
     let (records, count) = find_records(alloc, forest)?;
-    let used = find_used(alloc, forest, &records, count)?;
-    let Ok(one_way) = find_one_way(alloc, forest, &records) else {
+    let (used, pairs) = follow_pointers(alloc, forest, &records, count)?;
+    let Ok(one_way) = find_one_way(alloc, forest, &records, &pairs) else {
         return Err(LinkFault::Memory(AllocError));
     };
     Ok(Index {
@@ -93,32 +94,4 @@ fn find_records<F: Forest>(
         place = after;
     }
     Ok((records, number))
-}
-
-/// Which records some pointer names; or the fault of the first pointer that names none.
-fn find_used<F: Forest>(
-    alloc: Global,
-    forest: &F,
-    records: &IndexMap<String, RecordPlace>,
-    count: usize,
-) -> Result<Vec<bool>, LinkFault>
-    requires records { AreRecords (F.trees forest.now) records.now }
-    requires count { count ≡ length (identifiers (records_of (F.trees forest.now))) }
-    requires distinct { (place : ℕ) → IsRepeated (F.trees forest.now) place → ⊥ }
-    ensures used { IfOk result (λ used. AreUsed (F.trees forest.now) used.items) }
-    ensures found { IfOk result (λ _. (place : ℕ) → IsDangling (F.trees forest.now) place → ⊥) }
-    ensures fault { IfErr result (λ fault. (fault ≡ Memory alloc_error) ⊎ HasLinkFault (F.trees forest.now) fault) }
-{
-    let Ok(mut used) = vec![in alloc; false; count] else {
-        return Err(LinkFault::Memory(AllocError));
-    };
-    for place in 0..forest.size() {
-        if let PayloadView::Pointer(name) = forest.payload(place) {
-            let Some(number) = find_number(records, name) else {
-                return Err(LinkFault::Dangling(forest.line(place)));
-            };
-            used[number] = true;
-        }
-    }
-    Ok(used)
 }

@@ -1,0 +1,10 @@
+pub mod FileLaws
+pub mod Merging
+pub mod Noticing
+pub mod Told
+pub mod Strict
+pub mod LineNumbers
+pub mod OneList
+pub mod Accepting
+pub mod CanonLaws
+pub mod RunLemmas

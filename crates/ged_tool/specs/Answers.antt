@@ -3,25 +3,29 @@ use Rattle.std.specs.Prelude.{◌≡◌, ℕ}
 use Rattle.ged_line.specs.Bytes.{Bytes}
 use Rattle.ged_line.specs.Files.{IsRespelling, IsFirstFault}
 use Rattle.ged_line.specs.declared.fault.LineFault.{LineFault}
+use Rattle.ged_tree.specs.Trees.{Trees}
+use Rattle.ged_schema.specs.declared.profile.Profile.{Profile}
+use Rattle.ged_canon.specs.declared.edition.Edition.{Edition}
+use Rattle.ged_tool.specs.Accepted.{IsAccepted, FileFaultAt}
+use Rattle.ged_tool.specs.Canon.{IsCanon}
 use Rattle.ged_tool.specs.Faults.{file_fault_of}
+use Rattle.ged_tool.specs.Notices.{IsVerdict}
+use Rattle.ged_tool.specs.Shown.{IsShown}
 use Rattle.ged_tool.specs.declared.answers.Command.{Command}
-use Rattle.ged_tool.specs.declared.answers.Command.TheVariants.{Lines}
+use Rattle.ged_tool.specs.declared.answers.Command.TheVariants.{Lines, Check, Show, Canon}
 use Rattle.ged_tool.specs.declared.faults.FileFault.{FileFault}
-use Rattle.ged_tool.specs.declared.faults.Fault.{Fault}
-use Rattle.ged_tool.specs.declared.faults.Fault.TheVariants.{InFile, TooLong, ReadFailed, WriteFailed, Memory}
 
--- the text is the command's answer to a file of these bytes
-abbrev pub Answers : Command → Bytes → Bytes → Type 0
-Answers Lines bytes text = IsRespelling bytes text
+-- The text is the command's answer to a file of these bytes, under the profile and in the edition. Lines judges lines alone,
+-- and only Canon asks for the edition.
+abbrev pub Answers : Profile → Edition → Command → Bytes → Bytes → Type 0
+Answers profile edition Lines bytes text = IsRespelling bytes text
+Answers profile edition Check bytes text = (document : Trees) × IsAccepted profile bytes document × IsVerdict document text
+Answers profile edition Show bytes text = (document : Trees) × IsAccepted profile bytes document × IsShown document text
+Answers profile edition Canon bytes text = IsCanon profile edition bytes text
 
 -- the command has no answer to these bytes, but this fault at this line to tell
-abbrev pub FaultAt : Command → Bytes → ℕ → FileFault → Type 0
-FaultAt Lines bytes line kind = (fault : LineFault) × IsFirstFault bytes line fault × (kind ≡ file_fault_of fault)
-
--- why there is no answer: a fault of the file, or want of memory
-abbrev pub Refuses : Command → Bytes → Fault → Type 0
-Refuses command bytes (InFile line kind) = FaultAt command bytes line kind
-Refuses command bytes (Memory error) = Unit {0}
-Refuses command bytes TooLong = ⊥
-Refuses command bytes ReadFailed = ⊥
-Refuses command bytes WriteFailed = ⊥
+abbrev pub FaultAt : Profile → Command → Bytes → ℕ → FileFault → Type 0
+FaultAt profile Lines bytes line kind = (fault : LineFault) × IsFirstFault bytes line fault × (kind ≡ file_fault_of fault)
+FaultAt profile Check bytes line kind = FileFaultAt profile bytes line kind
+FaultAt profile Show bytes line kind = FileFaultAt profile bytes line kind
+FaultAt profile Canon bytes line kind = FileFaultAt profile bytes line kind

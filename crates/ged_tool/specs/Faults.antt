@@ -2,8 +2,12 @@
 use Rattle.std.specs.Prelude.{ℕ}
 use Rattle.ged_line.specs.declared.fault.LineFault.{LineFault}
 use Rattle.ged_line.specs.declared.fault.LineFault.TheVariants as of_line
+use Rattle.ged_tree.specs.declared.fault.TreeFault.{TreeFault}
+use Rattle.ged_tree.specs.declared.fault.TreeFault.TheVariants as of_tree
+use Rattle.ged_schema.specs.declared.fault.SchemaFault.{SchemaFault}
+use Rattle.ged_schema.specs.declared.fault.SchemaFault.TheVariants as of_tables
 use Rattle.ged_tool.specs.declared.faults.FileFault.{FileFault}
-use Rattle.ged_tool.specs.declared.faults.FileFault.TheVariants.{NotUtf8, BannedCharacter, EmptyLine, BadLevel, LevelTooLarge, BadXref, BadTag, BadValue, LevelJump, XrefNotAllowed, MisplacedCont, NoHeader, SecondHeader, TrailerNotEmpty, AfterTrailer, NoTrailer, DuplicateXref, DanglingPointer, WrongVersion, BadPayload, WrongTarget, TooMany, Missing}
+use Rattle.ged_tool.specs.declared.faults.FileFault.TheVariants.{NotUtf8, BannedCharacter, EmptyLine, BadLevel, LevelTooLarge, BadXref, BadTag, BadValue, LevelJump, XrefNotAllowed, MisplacedCont, NoHeader, SecondHeader, TrailerNotEmpty, AfterTrailer, NoTrailer, DuplicateXref, DanglingPointer, WrongVersion, BadPayload, WrongTarget, TooMany, Missing, OneWayLink, UnlistedTag}
 use Rattle.ged_tool.specs.declared.faults.Fault.{Fault}
 use Rattle.ged_tool.specs.declared.faults.Fault.TheVariants.{InFile, TooLong, ReadFailed, WriteFailed, Memory}
 use Rattle.ged_tool.specs.declared.faults.Outcome.{Outcome}
@@ -19,6 +23,28 @@ file_fault_of of_line.LevelTooLarge = LevelTooLarge
 file_fault_of of_line.BadXref = BadXref
 file_fault_of of_line.BadTag = BadTag
 file_fault_of of_line.BadValue = BadValue
+
+-- the fault of a document's lines, as a fault of their file
+abbrev pub file_fault_of_tree : TreeFault → FileFault
+file_fault_of_tree (of_tree.Line fault) = file_fault_of fault
+file_fault_of_tree of_tree.LevelJump = LevelJump
+file_fault_of_tree of_tree.XrefNotAllowed = XrefNotAllowed
+file_fault_of_tree of_tree.MisplacedCont = MisplacedCont
+file_fault_of_tree of_tree.NoHeader = NoHeader
+file_fault_of_tree of_tree.SecondHeader = SecondHeader
+file_fault_of_tree of_tree.TrailerNotEmpty = TrailerNotEmpty
+file_fault_of_tree of_tree.AfterTrailer = AfterTrailer
+file_fault_of_tree of_tree.NoTrailer = NoTrailer
+
+-- what the structure tables find wrong, as a fault of the file
+abbrev pub file_fault_of_tables : SchemaFault → FileFault
+file_fault_of_tables of_tables.WrongVersion = WrongVersion
+file_fault_of_tables of_tables.BadPayload = BadPayload
+file_fault_of_tables of_tables.WrongTarget = WrongTarget
+file_fault_of_tables of_tables.TooMany = TooMany
+file_fault_of_tables of_tables.Missing = Missing
+file_fault_of_tables of_tables.OneWayLink = OneWayLink
+file_fault_of_tables of_tables.UnlistedTag = UnlistedTag
 
 -- the number of a fault of the file
 abbrev pub file_fault_number : FileFault → ℕ
@@ -45,6 +71,8 @@ file_fault_number BadPayload = 20
 file_fault_number WrongTarget = 21
 file_fault_number TooMany = 22
 file_fault_number Missing = 23
+file_fault_number OneWayLink = 28
+file_fault_number UnlistedTag = 29
 
 -- the number by which a fault is told
 abbrev pub fault_number : Fault → ℕ

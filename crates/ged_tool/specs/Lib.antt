@@ -2,4 +2,14 @@ pub mod Devices
 pub mod Faults
 pub mod Answers
 pub mod Run
+pub mod Canon
+pub mod Headline
+pub mod Same
+pub mod SameRun
 pub mod Steps
+pub mod Shown
+pub mod Profiles
+pub mod Accepted
+pub mod Laws
+pub mod Notices
+pub mod Merges

@@ -1,8 +1,11 @@
 // What a run can answer, and the numbers by which a program tells it.
 ghost use Rattle.std.specs.Prelude.{◌≡◌};
-ghost use Rattle.ged_tool.specs.Faults.{file_fault_of, file_fault_number, fault_number, status_of};
+ghost use Rattle.ged_tool.specs.Faults.{file_fault_of, file_fault_of_tree, file_fault_of_tables};
+ghost use Rattle.ged_tool.specs.Faults.{file_fault_number, fault_number, status_of};
 
 use ged_line::LineFault;
+use ged_schema::SchemaFault;
+use ged_tree::TreeFault;
 use std::alloc::AllocError;
 use thiserror::Error;
 
@@ -37,7 +40,7 @@ pub enum FileFault {
     /// The level is more than one above that of the line before, or the first line's isn't 0 (Lines).
     #[error("LevelJump")]
     LevelJump,
-    /// A line that begins no record has a cross-reference identifier, which none may have here.
+    /// A cross-reference identifier above level 0, or on HEAD or TRLR at level 0 (Lines).
     #[error("XrefNotAllowed")]
     XrefNotAllowed,
     /// A CONT that continues no payload, or something below a CONT (Lines).
@@ -79,6 +82,14 @@ pub enum FileFault {
     /// A structure without a substructure that it must have (Structure Metasyntax).
     #[error("Missing")]
     Missing,
+    /// Under the strict profile: a link between a person and a family in one direction only (structures FAMS, FAMC,
+    /// HUSB, WIFE and CHIL).
+    #[error("OneWayLink")]
+    OneWayLink = 28,
+    /// Under the strict profile: a structure with a standard tag without a row, in a context whose tags the
+    /// structure tables list (Extensions).
+    #[error("UnlistedTag")]
+    UnlistedTag,
 }
 
 impl From<LineFault> for FileFault {
@@ -98,8 +109,42 @@ impl From<LineFault> for FileFault {
     }
 }
 
+impl From<TreeFault> for FileFault {
+    ghost from_gives = { λ fault kind. kind ≡ file_fault_of_tree fault };
+
+    fn from(fault: TreeFault) -> FileFault {
+        match fault {
+            TreeFault::Line(fault) => fault.into(),
+            TreeFault::LevelJump => FileFault::LevelJump,
+            TreeFault::XrefNotAllowed => FileFault::XrefNotAllowed,
+            TreeFault::MisplacedCont => FileFault::MisplacedCont,
+            TreeFault::NoHeader => FileFault::NoHeader,
+            TreeFault::SecondHeader => FileFault::SecondHeader,
+            TreeFault::TrailerNotEmpty => FileFault::TrailerNotEmpty,
+            TreeFault::AfterTrailer => FileFault::AfterTrailer,
+            TreeFault::NoTrailer => FileFault::NoTrailer,
+        }
+    }
+}
+
+impl From<SchemaFault> for FileFault {
+    ghost from_gives = { λ fault kind. kind ≡ file_fault_of_tables fault };
+
+    fn from(fault: SchemaFault) -> FileFault {
+        match fault {
+            SchemaFault::WrongVersion => FileFault::WrongVersion,
+            SchemaFault::BadPayload => FileFault::BadPayload,
+            SchemaFault::WrongTarget => FileFault::WrongTarget,
+            SchemaFault::TooMany => FileFault::TooMany,
+            SchemaFault::Missing => FileFault::Missing,
+            SchemaFault::OneWayLink => FileFault::OneWayLink,
+            SchemaFault::UnlistedTag => FileFault::UnlistedTag,
+        }
+    }
+}
+
 impl FileFault {
-    /// The number by which the fault is told: 1 to 23, in the order of the names.
+    /// The number by which the fault is told: 1 to 23 in the order of the names, then 28 and 29.
     fn number(self) -> u8
         ensures { result ≡ file_fault_number self }
     {
@@ -123,8 +168,8 @@ pub enum Fault {
 }
 
 impl Fault {
-    /// The number by which a fault is told: 1 to 23 for a fault of the file, 24 TooLong, 25 ReadFailed, 26 WriteFailed,
-    /// 27 Memory. Takes no memory.
+    /// The number by which a fault is told: 1 to 23, 28 and 29 for a fault of the file, 24 TooLong, 25 ReadFailed,
+    /// 26 WriteFailed, 27 Memory. Takes no memory.
     pub fn number(&self) -> u8
         ensures { result ≡ fault_number self.now }
     {

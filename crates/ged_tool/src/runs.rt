@@ -3,27 +3,19 @@ ghost use Rattle.std.specs.Prelude.{◌≡◌, ◌+◌, ◌<◌, ◌≤◌, ◌�
 ghost use Rattle.std.specs.Io.KnownBytes.{Consumes, Appends};
 ghost use Rattle.std.specs.Io.{StartsWith};
 ghost use Rattle.ged_line.specs.Bytes.{Bytes};
+ghost use Rattle.ged_tool.specs.Profiles.{profile_of, edition_of};
 ghost use Rattle.ged_tool.specs.Run.{IsWhole, IsRun};
 ghost use Rattle.ged_tool.specs.Steps.{StopsReading};
 
 use crate::answers::{Command, answer};
 use crate::devices::{Failed, Sink, Source};
 use crate::faults::{Fault, Outcome};
+use crate::settings::Settings;
+use ged_canon::Edition;
+use ged_schema::Profile;
 use std::alloc::{AllocError, Global};
 
-/// Reads a file to the reader's end, answers it by the command and writes the answer.
-///
-/// `limit` is the most bytes that the file may have, 1,073,741,824 at most. The reader must not have been read before,
-/// and neither device have failed. No more than `limit + 1` calls of read are made, and nothing is written unless the
-/// whole answer was made. Memory is taken for the file and for its answer.
-///
-/// The outcome is Done where the whole answer was written, and never Different. Else it is Failed, names neither of
-/// two files, and has
-/// - InFile where the command has a fault of the file to tell;
-/// - TooLong where more than `limit` bytes came;
-/// - ReadFailed exactly where the reader has failed;
-/// - WriteFailed exactly where the writer has failed; then the front of the answer was written;
-/// - Memory where no memory was found.
+/// What [`run_as`] does under the lenient profile, under which a notice refuses nothing, and in the first edition.
 pub fn run<R: Source, W: Sink>(
     alloc: Global,
     limit: u64,
@@ -39,14 +31,51 @@ pub fn run<R: Source, W: Sink>(
         ↔ (result ≡ Outcome.Failed None Fault.ReadFailed) }
     ensures write_failed { IsTrue (W.failed writer.new)
         ↔ (result ≡ Outcome.Failed None Fault.WriteFailed) }
-    ensures bytes { IsRun command limit (R.to_come reader.old) (R.to_come reader.new)
+    ensures bytes { IsRun Profile.Lenient Edition.First command limit (R.to_come reader.old) (R.to_come reader.new)
+        (W.taken writer.old) (W.taken writer.new) result }
+{
+    run_as(alloc, Settings::new(), limit, command, reader, writer)
+}
+
+/// Reads a file to the reader's end, answers it by the command under the profile and in the edition of the settings, and
+/// writes the answer.
+///
+/// `limit` is the most bytes that the file may have, 1,073,741,824 at most. The reader must not have been read before,
+/// and neither device have failed. No more than `limit + 1` calls of read are made, and nothing is written unless the
+/// whole answer was made. Memory is taken for the file, for its document and
+/// index where the command asks for them, and for the answer.
+///
+/// The outcome is Done where the whole answer was written, and never Different. Else it is Failed, names neither of
+/// two files, and has
+/// - InFile where the command has a fault of the file to tell;
+/// - TooLong where more than `limit` bytes came;
+/// - ReadFailed exactly where the reader has failed;
+/// - WriteFailed exactly where the writer has failed; then the front of the answer was written;
+/// - Memory where no memory was found.
+pub fn run_as<R: Source, W: Sink>(
+    alloc: Global,
+    settings: Settings,
+    limit: u64,
+    command: Command,
+    reader: &mut R,
+    writer: &mut W,
+) -> Outcome
+    requires limit { limit ≤ 1073741824 }
+    requires unread { R.reads reader.old ≡ 0 }
+    requires no_failure { (R.failed reader.old ≡ false) × (W.failed writer.old ≡ false) }
+    ensures calls { R.reads reader.new ≤ limit + 1 }
+    ensures read_failed { IsTrue (R.failed reader.new)
+        ↔ (result ≡ Outcome.Failed None Fault.ReadFailed) }
+    ensures write_failed { IsTrue (W.failed writer.new)
+        ↔ (result ≡ Outcome.Failed None Fault.WriteFailed) }
+    ensures bytes { IsRun (profile_of settings) (edition_of settings) command limit (R.to_come reader.old) (R.to_come reader.new)
         (W.taken writer.old) (W.taken writer.new) result }
 {
     let bytes = match read_whole(alloc, limit, reader) {
         Ok(bytes) => bytes,
         Err(fault) => return Outcome::Failed { which: None, fault },
     };
-    let text = match answer(alloc, command, &bytes) {
+    let text = match answer(alloc, settings, command, &bytes) {
         Ok(text) => text,
         Err(fault) => return Outcome::Failed { which: None, fault },
     };
@@ -60,7 +89,11 @@ pub fn run<R: Source, W: Sink>(
 }
 
 /// The whole file: reads to the reader's end, or until more than the limit came.
-fn read_whole<R: Source>(alloc: Global, limit: u64, reader: &mut R) -> Result<Vec<u8>, Fault>
+pub(crate) fn read_whole<R: Source>(
+    alloc: Global,
+    limit: u64,
+    reader: &mut R,
+) -> Result<Vec<u8>, Fault>
     requires limit { limit ≤ 1073741824 }
     requires unread { R.reads reader.old ≡ 0 }
     requires no_failure { R.failed reader.old ≡ false }
@@ -107,7 +140,7 @@ fn make_chunk(alloc: Global) -> Result<Vec<u8>, AllocError>
 }
 
 /// Writes all of a text, in as few calls as the writer allows.
-fn write_whole<W: Sink>(writer: &mut W, text: &[u8]) -> Result<(), Failed>
+pub(crate) fn write_whole<W: Sink>(writer: &mut W, text: &[u8]) -> Result<(), Failed>
     requires { W.failed writer.old ≡ false }
     ensures ok { OnOk result ((W.failed writer.new ≡ false)
         × Appends (W.taken writer.old) (W.taken writer.new) text.now) }

@@ -1,5 +1,10 @@
 // Runs over devices that fail, stop short or never end; and what faults are called.
+mod accepting;
+mod canonical_files;
+mod checking;
+mod comparing;
 mod fakes;
+mod growing;
 
 use super::{Command, Fault, FileFault, Input, Outcome, Output, Sink, Source, Which, run};
 use fakes::{Broken, Endless, make_pieces, make_room};
@@ -128,7 +133,8 @@ const FAULTS: &str =
     "1 NotUtf8; 2 BannedCharacter; 3 EmptyLine; 4 BadLevel; 5 LevelTooLarge; 6 BadXref; \
     7 BadTag; 8 BadValue; 9 LevelJump; 10 XrefNotAllowed; 11 MisplacedCont; 12 NoHeader; \
     13 SecondHeader; 14 TrailerNotEmpty; 15 AfterTrailer; 16 NoTrailer; 17 DuplicateXref; \
-    18 DanglingPointer; 19 WrongVersion; 20 BadPayload; 21 WrongTarget; 22 TooMany; 23 Missing; ";
+    18 DanglingPointer; 19 WrongVersion; 20 BadPayload; 21 WrongTarget; 22 TooMany; 23 Missing; \
+    28 OneWayLink; 29 UnlistedTag; ";
 
 #[test]
 fn faults_of_a_file_have_their_numbers_and_names(rt: HostRuntime) -> Result<(), Fail> {
@@ -156,6 +162,8 @@ fn faults_of_a_file_have_their_numbers_and_names(rt: HostRuntime) -> Result<(), 
         FileFault::WrongTarget,
         FileFault::TooMany,
         FileFault::Missing,
+        FileFault::OneWayLink,
+        FileFault::UnlistedTag,
     ];
     let mut told = String::new(rt.alloc());
     for kind in kinds {
@@ -171,6 +179,14 @@ fn outcomes_have_their_numbers_and_statuses(rt: HostRuntime) {
     let kind = FileFault::from(LineFault::LevelTooLarge);
     let rows = [
         (5, 1, Fault::InFile { line: 104, kind }),
+        (
+            29,
+            1,
+            Fault::InFile {
+                line: 104,
+                kind: FileFault::UnlistedTag,
+            },
+        ),
         (24, 3, Fault::TooLong),
         (25, 3, Fault::ReadFailed),
         (26, 3, Fault::WriteFailed),

@@ -3,7 +3,8 @@ use Rattle.std.proofs.Common.{◌≡◌, ℕ, suc, zero, ◌+◌, ◌<◌, ◌�
 use Rattle.std.proofs.lemmas.Bool.{lt-ltb, le-ltb, cases_lt}
 use Rattle.std.proofs.lemmas.List.{drop-drop, drop-map, drop_more, drop_all, length-drop, length-map}
 use Rattle.ged_tree.specs.declared.flat.FlatStructure.{FlatStructure}
-use Rattle.ged_tree.specs.Tables.{deeper, levels_of, IsClosed, end_from}
+use Rattle.ged_tree.specs.Rows.{deeper, levels_of, IsClosed}
+use Rattle.ged_tree.specs.Tables.{end_from}
 
 pub deeper_more : (level next : ℕ) (levels : List ℕ) → level < next → deeper level (next ∷ levels) ≡ 1 + deeper level levels
 deeper_more level next levels h = rw (lt-ltb level next h) refl
@@ -30,62 +31,50 @@ deeper_jump level next (x ∷ xs) h = elim (cases_lt next x) [
   | inr near ↦ rw (deeper_none next x xs near) (omega arith)
 ]
 
-drop_one : {A : Type 0} (x : A) (xs : List A) (k : ℕ) → drop (suc k) (x ∷ xs) ≡ drop k xs
-drop_one x xs k = refl
-
--- what is closed from a place on is closed from a later one on
-pub closed_later : (place k : ℕ) (structures : List FlatStructure) → IsClosed place structures → IsClosed (place + k) (drop k structures)
-closed_later place zero structures h = rw (let e : place + 0 ≡ place = omega arith in e) h
-closed_later place (suc k) [] h = refl
-closed_later place (suc k) (s ∷ rest) h =
-    let e : place + suc k ≡ (place + 1) + k = omega arith in
-    let tail : IsClosed (place + 1) rest = ap (drop 1) h in
-    rw e (closed_later (place + 1) k rest tail)
-
-abbrev pub first_of : List ℕ → ℕ
-first_of [] = 0
-first_of (x ∷ xs) = x
+-- what is closed is closed from a later place on
+pub closed_later : (k : ℕ) (structures : List FlatStructure) → IsClosed structures → IsClosed (drop k structures)
+closed_later zero structures h = h
+closed_later (suc k) [] h = tt
+closed_later (suc k) (s ∷ rest) h = closed_later k rest h.1
 
 module _ (items : List FlatStructure) (place level : ℕ) (s d : FlatStructure) (is : s ≡ get_or items place d) (h : place < length items) where
-  here : drop place items ≡ s ∷ drop (place + 1) items
+  pub here : drop place items ≡ s ∷ drop (place + 1) items
   here = drop_more items place d h ∙ ap (λ (x : FlatStructure). x ∷ drop (place + 1) items) (sym is)
 
   pub stop_here : s.level ≤ level → end_from level items place ≡ place
   stop_here e = rw (here, deeper_none level s.level (levels_of (drop (place + 1) items)) e) (omega arith)
 
-  module _ (closed : IsClosed place (drop place items)) where
-    unfolded : IsClosed place (s ∷ drop (place + 1) items)
-    unfolded = subst (λ (xs : List FlatStructure). IsClosed place xs) here closed
+  pub step_here : level < s.level → end_from level items place ≡ end_from level items (place + 1)
+  step_here e = rw (here, deeper_more level s.level (levels_of (drop (place + 1) items)) e) (omega arith)
 
-    pub after_is : s.after ≡ place + 1 + deeper s.level (levels_of (drop (place + 1) items))
-    after_is = ap first_of unfolded
+  pub below_fits : place + 1 + deeper level (levels_of (drop (place + 1) items)) ≤ length items
+  below_fits = omega (arith, h, deeper_fits level (levels_of (drop (place + 1) items)), length-map (drop (place + 1) items) (λ (x : FlatStructure). x.level), length-drop (place + 1) items)
 
-    pub closed_next : IsClosed (place + 1) (drop (place + 1) items)
-    closed_next = ap (drop 1) unfolded
+  module _ (closed : IsClosed (drop place items)) where
+    unfolded : IsClosed (s ∷ drop (place + 1) items)
+    unfolded = subst IsClosed here closed
 
-    pub jump_forth : place < s.after
-    jump_forth = omega (arith, after_is)
+    pub size_is : s.size < 4294967295 → s.size ≡ deeper s.level (levels_of (drop (place + 1) items))
+    size_is = unfolded.0
 
-    pub jump_within : s.after ≤ length items
-    jump_within = omega (arith, after_is, deeper_fits s.level (levels_of (drop (place + 1) items)), length-map (drop (place + 1) items) (λ (x : FlatStructure). x.level), length-drop (place + 1) items)
+    module _ (after : ℕ) (after_is : after ≡ place + 1 + deeper s.level (levels_of (drop (place + 1) items))) where
+      pub jump_forth : place < after
+      jump_forth = omega (arith, after_is)
 
-    past : drop (deeper s.level (levels_of (drop (place + 1) items))) (drop (place + 1) items) ≡ drop s.after items
-    past = drop-drop (deeper s.level (levels_of (drop (place + 1) items))) (place + 1) items ∙ ap (λ (k : ℕ). drop k items) (sym after_is)
+      past : drop (deeper s.level (levels_of (drop (place + 1) items))) (drop (place + 1) items) ≡ drop after items
+      past = drop-drop (deeper s.level (levels_of (drop (place + 1) items))) (place + 1) items ∙ ap (λ (k : ℕ). drop k items) (sym after_is)
 
-    pub jump_closed : IsClosed s.after (drop s.after items)
-    jump_closed =
-        let k = deeper s.level (levels_of (drop (place + 1) items)) in
-        let moved : IsClosed (place + 1 + k) (drop k (drop (place + 1) items)) = closed_later (place + 1) k (drop (place + 1) items) closed_next in
-        subst (λ (j : ℕ). IsClosed j (drop s.after items)) (sym after_is) (subst (λ (xs : List FlatStructure). IsClosed (place + 1 + k) xs) past moved)
+      pub jump_closed : IsClosed (drop after items)
+      jump_closed = subst IsClosed past (closed_later (deeper s.level (levels_of (drop (place + 1) items))) (drop (place + 1) items) unfolded.1)
 
-    pub jump_is : level < s.level → end_from level items place ≡ end_from level items s.after
-    jump_is e =
-        let r = drop (place + 1) items in
-        let k = deeper s.level (levels_of r) in
-        let jumped = deeper_jump level s.level (levels_of r) (omega arith) in
-        let seen : drop k (levels_of r) ≡ levels_of (drop s.after items) = drop-map (λ (x : FlatStructure). x.level) k r ∙ ap levels_of past in
-        let sum = rw seen at jumped in
-        rw (here, deeper_more level s.level (levels_of r) e) (omega (arith, after_is, sum))
+      pub jump_is : level < s.level → end_from level items place ≡ end_from level items after
+      jump_is e =
+          let r = drop (place + 1) items in
+          let k = deeper s.level (levels_of r) in
+          let jumped = deeper_jump level s.level (levels_of r) (omega arith) in
+          let seen : drop k (levels_of r) ≡ levels_of (drop after items) = drop-map (λ (x : FlatStructure). x.level) k r ∙ ap levels_of past in
+          let sum = rw seen at jumped in
+          rw (here, deeper_more level s.level (levels_of r) e) (omega (arith, after_is, sum))
 
 pub stop_end : (items : List FlatStructure) (place level : ℕ) → length items ≤ place → end_from level items place ≡ place
 stop_end items place level h = rw (drop_all place items h) (omega arith)

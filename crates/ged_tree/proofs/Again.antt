@@ -12,7 +12,8 @@ use Rattle.ged_tree.specs.declared.payload.Payload.{Payload}
 use Rattle.ged_tree.specs.declared.payload.Payload.TheVariants.{Void, Pointer, Text}
 use Rattle.ged_tree.specs.DocumentLines.{line_value, first_value, continued, structure_lines, lines_of}
 use Rattle.ged_tree.specs.TreeFaults.{is_cont}
-use Rattle.ged_tree.proofs.Growing.{forest, forest_here, forest_below, forest_above, further_of, payload_from, text_of}
+use Rattle.ged_tree.specs.Spelled.{payload_from}
+use Rattle.ged_tree.proofs.Growing.{forest, forest_here, forest_below, forest_above, further_of, text_of}
 
 -- trees, and others after them
 abbrev pub beside : Trees → Trees → Trees

@@ -1,6 +1,7 @@
 -- A closed table of a document's lines lists the document's structures.
 use Rattle.std.proofs.Common.{◌≡◌, ℕ, suc, ◌+◌, ◌-◌, ◌<◌, true, List, [], ◌∷◌, ◌++◌, length, take, drop, map, inl, inr, refl, sym, ◌∙◌, ap, arith, append_assoc, append-nil, length-append}
 use Rattle.std.specs.Borrow.{Bor}
+use Rattle.std.specs.List.{AllByRecursion}
 use Rattle.std.proofs.lemmas.List.{take_at, drop_at, drop-drop}
 use Rattle.std.proofs.lemmas.Bool.{cases_lt}
 use Rattle.ged_line.specs.Bytes.{Bytes}
@@ -8,17 +9,13 @@ use Rattle.ged_line.specs.Lines.{LineParts, line_parts}
 use Rattle.ged_tree.specs.Trees.{Structure, Trees, none, tree, trees_count, further_lines, line_count, lines_count}
 use Rattle.ged_tree.specs.Documents.{is_document, are_at}
 use Rattle.ged_tree.specs.DocumentLines.{line_value, first_value, continued, lines_of}
-use Rattle.ged_tree.specs.Views.{payload_of}
-use Rattle.ged_tree.specs.Rows.{Row, rows_of, rows_from, further_end, trees_of_rows, flat_rows, flat_trees, IsFlat}
-use Rattle.ged_tree.specs.Tables.{OwnLine, own_line, own_lines, own_value, further_texts, texts_of, line_text, deeper, levels_of, IsClosed}
+use Rattle.ged_tree.specs.Rows.{Row, rows_of, rows_from, further_end, trees_of_rows, flat_rows, flat_trees, IsFlat, IsSpelled, deeper, levels_of, IsClosed}
+use Rattle.ged_tree.specs.Tables.{OwnLine, own_line, own_lines, further_texts, texts_of, line_text}
 use Rattle.ged_tree.specs.declared.flat.FlatStructure.{FlatStructure}
-use Rattle.ged_tree.specs.declared.payload.Payload.TheVariants.{Text as Texts}
-use Rattle.ged_tree.specs.declared.payload.PayloadView.{PayloadView}
-use Rattle.ged_tree.specs.declared.payload.PayloadView.TheVariants.{Void, Pointer, Text}
-use Rattle.ged_tree.proofs.Growing.{payload_from}
+use Rattle.ged_tree.specs.Spelled.{payload_from}
 use Rattle.ged_tree.proofs.Again.{tree_is, payload_again, laid, document_placed}
 use Rattle.ged_tree.proofs.RowLemmas.{trees_of_rows_of}
-use Rattle.ged_tree.proofs.AfterLemmas.{deeper_more, deeper_none, first_of}
+use Rattle.ged_tree.proofs.AfterLemmas.{deeper_more, deeper_none}
 
 abbrev own_levels : List OwnLine → List ℕ
 own_levels rs = map (λ r. r.line.level) rs
@@ -29,21 +26,12 @@ next_start end [] = end
 next_start end (r ∷ rs) = r.start
 
 abbrev row_from : List Bytes → ℕ → ℕ → ℕ → OwnLine → Row
-row_from further place after count r = record { level = r.line.level; after = after; line = place + r.start + 1; further = count; structure = record { xref = r.line.xref; tag = r.line.tag; payload = payload_from r.line.value (take count (drop r.start further)) } }
+row_from further place below count r = record { level = r.line.level; after = place + (1 + below); line = place + r.start + 1; further = count; structure = record { xref = r.line.xref; tag = r.line.tag; payload = payload_from r.line.value (take count (drop r.start further)) } }
 
 -- the rows of the own lines of a closed table
 abbrev closed_rows : List Bytes → ℕ → ℕ → List OwnLine → List Row
 closed_rows further end place [] = []
-closed_rows further end place (r ∷ rs) = row_from further place (place + 1 + deeper r.line.level (own_levels rs)) (next_start end rs - r.start) r ∷ closed_rows further end (place + 1) rs
-
-text_same : (t : Bytes) (further : List Bytes) → Texts (t ∷ further) ≡ payload_from (line_value t) further
-text_same [] further = refl
-text_same (b ∷ bs) further = refl
-
-payload_same : (v : PayloadView) (further : List Bytes) → payload_of v further ≡ payload_from (own_value v) further
-payload_same Void further = refl
-payload_same (Pointer name) further = refl
-payload_same (Text first) further = text_same first.now further
+closed_rows further end place (r ∷ rs) = row_from further place (deeper r.line.level (own_levels rs)) (next_start end rs - r.start) r ∷ closed_rows further end (place + 1) rs
 
 levels_same : (items : List FlatStructure) → levels_of items ≡ own_levels (map own_line items)
 levels_same [] = refl
@@ -53,12 +41,11 @@ ends_same : (total : ℕ) (items : List FlatStructure) → further_end total ite
 ends_same total [] = refl
 ends_same total (s ∷ rest) = refl
 
-table_rows : (further : List Bytes) (place : ℕ) (items : List FlatStructure) → IsClosed place items → rows_from further place items ≡ closed_rows further (length further) place (map own_line items)
-table_rows further place [] c = refl
-table_rows further place (s ∷ rest) c =
-    let after = ap first_of c in
+table_rows : (further : List Bytes) (place : ℕ) (items : List FlatStructure) → rows_from further place items ≡ closed_rows further (length further) place (map own_line items)
+table_rows further place [] = refl
+table_rows further place (s ∷ rest) =
     let end = ends_same (length further) rest in
-    rw (after, levels_same rest, end, payload_same s.payload (take (next_start (length further) (map own_line rest) - s.further_start) (drop s.further_start further)), table_rows further (place + 1) rest (ap (drop 1) c)) refl
+    rw (levels_same rest, end, table_rows further (place + 1) rest) refl
 
 -- the further lines and the own lines of trees
 abbrev tree_texts : Trees → List Bytes
@@ -139,7 +126,7 @@ lines_rows further end k place count number (tree s b n) more_texts rs f m d z e
     let payload : payload_from (first_value s.payload) (take (length own) (drop count further)) ≡ s.payload = rw (split, take_at own (tb ++ (tn ++ more_texts)) (length own) refl) (payload_again k s.payload g.payload) in
     let inside = lines_rows further end (k + 1) (place + 1) c1 m1 b (tn ++ more_texts) (next ++ rs) g.below_is (omega (arith, m)) d1 stop_below e1 in
     let after = lines_rows further end k (place + (1 + trees_count b)) c2 m2 n more_texts rs g.next_is (omega (arith, m, lines_are b)) d2 z e2 in
-    let first : row_from further place (place + 1 + deeper k (own_levels (below ++ (next ++ rs)))) (next_start end (below ++ (next ++ rs)) - count) (record { line = line_parts k s.xref s.tag (first_value s.payload); start = count }) ≡ row_is k place number s b = rw (span, size, payload, place_is, m) refl in
+    let first : row_from further place (deeper k (own_levels (below ++ (next ++ rs)))) (next_start end (below ++ (next ++ rs)) - count) (record { line = line_parts k s.xref s.tag (first_value s.payload); start = count }) ≡ row_is k place number s b = rw (span, size, payload, m) refl in
     let joined : closed_rows further end (place + 1) (below ++ (next ++ rs)) ≡ (rows_of (k + 1) (place + 1) m1 b ++ rows_of k (place + (1 + trees_count b)) m2 n) ++ closed_rows further end (place + (1 + trees_count b + trees_count n)) rs =
     inside ∙ ap (λ (j : ℕ). rows_of (k + 1) (place + 1) m1 b ++ closed_rows further end j (next ++ rs)) place_is ∙ ap (λ (xs : List Row). rows_of (k + 1) (place + 1) m1 b ++ xs) (after ∙ ap (λ (j : ℕ). rows_of k (place + (1 + trees_count b)) m2 n ++ closed_rows further end j rs) last) ∙ sym (append_assoc (rows_of (k + 1) (place + 1) m1 b) (rows_of k (place + (1 + trees_count b)) m2 n) (closed_rows further end (place + (1 + trees_count b + trees_count n)) rs)) in
     rw (append_assoc below next rs, first, joined) refl
@@ -193,13 +180,13 @@ texts_of_trees k (tree s b n) rest f =
 
 -- a closed table of a document's lines lists the document's rows
 listed : (w : Trees) (items : List FlatStructure) (further : List (Bor Bytes)) → is_document w ≡ true → map own_line items ≡ own_lines 0 (lines_of 0 w) → texts_of further ≡ further_texts (lines_of 0 w)
-    → IsClosed 0 items → flat_rows items further ≡ rows_of 0 0 1 w
-listed w items further a r t c =
+    → flat_rows items further ≡ rows_of 0 0 1 w
+listed w items further a r t =
     let f = document_placed w a in
     let whole_lines : map own_line items ≡ tree_lines 0 0 w ++ [] = r ∙ ap (λ (ls : List LineParts). own_lines 0 ls) (sym (append-nil (lines_of 0 w))) ∙ own_of_trees 0 0 w [] f in
     let whole_texts : texts_of further ≡ tree_texts w ++ [] = t ∙ ap further_texts (sym (append-nil (lines_of 0 w))) ∙ texts_of_trees 0 w [] f in
     let size : length (texts_of further) ≡ 0 + length (tree_texts w) = (let q = ap (λ (xs : List Bytes). length xs) (whole_texts ∙ append-nil (tree_texts w)) in omega (arith, q)) in
-    table_rows (texts_of further) 0 items c
+    table_rows (texts_of further) 0 items
     ∙ ap (closed_rows (texts_of further) (length (texts_of further)) 0) whole_lines
     ∙ lines_rows (texts_of further) (length (texts_of further)) 0 0 0 1 w [] [] f refl whole_texts refl size
     ∙ append-nil (rows_of 0 0 1 w)
@@ -210,8 +197,8 @@ pub record Lists (items : List FlatStructure) (further : List (Bor Bytes)) (w : 
   pub seen : flat_trees items further ≡ w
 
 pub lists : (w : Trees) (items : List FlatStructure) (further : List (Bor Bytes)) → is_document w ≡ true → map own_line items ≡ own_lines 0 (lines_of 0 w) → texts_of further ≡ further_texts (lines_of 0 w)
-    → IsClosed 0 items → Lists items further w
-lists w items further a r t c =
-    let e : flat_rows items further ≡ rows_of 0 0 1 w = listed w items further a r t c in
+    → IsClosed items → AllByRecursion IsSpelled items → Lists items further w
+lists w items further a r t c spelled =
+    let e : flat_rows items further ≡ rows_of 0 0 1 w = listed w items further a r t in
     let seen : flat_trees items further ≡ w = ap (trees_of_rows 0) e ∙ trees_of_rows_of 0 0 1 w in
-    record { flat = record { listed = e ∙ ap (rows_of 0 0 1) (sym seen); document = ap is_document seen ∙ a }; seen = seen }
+    record { flat = record { listed = e ∙ ap (rows_of 0 0 1) (sym seen); document = ap is_document seen ∙ a; spelled = spelled; closed = c }; seen = seen }

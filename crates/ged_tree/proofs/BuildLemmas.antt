@@ -1,7 +1,6 @@
 -- What building answers of lines, and what of a file.
-use Rattle.std.proofs.Common.{◌≡◌, ℕ, ◌+◌, ◌<◌, ◌≤◌, List, [], ◌∷◌, ◌++◌, length, take, drop, get_or, cond, ◌==◌, Option, Some, None, inl, inr, refl, sym, subst, ◌∙◌, ap, arith, length-append, append_assoc, append-nil}
+use Rattle.std.proofs.Common.{◌≡◌, ℕ, ◌+◌, ◌<◌, ◌≤◌, List, [], ◌∷◌, ◌++◌, length, drop, cond, ◌==◌, Option, Some, None, inl, inr, refl, sym, subst, ◌∙◌, ap, arith, length-append, append_assoc, append-nil}
 use Rattle.std.proofs.lemmas.Bool.{cases_lt}
-use Rattle.std.proofs.lemmas.List.{length-take-le}
 use Rattle.ged_line.specs.Bytes.{Bytes}
 use Rattle.ged_line.specs.Lines.{LineParts, LineText}
 use Rattle.ged_line.specs.Faults.{IsFaultOf, line_fault_number}
@@ -13,29 +12,32 @@ use Rattle.ged_line.specs.declared.fault.LineFault.{LineFault}
 use Rattle.ged_line.proofs.LineLaws.{one_line, no_fault}
 use Rattle.ged_line.proofs.FileLaws.{one_cut, one_reading, no_stop, FileText-texts, AreTexts-more, length-AreTexts}
 use Rattle.ged_tree.specs.DocumentLines.{HasLines}
-use Rattle.ged_tree.specs.TreeFaults.{Pass, FirstFault, no_lines, past_last}
+use Rattle.ged_tree.specs.TreeFaults.{Pass, start, FirstFault, no_lines, past_last}
 use Rattle.ged_tree.specs.TreeFaults.{at_line as at_line_of}
-use Rattle.ged_tree.specs.Tables.{TellsLine}
+use Rattle.ged_tree.specs.Trees.{Trees}
 use Rattle.ged_tree.specs.FileFaults.{ComesAfter, FirstFaultIn, at_piece, at_text, at_end}
-use Rattle.ged_tree.specs.Building.{IsBuildFault, TellsBuild, ReadsAs, FaultyFileHasNone, FileFaultIsBuildFault}
+use Rattle.ged_tree.specs.Building.{HasFile, IsBuildFault, ReadsAs, FaultyFileHasNone, FileFaultIsBuildFault}
 use Rattle.ged_tree.specs.declared.fault.TreeFault.{TreeFault}
 use Rattle.ged_tree.specs.declared.fault.TreeFault.TheVariants.{Line, NoHeader, NoTrailer}
-use Rattle.ged_tree.specs.declared.fault.BuildFault.{BuildFault}
-use Rattle.ged_tree.specs.declared.fault.BuildFault.TheVariants.{At, Memory}
-use Rattle.ged_tree.proofs.FaultLemmas.{fault_here}
+use Rattle.ged_tree.specs.declared.fault.TreeAt.{TreeAt}
+use Rattle.ged_tree.proofs.Passing.{passes}
 use Rattle.ged_tree.proofs.FirstFaults.{none_of_faulty}
 
--- a fault at one of the lines is the first, whatever stands behind them
-within : (lines : List LineParts) (stop : Option LineAt) (line : ℕ) (fault : TreeFault) → FirstFault lines line fault → line ≤ length lines → IsBuildFault lines stop line fault
-within lines None line fault f h = f
-within lines (Some stop) line fault f h = inl (f, h)
+-- where the first fault stands past all lines, they pass
+past_pass : (lines : List LineParts) (line : ℕ) (fault : TreeFault) → FirstFault lines line fault → length lines < line → Pass lines
+past_pass _ _ _ (at_line_of before after line fault p e) h = absurd (omega (arith, h, length-append before (line ∷ after)))
+past_pass _ _ _ no_lines h = start
+past_pass _ _ _ (past_last lines p n t) h = p
 
-pub told_within : (lines : List LineParts) (stop : Option LineAt) (i : ℕ) (line : LineParts) → line ≡ get_or lines i line → i < length lines → (fault : BuildFault) → TellsLine fault (take i lines) line → TellsBuild fault lines stop
-told_within lines stop i line is h (At at) (pass, stands, number) =
-    let long : length (take i lines) ≡ i = length-take-le i lines (omega arith) in
-    let place : at.line ≡ i + 1 = omega (arith, number, long) in
-    rw place (within lines stop (i + 1) at.fault (fault_here lines i line is h at.fault pass stands) (omega arith))
-told_within lines stop i line is h (Memory error) t = tt
+-- there the fault of a stop is the first
+pub stop_first : (lines : List LineParts) (stop : LineAt) (line n : ℕ) (fault f : TreeFault) → FirstFault lines line fault → length lines < line → n ≡ stop.line → f ≡ Line stop.fault
+    → IsBuildFault lines (Some stop) n f
+stop_first lines stop line n fault f first h e g = inr (past_pass lines line fault first h, e, g)
+
+-- and before it, that of the lines
+pub line_first : (lines : List LineParts) (stop : Option LineAt) (line : ℕ) (fault : TreeFault) → FirstFault lines line fault → line ≤ length lines → IsBuildFault lines stop line fault
+line_first lines None line fault f h = f
+line_first lines (Some stop) line fault f h = inl (f, h)
 
 -- the lines of the first pieces are the first lines
 front_is : (front lines : List LineParts) (before after : List Bytes) → AreTexts front before → AreTexts lines (before ++ after) → (rest : List LineParts) × (lines ≡ front ++ rest) × AreTexts rest after
@@ -245,3 +247,14 @@ back file lines (Some stop) (bytes, m, s) line fault (inr (pass, e, g)) =
 
 pub file_fault : FileFaultIsBuildFault
 file_fault file lines stop read line fault = (λ f. forth file line fault (told_of file line fault f) lines stop read, λ f. back file lines stop read line fault f)
+
+-- what a table of the written lines answers is answered of the lines
+module _ (lines : List LineParts) (file : Bytes) (text : FileText lines file) where
+  pub written_fault : (at : TreeAt) → FirstFaultIn file at.line at.fault → FirstFault lines at.line at.fault
+  written_fault at f = (file_fault file lines None text at.line at.fault).0 f
+
+  pub written_has : (document : Trees) → HasFile document file → HasLines document lines
+  written_has document (others, own, has) = subst (λ (ls : List LineParts). HasLines document ls) (one_reading file others lines own text) has
+
+  pub written_stop : (document : Trees) (stop : LineAt) (n : ℕ) (f : TreeFault) → HasFile document file → n ≡ stop.line → f ≡ Line stop.fault → IsBuildFault lines (Some stop) n f
+  written_stop document stop n f has e g = inr ((passes document lines (written_has document has)).0, e, g)

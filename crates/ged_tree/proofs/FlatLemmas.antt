@@ -1,32 +1,44 @@
 -- A flat table lists a document's structures.
-use Rattle.std.proofs.Common.{take, drop, [], ◌∷◌, Some, slice_get, inl, inr, ◌≡◌, ℕ, suc, zero, ◌+◌, ◌-◌, ◌^◌, ◌<◌, ◌≤◌, List, length, get_or, map, sym, ◌∙◌, ap, refl, arith}
+use Rattle.std.proofs.Common.{take, drop, [], ◌∷◌, Some, slice_get, inl, inr, ◌≡◌, ℕ, suc, zero, ◌+◌, ◌-◌, ◌^◌, ◌<◌, ◌≤◌, List, length, get_or, map, sym, subst, ◌∙◌, ap, refl, arith}
 use Rattle.std.specs.Borrow.{Bor}
 use Rattle.std.specs.Option.{option_map}
+use Rattle.std.specs.List.{AllByRecursion}
 use Rattle.std.proofs.lemmas.List.{drop_more, drop_all, length-map, length-take, length-drop, get_or-take, get_or-drop}
 use Rattle.std.proofs.lemmas.Option.{slice_get-get_or, slice_get-map}
 use Rattle.std.proofs.Math.Nat.{min-le_left, min-le_right}
 use Rattle.ged_line.specs.Bytes.{Bytes}
+use Rattle.ged_line.specs.Lines.{Value, Empty, Void, Pointer, Text}
 use Rattle.std.proofs.lemmas.Bool.{cases_lt}
 use Rattle.ged_tree.specs.Trees.{Trees, none, tree, trees_count, further_lines, line_count, lines_count}
 use Rattle.ged_tree.specs.Places.{structure_at, line_at}
 use Rattle.ged_tree.specs.Views.{payload_of}
-use Rattle.ged_tree.specs.Rows.{Row, row_of, rows_from, further_end, flat_trees, IsFlat}
+use Rattle.ged_tree.specs.Spelled.{payload_from}
+use Rattle.ged_tree.specs.DocumentLines.{line_value}
+use Rattle.ged_tree.specs.Tables.{own_value}
+use Rattle.ged_tree.specs.Rows.{Row, row_of, rows_from, further_end, flat_trees, IsFlat, IsSpelled, line_shown}
 use Rattle.ged_tree.specs.declared.payload.PayloadView.{PayloadView}
-use Rattle.ged_tree.specs.declared.payload.PayloadView.TheVariants.{Void, Pointer, Text}
+use Rattle.ged_tree.specs.declared.payload.PayloadView.TheVariants as views
+use Rattle.ged_tree.specs.declared.payload.Payload.TheVariants.{Text as Texts}
 use Rattle.ged_tree.specs.declared.flat.FlatStructure.{FlatStructure}
 use Rattle.ged_tree.proofs.FoundLemmas.{line_first, line_below, line_next, few_of_document}
 use Rattle.ged_tree.proofs.RowLemmas.{length-rows_of, rows_at, row_at}
 
--- the first line as seen, with its own further lines
-pub view_again : (v : PayloadView) (further : List (Bytes)) → payload_of v (further_lines (payload_of v further)) ≡ payload_of v further
-view_again Void further = refl
-view_again (Pointer name) further = refl
-view_again (Text first) further = refl
+-- the payload as seen, with its own further lines
+pub view_again : (v : PayloadView) (value : Value) (further : List Bytes) → own_value v ≡ value
+    → payload_of v (further_lines (payload_from value further)) ≡ payload_from value further
+view_again views.Void value further e = rw (← e) refl
+view_again (views.Pointer name) value further e = rw (← e) refl
+view_again (views.Text first) value further e = rw (← e) (text_again first.now)
+  where
+    text_again : (text : Bytes) → Texts (text ∷ further_lines (payload_from (line_value text) further)) ≡ payload_from (line_value text) further
+    text_again [] = refl
+    text_again (b ∷ bs) = refl
 
-further_kept : (v : PayloadView) (lines : List (Bytes)) (n : ℕ) → n < length (further_lines (payload_of v lines)) → further_lines (payload_of v lines) ≡ lines
+further_kept : (v : Value) (lines : List (Bytes)) (n : ℕ) → n < length (further_lines (payload_from v lines)) → further_lines (payload_from v lines) ≡ lines
+further_kept Empty lines n h = refl
 further_kept Void lines n h = absurd (omega arith)
 further_kept (Pointer name) lines n h = absurd (omega arith)
-further_kept (Text first) lines n h = refl
+further_kept (Text text) lines n h = refl
 
 -- an element of a part of a list stands in the list
 part_at : (xs : List (Bytes)) (start count n : ℕ) → n < length (take count (drop start xs)) → (start + n < length xs) × (slice_get (take count (drop start xs)) n ≡ slice_get xs (start + n))
@@ -44,7 +56,7 @@ length-rows_from further place [] = refl
 length-rows_from further place (s ∷ rest) = ap suc (length-rows_from further (place + 1) rest)
 
 rows_from_at : (further : List Bytes) (place : ℕ) (items : List FlatStructure) (i : ℕ) (s : FlatStructure) (d : Row) → i < length items → s ≡ get_or items i s
-    → get_or (rows_from further place items) i d ≡ row_of further (place + i) (further_end (length further) (drop (i + 1) items)) s
+    → get_or (rows_from further place items) i d ≡ row_of further (place + i) (further_end (length further) (drop (i + 1) items)) s (drop (i + 1) items)
 rows_from_at further place [] i s d h e = absurd (omega (arith, h))
 rows_from_at further place (x ∷ rest) zero s d h e = (let z : place + 0 ≡ place = omega arith in rw (z, e) refl)
 rows_from_at further place (x ∷ rest) (suc i) s d h e =
@@ -57,6 +69,11 @@ end_some total xs i x h e = rw (drop_more xs i x h) (ap (λ (s : FlatStructure).
 
 end_none : (total : ℕ) (xs : List FlatStructure) (i : ℕ) → length xs ≤ i → further_end total (drop i xs) ≡ total
 end_none total xs i h = rw (drop_all i xs h) refl
+
+pub spelled_at : (xs : List FlatStructure) (i : ℕ) (s : FlatStructure) → i < length xs → s ≡ get_or xs i s → AllByRecursion IsSpelled xs → IsSpelled s
+spelled_at [] i s h e a = absurd (omega arith)
+spelled_at (x ∷ xs) zero s h e a = subst IsSpelled (sym e) a.0
+spelled_at (x ∷ xs) (suc i) s h e a = spelled_at xs i s (omega arith) e a.1
 
 -- where the further lines of the structure at a place end
 abbrev pub end_at : List FlatStructure → List (Bor (Bytes)) → ℕ → ℕ
@@ -81,15 +98,18 @@ module _ (structures : List FlatStructure) (further : List (Bor (Bytes))) (flat 
       ∙ length-rows_of 0 0 1 (flat_trees structures further)
 
   pub flat_at : (place : ℕ) (s : FlatStructure) → place < length structures → s ≡ get_or structures place s
-      → row_of (map (λ x. x.now) further) place (end_at structures further place) s ≡ row_at 0 0 1 (flat_trees structures further) place
+      → row_of (map (λ x. x.now) further) place (end_at structures further place) s (drop (place + 1) structures) ≡ row_at 0 0 1 (flat_trees structures further) place
   flat_at place s h e =
       let lines = map (λ (x : Bor (Bytes)). x.now) further in
-      let d : Row = row_of lines place 0 s in
+      let d : Row = row_of lines place 0 s [] in
       let z : 0 + place ≡ place = omega arith in
-      ap (λ (p : ℕ). row_of lines p (end_at structures further place) s) (sym z)
+      ap (λ (p : ℕ). row_of lines p (end_at structures further place) s (drop (place + 1) structures)) (sym z)
       ∙ sym (rows_from_at lines 0 structures place s d h e)
       ∙ ap (λ (es : List Row). get_or es place d) flat.listed
       ∙ rows_at 0 0 1 (flat_trees structures further) place d (omega (arith, flat_count))
+
+  pub flat_spelled : (place : ℕ) (s : FlatStructure) → place < length structures → s ≡ get_or structures place s → IsSpelled s
+  flat_spelled place s h e = spelled_at structures place s h e flat.spelled
 
   -- a structure's line is one of the document's
   pub flat_line : (place : ℕ) → place < length structures → line_at 1 (flat_trees structures further) place < 2 ^ 63
@@ -104,9 +124,9 @@ module _ (structures : List FlatStructure) (further : List (Bor (Bytes))) (flat 
       let lines = map (λ (x : Bor (Bytes)). x.now) further in
       let count = end_at structures further place - s.further_start in
       let part = take count (drop s.further_start lines) in
-      let same : further_lines (payload_of s.payload part) ≡ further_lines (structure_at (flat_trees structures further) place).payload = ap (λ (x : Row). further_lines x.structure.payload) (flat_at place s h e) in
-      let inside : n < length (further_lines (payload_of s.payload part)) = rw (← same) at k in
-      let kept : further_lines (payload_of s.payload part) ≡ part = further_kept s.payload part n inside in
+      let same : further_lines (payload_from (line_shown s).value part) ≡ further_lines (structure_at (flat_trees structures further) place).payload = ap (λ (x : Row). further_lines x.structure.payload) (flat_at place s h e) in
+      let inside : n < length (further_lines (payload_from (line_shown s).value part)) = rw (← same) at k in
+      let kept : further_lines (payload_from (line_shown s).value part) ≡ part = further_kept (line_shown s).value part n inside in
       let at = part_at lines s.further_start count n (rw kept at inside) in
       (omega (arith, at.0, mapped further), ap (λ (xs : List (Bytes)). slice_get xs n) (sym same ∙ kept) ∙ at.1 ∙ slice_get-map (λ (x : Bor (Bytes)). x.now) further (s.further_start + n))
 

@@ -11,8 +11,7 @@ use Rattle.ged_line.specs.Lines.{LineParts, line_parts, is_line, Value, is_value
 use Rattle.ged_line.specs.Lines as value
 use Rattle.ged_line.proofs.LineLaws.{line_is}
 use Rattle.ged_tree.specs.Trees.{Structure, Trees, none, tree, further_lines}
-use Rattle.ged_tree.specs.declared.payload.Payload.{Payload}
-use Rattle.ged_tree.specs.declared.payload.Payload.TheVariants.{Void, Pointer, Text}
+use Rattle.ged_tree.specs.Spelled.{payload_from}
 use Rattle.ged_tree.specs.DocumentLines.{line_value, first_value, continued, lines_of}
 use Rattle.ged_tree.specs.TreeFaults.{is_cont, is_header, is_trailer, is_reference, line_before, jumps, has_forbidden_xref, continues, is_misplaced_cont, is_below_cont, fault_after, Pass, start, more}
 
@@ -60,13 +59,6 @@ text_of (value.Text text) = text
 abbrev pub further_of : List LineParts → List Bytes
 further_of [] = []
 further_of (line ∷ lines) = cond (is_cont line) (text_of line.value ∷ further_of lines) []
-
--- the payload of a line and the further lines of its text
-abbrev pub payload_from : Value → List Bytes → Payload
-payload_from value.Empty further = Text ([] ∷ further)
-payload_from value.Void further = Void
-payload_from (value.Pointer name) further = Pointer name
-payload_from (value.Text text) further = Text (text ∷ further)
 
 abbrev pub structure_from : LineParts → List LineParts → Structure
 structure_from line rest = record { xref = line.xref; tag = line.tag; payload = payload_from line.value (further_of rest) }

@@ -18,7 +18,8 @@ use Rattle.ged_tree.specs.Documents.{is_payload_at, is_xref_at, is_structure_at,
 use Rattle.ged_tree.specs.declared.payload.Payload.TheVariants.{Text}
 use Rattle.ged_tree.specs.DocumentLines.{continued, structure_lines, lines_of}
 use Rattle.ged_tree.specs.TreeFaults.{is_cont, is_header, is_trailer, has_trailer, has_forbidden_xref}
-use Rattle.ged_tree.proofs.Growing.{Chain, forest, forest_cont, forest_here, forest_below, forest_above, text_of, further_of, payload_from, structure_from, continued_by, none_is, header_own, inner, whole}
+use Rattle.ged_tree.specs.Spelled.{payload_from}
+use Rattle.ged_tree.proofs.Growing.{Chain, forest, forest_cont, forest_here, forest_below, forest_above, text_of, further_of, structure_from, continued_by, none_is, header_own, inner, whole}
 
 -- at level 99 no CONT can follow
 no_room : (line : LineParts) (rest : List LineParts) → is_cont line ≡ false → line.level ≡ 99 → Chain (Some line) rest

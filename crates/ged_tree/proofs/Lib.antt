@@ -1,7 +1,10 @@
 pub mod PlaceLemmas
 pub mod FoundLemmas
 pub mod LineTests
+pub mod SpelledLemmas
 pub mod RowLemmas
+pub mod TagLemmas
+pub mod PartLemmas
 pub mod FlatLemmas
 pub mod EntryLemmas
 pub mod LineLemmas
@@ -24,3 +27,4 @@ pub mod CopyLemmas
 pub mod FlattenLemmas
 pub mod TakeLemmas
 pub mod FaultLemmas
+pub mod WholeFiles

@@ -1,7 +1,7 @@
 -- One more line in a table, and its end.
 use Rattle.std.proofs.Common.{◌≡◌, ℕ, suc, ◌+◌, ◌<◌, ◌^◌, Bool, true, false, ◌&&◌, ◌==◌, not, List, [], ◌∷◌, ◌++◌, length, map, None, refl, sym, subst, ◌∙◌, ap, arith, inl, inr, append-nil, length-append}
 use Rattle.std.specs.Prelude.{nat_lt}
-use Rattle.std.specs.List.{list_all, list_any}
+use Rattle.std.specs.List.{list_all, list_any, AllByRecursion}
 use Rattle.std.specs.Borrow.{Bor}
 use Rattle.std.proofs.lemmas.Bool.{both_ways, cases_Bool, ltb-false, or_parts, and_parts, and_from}
 use Rattle.std.proofs.lemmas.Bool.Decides.{nat_tests}
@@ -13,7 +13,8 @@ use Rattle.ged_tree.specs.Trees.{Trees}
 use Rattle.ged_tree.specs.DocumentLines.{lines_of, trailer_line, HasLines}
 use Rattle.ged_tree.specs.TreeFaults.{is_cont, is_trailer, is_empty, has_trailer, fault_after, Pass, more, FirstFault, no_lines, past_last}
 use Rattle.ged_tree.specs.Judging.{StandsFor}
-use Rattle.ged_tree.specs.Tables.{own_line, own_lines, further_texts, but_trailer, HoldsLines, IsPut, IsClosed}
+use Rattle.ged_tree.specs.Rows.{IsSpelled, IsClosed}
+use Rattle.ged_tree.specs.Tables.{own_line, own_lines, further_texts, but_trailer, HoldsLines, IsPut}
 use Rattle.ged_tree.specs.declared.flat.FlatStructure.{FlatStructure}
 use Rattle.ged_tree.specs.declared.table.TableBuilder.{TableBuilder}
 use Rattle.ged_tree.specs.declared.fault.TreeFault.TheVariants.{NoHeader, NoTrailer}
@@ -76,6 +77,7 @@ taken old mid new lines line h none is stands counted same also put =
       counted = omega (arith, put.count, counted, h.counted, length-append lines (line ∷ []));
       structures = put.structures ∙ rw (same, also, h.structures, count, split) (sym (own_lines-append 0 body last));
       further = put.further ∙ rw (also, h.further, split) (sym (further_texts-append body last));
+      spelled = put.spelled (rw same h.spelled);
     }
 
 -- what stands past the last line
@@ -93,8 +95,8 @@ pub record Finished (lines : List LineParts) (items : List FlatStructure) (furth
   pub lists : Lists items further shown
 
 pub finished : (builder : TableBuilder) (lines : List LineParts) (items : List FlatStructure) → HoldsLines builder lines → has_trailer lines ≡ true → length lines < 2 ^ 63
-    → map own_line items ≡ map own_line builder.structures.items → IsClosed 0 items → Finished lines items builder.further.items
-finished builder lines items h t few rows closed =
+    → map own_line items ≡ map own_line builder.structures.items → IsClosed items → AllByRecursion IsSpelled items → Finished lines items builder.further.items
+finished builder lines items h t few rows closed spelled =
     let m = made lines h.pass t h.are_lines few in
     let told : lines ≡ lines_of 0 m.0 ++ trailer_line ∷ [] = m.1.told in
     let end = ended lines h.pass t in
@@ -104,5 +106,5 @@ finished builder lines items h t few rows closed =
     record {
       shown = m.0;
       has = m.1;
-      lists = lists m.0 items builder.further.items m.1.allowed (rows ∙ h.structures ∙ ap (own_lines 0) body) (h.further ∙ ap further_texts body) closed;
+      lists = lists m.0 items builder.further.items m.1.allowed (rows ∙ h.structures ∙ ap (own_lines 0) body) (h.further ∙ ap further_texts body) closed spelled;
     }

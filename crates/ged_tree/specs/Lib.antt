@@ -10,6 +10,7 @@ pub mod Entries
 pub mod Paths
 pub mod PathLines
 pub mod Laws
+pub mod Spelled
 pub mod Rows
 pub mod TreeCodes
 pub mod TreeSizes
@@ -20,3 +21,4 @@ pub mod FileFaults
 pub mod Building
 pub mod Copies
 pub mod Tables
+pub mod WholeFiles

@@ -1,14 +1,14 @@
 -- The own lines and the further lines of a table's structures; only the table's own functions cite this.
-use Rattle.std.specs.Prelude.{◌≡◌, ℕ, ◌+◌, nat_lt, not, if◌then◌else◌, true, List, [], ◌∷◌, ◌++◌, map, drop, length, Some}
-use Rattle.std.specs.Option.{option_copied}
+use Rattle.std.specs.Prelude.{◌≡◌, ℕ, ◌+◌, not, if◌then◌else◌, true, List, [], ◌∷◌, ◌++◌, map, drop, length, Some}
 use Rattle.std.specs.Borrow.{Bor}
-use Rattle.std.specs.List.{filter, list_all}
+use Rattle.std.specs.List.{filter, list_all, AllByRecursion}
 use Rattle.ged_line.specs.Bytes.{Bytes}
-use Rattle.ged_line.specs.Lines.{LineParts, line_parts, is_line, Value}
+use Rattle.ged_line.specs.Lines.{LineParts, is_line, Value}
 use Rattle.ged_line.specs.Lines as value
 use Rattle.ged_tree.specs.DocumentLines.{line_value}
 use Rattle.ged_tree.specs.TreeFaults.{is_cont, is_trailer, Pass, fault_after}
 use Rattle.ged_tree.specs.Judging.{StandsFor}
+use Rattle.ged_tree.specs.Rows.{line_shown, IsSpelled, deeper, levels_of}
 use Rattle.ged_tree.specs.declared.fault.BuildFault.{BuildFault}
 use Rattle.ged_tree.specs.declared.fault.BuildFault.TheVariants.{At, Memory}
 use Rattle.ged_tree.specs.declared.payload.PayloadView.{PayloadView}
@@ -36,7 +36,7 @@ pub record OwnLine : Type 0 where
 
 abbrev pub own_line : FlatStructure → OwnLine
 own_line s = record {
-  line = line_parts s.level (option_copied s.xref) s.tag.now (own_value s.payload);
+  line = line_shown s;
   start = s.further_start;
 }
 
@@ -55,26 +55,6 @@ further_texts (line ∷ lines) = if is_cont line then line_text line.value ∷ f
 abbrev pub texts_of : List (Bor Bytes) → List Bytes
 texts_of further = map (λ line. line.now) further
 
--- how many of the levels at the front are greater
-abbrev pub deeper : ℕ → List ℕ → ℕ
-deeper level [] = 0
-deeper level (next ∷ levels) = if nat_lt level next then 1 + deeper level levels else 0
-
--- for each level the first place after it that has no greater one, where the first level stands at a place
-abbrev pub afters : ℕ → List ℕ → List ℕ
-afters place [] = []
-afters place (level ∷ levels) = (place + 1 + deeper level levels) ∷ afters (place + 1) levels
-
-abbrev pub levels_of : List FlatStructure → List ℕ
-levels_of structures = map (λ s. s.level) structures
-
-abbrev pub afters_of : List FlatStructure → List ℕ
-afters_of structures = map (λ s. s.after) structures
-
--- each structure from a place on has its place after
-abbrev pub IsClosed : ℕ → List FlatStructure → Type 0
-IsClosed place structures = afters_of structures ≡ afters place (levels_of structures)
-
 -- the first place from a place on that has no greater level
 abbrev pub end_from : ℕ → List FlatStructure → ℕ → ℕ
 end_from level structures place = place + deeper level (levels_of (drop place structures))
@@ -91,6 +71,7 @@ pub record HoldsLines (builder : TableBuilder) (lines : List LineParts) : Type 0
   pub counted : builder.count ≡ length lines
   pub structures : map own_line builder.structures.items ≡ own_lines 0 (but_trailer lines)
   pub further : texts_of builder.further.items ≡ further_texts (but_trailer lines)
+  pub spelled : AllByRecursion IsSpelled builder.structures.items
 
 -- a line more: its structure or its further line, where it is not TRLR
 pub record IsPut (line : LineParts) (old new : TableBuilder) : Type 0 where
@@ -99,6 +80,7 @@ pub record IsPut (line : LineParts) (old new : TableBuilder) : Type 0 where
   pub structures : map own_line new.structures.items
       ≡ map own_line old.structures.items ++ own_lines (length old.further.items) (but_trailer (line ∷ []))
   pub further : texts_of new.further.items ≡ texts_of old.further.items ++ further_texts (but_trailer (line ∷ []))
+  pub spelled : AllByRecursion IsSpelled old.structures.items → AllByRecursion IsSpelled new.structures.items
 
 -- the fault is the lowest that stands at a line put after lines without a fault; of want of memory nothing is said
 abbrev pub TellsLine : BuildFault → List LineParts → LineParts → Type 0

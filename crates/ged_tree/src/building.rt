@@ -1,14 +1,37 @@
 // The document of lines.
 ghost use Rattle.std.specs.Prelude.{◌≡◌, None, IfOk, IfErr};
 ghost use Rattle.ged_tree.specs.DocumentLines.{HasLines};
-ghost use Rattle.ged_tree.specs.Building.{TellsBuild};
+ghost use Rattle.ged_tree.specs.TreeFaults.{FirstFault};
+ghost use Rattle.ged_tree.specs.declared.fault.TreeFault.TheVariants.{Line};
+ghost use Rattle.ged_tree.specs.Building.{TellsBuild, IsBuildFault};
 
 use crate::copying::document_of;
 use crate::document::Document;
 use crate::fault::{BuildFault, TreeAt, TreeFault};
-use crate::table::TableBuilder;
-use ged_line::Lines;
+use crate::flattening::flatten;
+use ged_line::{LineAt, Lines, write_lines};
 use std::alloc::Global;
+
+fn fault_of_stop(stop: LineAt) -> TreeAt
+    ensures line { result.line ≡ stop.line }
+    ensures fault { result.fault ≡ Line stop.fault }
+{
+    TreeAt {
+        line: stop.line,
+        fault: TreeFault::Line(stop.fault),
+    }
+}
+
+/// The first fault of lines and of where reading them stopped, by the first of the lines alone.
+fn first_fault(at: TreeAt, lines: &Lines) -> TreeAt
+    requires { FirstFault lines.now.lines.items at.line at.fault }
+    ensures { IsBuildFault lines.now.lines.items lines.now.stop result.line result.fault }
+{
+    match lines.stop {
+        Some(stop) if at.line > lines.lines.len() as u64 => fault_of_stop(stop),
+        _ => at,
+    }
+}
 
 /// The document that has these lines, where reading them did not stop.
 ///
@@ -19,23 +42,18 @@ pub fn build(alloc: Global, lines: &Lines) -> Result<Document, BuildFault>
     ensures whole { IfOk result (λ _. lines.now.stop ≡ None) }
     ensures fault { IfErr result (λ fault. TellsBuild fault lines.now.lines.items lines.now.stop) }
 {
-    let mut table = TableBuilder::new(alloc);
-    for line in &lines.lines {
-        if let Err(fault) = table.take(&line.as_view()) {
-            return Err(fault);
-        }
-    }
-    if let Some(stop) = lines.stop {
-        let fault = TreeFault::Line(stop.fault);
-        return Err(BuildFault::At(TreeAt {
-            line: stop.line,
-            fault,
-        }));
-    }
-    let flat = match table.finish() {
-        Ok(flat) => flat,
-        Err(at) => return Err(BuildFault::At(at)),
+    let file = match write_lines(alloc, lines.lines.as_slice()) {
+        Ok(file) => file,
+        Err(error) => return Err(BuildFault::Memory(error)),
     };
+    let flat = match flatten(alloc, file.as_slice()) {
+        Ok(flat) => flat,
+        Err(BuildFault::At(at)) => return Err(BuildFault::At(first_fault(at, lines))),
+        Err(BuildFault::Memory(error)) => return Err(BuildFault::Memory(error)),
+    };
+    if let Some(stop) = lines.stop {
+        return Err(BuildFault::At(fault_of_stop(stop)));
+    }
     match document_of(alloc, &flat) {
         Ok(document) => Ok(document),
         Err(error) => Err(BuildFault::Memory(error)),

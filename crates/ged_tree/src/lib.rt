@@ -5,6 +5,7 @@
 #![tactic(auto)]
 
 mod building;
+mod closing;
 mod copying;
 mod document;
 mod document_lines;
@@ -21,6 +22,7 @@ mod paths;
 mod payload;
 mod table;
 mod tree_laws;
+mod whole_files;
 
 pub use building::build;
 pub use copying::document_of;
@@ -43,6 +45,7 @@ pub use tree_laws::{
     are_lines, document_or_fault, faulty_file_fails, faulty_has_none, none_shared,
     one_fault_in_file, one_first_fault, one_list, pass_is_document,
 };
+pub use whole_files::document_or_fault_of_file;
 
 #[cfg(test)]
 mod tests;

@@ -1,16 +1,17 @@
 // The table of a document's structures, made line by line.
-ghost use Rattle.std.specs.Prelude.{◌≡◌, ◌≤◌, ◌<◌, ◌^◌, ◌++◌, ◌∷◌, [], List, MatchResult, IfOk, map, drop, length};
-ghost use Rattle.ged_line.specs.Lines.{LineParts};
+ghost use Rattle.std.specs.Prelude.{◌≡◌, ◌≤◌, ◌<◌, ◌+◌, ◌^◌, ◌++◌, ◌∷◌, [], List, MatchResult, IfOk, length, decimal};
+ghost use Rattle.std.specs.List.{AllByRecursion};
+ghost use Rattle.ged_line.specs.Lines.{LineParts, LineText, xref_part};
+ghost use Rattle.ged_tree.specs.Rows.{line_shown, IsSpelled};
 ghost use Rattle.ged_tree.specs.DocumentLines.{HasLines};
 ghost use Rattle.ged_tree.specs.TreeFaults.{FirstFault};
-ghost use Rattle.ged_tree.specs.Tables.{line_text, own_value, own_line, IsClosed, end_from};
-ghost use Rattle.ged_tree.specs.Tables.{HoldsLines, IsPut, TellsLine};
+ghost use Rattle.ged_tree.specs.Tables.{line_text, HoldsLines, IsPut, TellsLine};
 
+use crate::closing::close;
 use crate::fault::{BuildFault, TreeAt, TreeFault};
-use crate::flat::{Flat, FlatStructure};
+use crate::flat::{Flat, FlatStructure, digits_of_level};
 use crate::judge::{Judge, is_cont, is_trailer};
-use crate::payload::PayloadView;
-use ged_line::{LineView, ValueView};
+use ged_line::{LineView, SpelledLine, ValueView};
 use std::alloc::{AllocError, Global};
 
 fn text_of_line<'a>(line: &LineView<'a>) -> &'a str
@@ -22,57 +23,50 @@ fn text_of_line<'a>(line: &LineView<'a>) -> &'a str
     }
 }
 
-/// The payload that begins on a line.
-fn payload_of_line<'a>(line: &LineView<'a>) -> PayloadView<'a>
-    ensures { own_value result ≡ line.now.value }
+/// Where the tag of a line begins in the text that spells the line, in bytes, or the greatest number where the line has
+/// a long identifier.
+fn start_of_tag(line: &LineView<'_>) -> usize
+    ensures short { length (xref_part line.now.xref) < 256
+        → result ≡ length (decimal line.now.level) + 1 + length (xref_part line.now.xref) }
+    ensures long { 256 ≤ length (xref_part line.now.xref) → 256 ≤ result }
 {
-    match line.value() {
-        ValueView::Empty => PayloadView::Text(""),
-        ValueView::Void => PayloadView::Void,
-        ValueView::Pointer(name) => PayloadView::Pointer(name),
-        ValueView::Text(text) => PayloadView::Text(text),
+    let first = digits_of_level(line.level()) + 1;
+    let Some(name) = line.xref() else {
+        return first;
+    };
+    if name.len() > 255 {
+        return usize::MAX;
+    }
+    first + name.len() + 3
+}
+
+/// A tag's start and length as a structure keeps them: where one is too large, the length is 0.
+fn kept_tag(start: usize, length: usize) -> (u8, u8)
+    ensures true_ones { 0 < result.1 → (result.0 ≡ start) × (result.1 ≡ length) × (start < 256) }
+    ensures small_ones { start < 256 → length < 256 → (result.0 ≡ start) × (result.1 ≡ length) }
+{
+    match (u8::try_from(start), u8::try_from(length)) {
+        (Ok(start), Ok(length)) => (start, length),
+        _ => (0, 0),
     }
 }
 
 /// The structure that begins on a line, before its table is closed.
-fn structure_of_line<'a>(line: &LineView<'a>, further_start: usize) -> FlatStructure<'a>
-    ensures line { (own_line result).line ≡ line.now }
+fn structure_of_line<'a>(spelled: &SpelledLine<'a>, further_start: usize) -> FlatStructure<'a>
+    requires { LineText spelled.now.line spelled.now.text.now }
+    ensures line { line_shown result ≡ spelled.now.line }
+    ensures spelled { IsSpelled result }
     ensures start { result.further_start ≡ further_start }
 {
+    let line = &spelled.line;
+    let (tag_start, tag_length) = kept_tag(start_of_tag(line), line.tag().len());
     FlatStructure {
-        level: line.level(),
-        after: 0,
-        tag: line.tag(),
-        xref: line.xref(),
-        payload: payload_of_line(line),
+        text: spelled.text,
         further_start,
-    }
-}
-
-/// The first place from a place on whose level is not greater, where those from it on have their place after.
-fn next_place(structures: &[FlatStructure<'_>], place: usize, level: u8) -> usize
-    requires within { place ≤ length structures.now }
-    requires closed { IsClosed place (drop place structures.now) }
-    ensures { result ≡ end_from level structures.now place }
-{
-    let mut next = place;
-    while next < structures.len() && structures[next].level > level {
-        next = structures[next].after;
-    }
-    next
-}
-
-/// Gives each structure its place after.
-fn close(structures: &mut Vec<FlatStructure<'_>>)
-    ensures rows { map own_line structures.new.items ≡ map own_line structures.old.items }
-    ensures closed { IsClosed 0 structures.new.items }
-{
-    let mut place = structures.len();
-    while place > 0 {
-        place -= 1;
-        let mut structure = structures[place];
-        structure.after = next_place(structures.as_slice(), place + 1, structure.level);
-        structures[place] = structure;
+        size: 0,
+        level: line.level(),
+        tag_start,
+        tag_length,
     }
 }
 
@@ -99,12 +93,14 @@ impl<'a> TableBuilder<'a> {
     }
 
     /// Takes one more line, or answers the lowest fault that stands at it.
-    pub(crate) fn take(&mut self, line: &LineView<'a>) -> Result<(), BuildFault>
-        requires { self.now.count < 2 ^ 63 }
+    pub(crate) fn take(&mut self, spelled: &SpelledLine<'a>) -> Result<(), BuildFault>
+        requires few { self.now.count < 2 ^ 63 }
+        requires text { LineText spelled.now.line spelled.now.text.now }
         ensures { (lines : List LineParts) → HoldsLines self.old lines → MatchResult result
-            (λ _. HoldsLines self.new (lines ++ line.now ∷ []))
-            (λ fault. TellsLine fault lines line.now) }
+            (λ _. HoldsLines self.new (lines ++ spelled.now.line ∷ []))
+            (λ fault. TellsLine fault lines spelled.now.line) }
     {
+        let line = &spelled.line;
         // That its parts are a line's is what `level` tells.
         let _level = line.level();
         self.count += 1;
@@ -112,16 +108,18 @@ impl<'a> TableBuilder<'a> {
             let line = self.count;
             return Err(BuildFault::At(TreeAt { line, fault }));
         }
-        match self.push(line) {
+        match self.push(spelled) {
             Ok(()) => Ok(()),
             Err(error) => Err(BuildFault::Memory(error)),
         }
     }
 
     /// Adds the structure or the further line of the last line that was taken; TRLR adds none.
-    fn push(&mut self, line: &LineView<'a>) -> Result<(), AllocError>
-        ensures { IfOk result (λ _. IsPut line.now self.old self.new) }
+    fn push(&mut self, spelled: &SpelledLine<'a>) -> Result<(), AllocError>
+        requires { LineText spelled.now.line spelled.now.text.now }
+        ensures { IfOk result (λ _. IsPut spelled.now.line self.old self.new) }
     {
+        let line = &spelled.line;
         if is_trailer(line) {
             return Ok(());
         }
@@ -130,7 +128,7 @@ impl<'a> TableBuilder<'a> {
             return Ok(());
         }
         let start = self.further.len();
-        self.structures.push(structure_of_line(line, start))?;
+        self.structures.push(structure_of_line(spelled, start))?;
         Ok(())
     }
 

@@ -282,3 +282,32 @@ fn takes_levels_up_to_99(rt: HostRuntime) -> Result<(), Fail> {
     assert_eq!(rt; built_of(alloc, &deeper)?.err(), Some(told));
     Ok(())
 }
+
+#[test]
+fn tells_identifiers_and_tags_of_any_length(rt: HostRuntime) -> Result<(), Fail> {
+    let alloc = rt.alloc();
+    for length in [1, 248, 249, 250, 252, 253, 254, 255, 256, 300] {
+        let mut name = String::new(alloc);
+        let mut tag = String::from_str(alloc, "_")?;
+        for _ in 0..length {
+            name.push('X')?;
+            tag.push('T')?;
+        }
+        let file = format!(in alloc;
+            "0 HEAD\n1 GEDC\n2 VERS 7.0\n0 @{name}@ NOTE @@x\n1 {tag} @{name}@\n0 TRLR\n"
+        )?;
+        let Ok(flat) = table_of(alloc, file.as_bytes())? else {
+            assert!(rt; false, "the file has a table");
+            return Ok(());
+        };
+        let size = flat.size();
+        assert_eq!(rt; size, 5);
+        assert_eq!(rt; flat.tag(3), "NOTE");
+        assert_eq!(rt; flat.xref(3), Some(name.as_str()));
+        assert_eq!(rt; flat.payload(3), PayloadView::Text("@x"));
+        assert_eq!(rt; flat.tag(4), tag.as_str());
+        assert!(rt; flat.xref(4).is_none());
+        assert_eq!(rt; flat.payload(4), PayloadView::Pointer(name.as_str()));
+    }
+    Ok(())
+}

@@ -1,4 +1,4 @@
--- Ages: their parts, and the texts that spell them (FamilySearch GEDCOM 7.0, "Ages").
+-- Ages: their parts, and the texts that spell them (FamilySearch GEDCOM 7.0, "Age").
 use Rattle.std.specs.Prelude.{◌≡◌, ℕ, List, [], ◌∷◌, ◌++◌, ◌<◌, ◌⊎◌, Option, Some, None, IsTrue, IfSome, length, codes}
 use Rattle.ged_value.specs.Words.{Bytes, is_integer, joined}
 

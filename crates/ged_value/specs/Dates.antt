@@ -1,4 +1,4 @@
--- Dates: their parts, and the words that spell them (FamilySearch GEDCOM 7.0, "Dates").
+-- Dates: their parts, and the words that spell them (FamilySearch GEDCOM 7.0, "Date").
 use Rattle.std.specs.Prelude.{◌≡◌, ℕ, Bool, true, false, List, [], ◌∷◌, ◌++◌, ◌&&◌, ◌||◌, ◌⊎◌, Option, Some, None, is_some, IsTrue, map, not, nat_le, if◌then◌else◌, codes}
 use Rattle.std.specs.Option.{option_map_or, option_to_list}
 use Rattle.std.specs.Str.{bytes_eq}

@@ -1,5 +1,5 @@
 -- The word of the Gregorian calendar, which is the default, so a date means the same without it (FamilySearch GEDCOM
--- 7.0, "Dates").
+-- 7.0, "Date").
 use Rattle.std.specs.Prelude.{◌≡◌, Bool, not, List, ◌∷◌, ◌++◌, filter}
 use Rattle.std.specs.Str.{bytes_eq}
 use Rattle.ged_value.specs.Words.{Bytes, words_of}

@@ -1,4 +1,4 @@
--- The kinds of payloads: their words, and which payloads are of a kind (FamilySearch GEDCOM 7.0, "Data Types").
+-- The kinds of payloads: their words, and which payloads are of a kind (FamilySearch GEDCOM 7.0, "Data types").
 use Rattle.std.specs.Prelude.{◌≡◌, Bool, true, false, [], ◌++◌, ◌⊎◌, IsTrue, codes, ⊤}
 use Rattle.ged_value.specs.Words.{Bytes, is_integer}
 use Rattle.ged_value.specs.Enumerations.{sexes, pedigrees, statuses, name_types, is_of_set, is_of_any_set}

@@ -1,4 +1,4 @@
--- Periods and date values: their parts, and the words that spell them (FamilySearch GEDCOM 7.0, "Dates").
+-- Periods and date values: their parts, and the words that spell them (FamilySearch GEDCOM 7.0, "Date").
 use Rattle.std.specs.Prelude.{◌≡◌, List, [], ◌∷◌, ◌++◌, codes}
 use Rattle.ged_value.specs.Words.{Bytes, joined}
 use Rattle.ged_value.specs.Dates.{DateParts, SpellsDate}

@@ -1,4 +1,4 @@
--- Texts and the words of a payload, and tests on them (FamilySearch GEDCOM 7.0, "Data Types").
+-- Texts and the words of a payload, and tests on them (FamilySearch GEDCOM 7.0, "Data types").
 use Rattle.std.specs.Prelude.{ℕ, ◌+◌, ◌-◌, ◌*◌, Bool, false, List, [], ◌∷◌, ◌&&◌, ◌||◌, ◌==◌, nat_lt, length}
 use Rattle.std.specs.List.{list_all, list_any, slice_split, join_with_byte}
 use Rattle.std.specs.Char.{is_ascii_digit, is_ascii_uppercase}

@@ -10,7 +10,7 @@ ghost use Rattle.ged_value.specs.AgeViews.{age_parts, unit_seen, sign_seen};
 use crate::split::words_of;
 use crate::words::is_integer;
 
-/// How the real age compares with the numbers of an age (FamilySearch GEDCOM 7.0, "Ages").
+/// How the real age compares with the numbers of an age (FamilySearch GEDCOM 7.0, "Age").
 #[derive(Clone, Copy, Debug, PartialEq, Eq)]
 pub enum Bound {
     /// `<`: it was less.
@@ -19,7 +19,7 @@ pub enum Bound {
     Greater,
 }
 
-/// An age, as slices of the text that it was read from (FamilySearch GEDCOM 7.0, "Ages").
+/// An age, as slices of the text that it was read from (FamilySearch GEDCOM 7.0, "Age").
 ///
 /// Each number is one digit or more, of any length, without the letter behind it. The empty text has none of the parts;
 /// every other has a number at least.
@@ -98,7 +98,7 @@ fn age_at<'a>(words: &[&'a str]) -> Option<Age<'a>>
 
 /// The age that a text spells, or `None` exactly where it spells none: the empty text, or an optional `<` or `>` and
 /// one to four numbers with their letters, in the order `y`, `m`, `w`, `d`, with single spaces between the words. The
-/// parts are slices of the text. Takes no memory (FamilySearch GEDCOM 7.0, "Ages").
+/// parts are slices of the text. Takes no memory (FamilySearch GEDCOM 7.0, "Age").
 pub fn read_age(text: &str) -> Option<Age<'_>>
     ensures { Reads result age_parts (λ parts. AgeText parts text.now) }
 {

@@ -12,7 +12,7 @@ ghost use Rattle.ged_value.specs.Views.{calendar_name, date_parts};
 
 use crate::words::{is_extension_tag, is_integer, is_standard_tag, small_number};
 
-/// A calendar of the standard, or one of an extension (FamilySearch GEDCOM 7.0, "Dates").
+/// A calendar of the standard, or one of an extension (FamilySearch GEDCOM 7.0, "Date").
 #[derive(Clone, Copy, Debug, PartialEq, Eq)]
 pub enum Calendar<'a> {
     /// `GREGORIAN`, the calendar of a date that names none.
@@ -27,7 +27,7 @@ pub enum Calendar<'a> {
     Extension(&'a str),
 }
 
-/// A date, as slices of the text that it was read from (FamilySearch GEDCOM 7.0, "Dates").
+/// A date, as slices of the text that it was read from (FamilySearch GEDCOM 7.0, "Date").
 ///
 /// A number is one digit or more, of any length. Its leading zeros have no meaning.
 #[derive(Clone, Copy, Debug, PartialEq, Eq)]

@@ -56,7 +56,7 @@ impl<'a> Iterator for Words<'a> {
 
 /// The words of a text between single spaces, in order, without each `GREGORIAN`. In a text that
 /// [`read_date`](crate::read_date) or [`read_period`](crate::read_period) reads this is the word of the default
-/// calendar. The words are slices of the text. Takes no memory (FamilySearch GEDCOM 7.0, "Dates").
+/// calendar. The words are slices of the text. Takes no memory (FamilySearch GEDCOM 7.0, "Date").
 pub fn without_default(text: &str) -> Words<'_>
     ensures { result ≡ without_default text.now }
 {

@@ -12,7 +12,7 @@ use crate::value::{read_date, read_period};
 use crate::words::{is_extension_tag, is_integer};
 
 /// What a payload may be. Unless a kind says otherwise, its payloads are texts of one line, and neither pointers nor
-/// texts of several lines (FamilySearch GEDCOM 7.0, "Data Types").
+/// texts of several lines (FamilySearch GEDCOM 7.0, "Data types").
 #[derive(Clone, Copy, Debug, PartialEq, Eq)]
 pub enum Kind {
     /// The empty payload.

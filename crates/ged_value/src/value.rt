@@ -12,7 +12,7 @@ ghost use Rattle.ged_value.specs.ValueViews.{period_parts, value_parts};
 use crate::date::{Date, date_at};
 use crate::split::{around, words_of};
 
-/// How long something lasted (FamilySearch GEDCOM 7.0, "Dates").
+/// How long something lasted (FamilySearch GEDCOM 7.0, "Date").
 #[derive(Clone, Copy, Debug, PartialEq, Eq)]
 pub enum Period<'a> {
     /// The empty text.
@@ -25,7 +25,7 @@ pub enum Period<'a> {
     FromTo(Date<'a>, Date<'a>),
 }
 
-/// A date with what is known of it, or a period (FamilySearch GEDCOM 7.0, "Dates").
+/// A date with what is known of it, or a period (FamilySearch GEDCOM 7.0, "Date").
 #[derive(Clone, Copy, Debug, PartialEq, Eq)]
 pub enum DateValue<'a> {
     /// A period, the empty one among them.
@@ -99,7 +99,7 @@ fn value_at<'a>(words: &[&'a str]) -> Option<DateValue<'a>>
 }
 
 /// The period that a text spells, or `None` exactly where it spells none: the empty text, or one or two dates behind
-/// `FROM` and `TO`. The parts are slices of the text. Takes no memory (FamilySearch GEDCOM 7.0, "Dates").
+/// `FROM` and `TO`. The parts are slices of the text. Takes no memory (FamilySearch GEDCOM 7.0, "Date").
 pub fn read_period(text: &str) -> Option<Period<'_>>
     ensures { Reads result period_parts (λ parts. PeriodText parts text.now) }
 {
@@ -108,7 +108,7 @@ pub fn read_period(text: &str) -> Option<Period<'_>>
 
 /// The date value that a text spells, or `None` exactly where it spells none: a period, a date, or a date or two behind
 /// keywords, with single spaces between the words. The parts are slices of the text. Takes no memory (FamilySearch
-/// GEDCOM 7.0, "Dates").
+/// GEDCOM 7.0, "Date").
 pub fn read_date(text: &str) -> Option<DateValue<'_>>
     ensures { Reads result value_parts (λ parts. DateValueText parts text.now) }
 {

@@ -4,9 +4,15 @@ use std::fs::{Files, Metadata, OpenFile, OpenOptions};
 use std::io;
 use std::io::{ErrorKind, Read, Seek, SeekFrom, Write};
 
-/// A file system of one file. Its reads end in an error where `fails` says so.
+/// A file system of a few files.
 #[derive(Clone, Copy)]
 pub(super) struct Shelf<'a> {
+    pub(super) entries: &'a [Entry<'a>],
+}
+
+/// A file with its name. Its reads end in an error where `fails` says so.
+#[derive(Clone, Copy)]
+pub(super) struct Entry<'a> {
     pub(super) name: &'a str,
     pub(super) bytes: &'a [u8],
     pub(super) fails: bool,
@@ -69,13 +75,15 @@ impl<'a> Files for Shelf<'a> {
 
     fn open_file(&self, how: &OpenOptions, path: &str) -> io::Result<Book<'a>> {
         how.check()?;
-        if path != self.name {
-            return Err(io::Error::from(ErrorKind::NotFound));
+        for entry in self.entries {
+            if path == entry.name {
+                return Ok(Book {
+                    rest: entry.bytes,
+                    fails: entry.fails,
+                });
+            }
         }
-        Ok(Book {
-            rest: self.bytes,
-            fails: self.fails,
-        })
+        Err(io::Error::from(ErrorKind::NotFound))
     }
 
     fn open_dir(&self, _path: &str) -> io::Result<Book<'a>> {

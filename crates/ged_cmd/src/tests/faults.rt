@@ -5,7 +5,7 @@ use ged_tool::{Fault, FileFault, Outcome, Which};
 use std::alloc::AllocError;
 use std::test::Fail;
 
-const OF_A_FILE: [(FileFault, &str); 23] = [
+const OF_A_FILE: [(FileFault, &str); 25] = [
     (FileFault::NotUtf8, "fault 1 at line 104: NotUtf8\n"),
     (
         FileFault::BannedCharacter,
@@ -62,6 +62,11 @@ const OF_A_FILE: [(FileFault, &str); 23] = [
     ),
     (FileFault::TooMany, "fault 22 at line 104: TooMany\n"),
     (FileFault::Missing, "fault 23 at line 104: Missing\n"),
+    (FileFault::OneWayLink, "fault 28 at line 104: OneWayLink\n"),
+    (
+        FileFault::UnlistedTag,
+        "fault 29 at line 104: UnlistedTag\n",
+    ),
 ];
 
 #[test]

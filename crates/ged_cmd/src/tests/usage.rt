@@ -20,6 +20,10 @@ fn says(bytes: &[u8], beginning: &str, usage: &str) -> bool {
 fn a_mistake_in_the_words_is_usage(rt: HostRuntime) -> Result<(), Fail> {
     let usage = "\nUsage: gedtool <COMMAND>\n";
     let lines = "\nUsage: gedtool lines [FILE]\n";
+    let check = "\nUsage: gedtool check [OPTIONS] [FILE]\n";
+    let show = "\nUsage: gedtool show [OPTIONS] [FILE]\n";
+    let canon = "\nUsage: gedtool canon [OPTIONS] [FILE]\n";
+    let same = "\nUsage: gedtool same ";
     for (line, beginning, usage) in [
         ("gedtool", "error: 'gedtool' requires a subcommand", usage),
         (
@@ -41,6 +45,51 @@ fn a_mistake_in_the_words_is_usage(rt: HostRuntime) -> Result<(), Fail> {
             "gedtool lines --none a",
             "error: unexpected argument '--none' found\n",
             lines,
+        ),
+        (
+            "gedtool lines --strict a",
+            "error: unexpected argument '--strict' found\n",
+            lines,
+        ),
+        (
+            "gedtool check a b",
+            "error: unexpected argument 'b' found\n",
+            check,
+        ),
+        (
+            "gedtool show --none a",
+            "error: unexpected argument '--none' found\n",
+            show,
+        ),
+        (
+            "gedtool lines --second a",
+            "error: unexpected argument '--second' found\n",
+            lines,
+        ),
+        (
+            "gedtool check --second a",
+            "error: unexpected argument '--second' found\n",
+            check,
+        ),
+        (
+            "gedtool show --second a",
+            "error: unexpected argument '--second' found\n",
+            show,
+        ),
+        (
+            "gedtool canon a b",
+            "error: unexpected argument 'b' found\n",
+            canon,
+        ),
+        (
+            "gedtool same",
+            "error: the following required arguments were not provided:\n  <A>\n",
+            same,
+        ),
+        (
+            "gedtool same a b c",
+            "error: unexpected argument 'c' found\n",
+            same,
         ),
         (
             "/bin/other_name lines a b",
@@ -78,6 +127,34 @@ fn help_is_printed_on_the_output(rt: HostRuntime) -> Result<(), Fail> {
         ("/bin/other_name --help", whole),
         ("gedtool lines --help", lines),
         ("gedtool help lines", lines),
+        (
+            "gedtool check --help",
+            (
+                "Tells the notices of a file",
+                "\nUsage: gedtool check [OPTIONS] [FILE]\n",
+            ),
+        ),
+        (
+            "gedtool show --help",
+            (
+                "Writes the level, tag and kind of each structure",
+                "\nUsage: gedtool show [OPTIONS] [FILE]\n",
+            ),
+        ),
+        (
+            "gedtool canon --help",
+            (
+                "Writes a file in its canonical form",
+                "\nUsage: gedtool canon [OPTIONS] [FILE]\n",
+            ),
+        ),
+        (
+            "gedtool same --help",
+            (
+                "Tells whether two files have one canonical form",
+                "\nUsage: gedtool same [OPTIONS] <A> [B]\n",
+            ),
+        ),
         ("/bin/other_name help lines", lines),
     ] {
         let run = run_of(rt.alloc(), line, b"0 HEAD\n")?;

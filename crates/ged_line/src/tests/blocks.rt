@@ -45,7 +45,7 @@ impl Sample {
 fn told_levels(alloc: Global, file: &[u8]) -> Result<Vec<Result<u8, LineFault>>, AllocError> {
     let mut told = Vec::new(alloc);
     for view in view_lines(file) {
-        told.push(view.map(|line| line.level()))?;
+        told.push(view.map(|spelled| spelled.line.level()))?;
     }
     Ok(told)
 }

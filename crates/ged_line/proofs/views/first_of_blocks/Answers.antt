@@ -1,7 +1,7 @@
 use Rattle.std.proofs.Common.{sym, ◌∙◌, ap, ◌∷◌, ◌++◌}
 use Rattle.ged_line.specs.Pieces.{pieces_of}
 use Rattle.ged_line.proofs.Cutting.{pieces_only}
-use Rattle.ged_line.proofs.BlockLemmas.{no_pieces, none_before, first_of_block, TellsView-cases}
+use Rattle.ged_line.proofs.BlockLemmas.{no_pieces, none_before, first_of_block}
 use Rattle.ged_line.proofs.views.first_of_blocks.Goals as goal
 
 pub returns-in_default : goal.returns-in_default
@@ -11,7 +11,7 @@ returns-in_default c =
       piece,
       first_of_block c.args.bytes.now block piece c.next.new.self (pieces_of c.split_block.result.1.now) c.split_block.ensures.pieces
           (sym (pieces_only c.cut_pieces-pieces.result block c.cut_pieces-pieces.ensures) ∙ c.in-Some.ensures.steps),
-      TellsView-cases c.view_line.result piece c.view_line.ensures.found c.view_line.ensures.fault,
+      c.spelled_line.ensures,
     )
 
 pub returns-in_default-first_of_text : goal.returns-in_default-first_of_text

@@ -1,20 +1,19 @@
-use Rattle.std.proofs.Common.{rules, ◌≡◌, ◌<◌, ◌^◌, take, length, arith}
-use Rattle.std.proofs.lemmas.List.{take_all}
-use Rattle.ged_tree.proofs.BuildLemmas.{told_within}
+use Rattle.ged_tree.proofs.BuildLemmas.{written_fault, written_has, written_stop}
 use Rattle.ged_tree.proofs.building.build.Goals as goal
 
-pub returns-in-Err-clause-fault : goal.returns-in-Err-clause-fault
-returns-in-Err-clause-fault c =
-    let lines = c.deref-line-items.result.now in
-    let i = c.loop-line.line-index in
-    let told = rw c.as_view.ensures at (c.in-Err.ensures (take i lines) c.loop-line.invariant) in
-    rw (← c.deref-line-items.ensures.value) (told_within lines c.args.lines.now.stop i c.line-item.result c.line-item.is (omega (arith, c.loop-line-test.true)) c.in-Err.fault told)
+pub first_fault-requires : goal.first_fault-requires
+first_fault-requires c =
+    let text = rw (c.as_slice.ensures.value, ← c.as_slice-2.ensures.value) at c.in-Ok.ensures.text in
+    let told = rw c.in-Err-At.field-0-is at c.in-Err-At.ensures.fault in
+    rw c.in-Err-At.field-0-is (written_fault c.args.lines.now.lines.items c.as_slice-2.result.now text c.in-Err-At.at told)
+
+pub returns-in-Some-clause-fault : goal.returns-in-Some-clause-fault
+returns-in-Some-clause-fault c =
+    let text = rw (c.as_slice.ensures.value, ← c.as_slice-2.ensures.value) at c.in-Ok.ensures.text in
+    rw c.in-Some.is (written_stop c.args.lines.now.lines.items c.as_slice-2.result.now text c.in-Ok-flatten.flat c.in-Some.stop c.fault_of_stop.result.line c.fault_of_stop.result.fault
+    c.in-Ok-flatten.ensures.document c.fault_of_stop.ensures.line c.fault_of_stop.ensures.fault)
 
 pub returns-in-Ok-document_of-clause-document : goal.returns-in-Ok-document_of-clause-document
 returns-in-Ok-document_of-clause-document c =
-    let lines = c.deref-line-items.result.now in
-    let i = c.loop-line.line-index in
-    let all : take i lines ≡ lines = take_all i lines (omega (arith, c.loop-line-test.false, c.loop-line.auto.line-index-end)) in
-    let few : length (take i lines) < 2 ^ 63 = search rules in
-    let built = c.in-Ok.ensures (take i lines) c.loop-line.invariant few in
-    rw (c.in-Ok-document_of.ensures, ← c.deref-line-items.ensures.value) (rw all at built)
+    let text = rw (c.as_slice.ensures.value, ← c.as_slice-2.ensures.value) at c.in-Ok.ensures.text in
+    rw c.in-Ok-document_of.ensures (written_has c.args.lines.now.lines.items c.as_slice-2.result.now text c.in-Ok-flatten.flat c.in-Ok-flatten.ensures.document)

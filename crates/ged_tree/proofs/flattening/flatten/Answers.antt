@@ -2,24 +2,30 @@ use Rattle.std.proofs.Common.{rules, ◌<◌, ◌^◌, length, arith}
 use Rattle.ged_tree.proofs.FlattenLemmas.{taken_more, count_fits, fault_told, lines_few, read_all, stopped, unended}
 use Rattle.ged_tree.proofs.flattening.flatten.Goals as goal
 
-pub take-requires : goal.take-requires
-take-requires c =
+pub take-requires-clause-few : goal.take-requires-clause-few
+take-requires-clause-few c =
     let small : length c.args.bytes.now < 2 ^ 63 = search rules in
     omega (arith, count_fits c.args.bytes.now c.loop-line.table c.loop-line.line-iterator c.loop-line.invariant, small)
+
+pub take-requires-clause-text : goal.take-requires-clause-text
+take-requires-clause-text c =
+    let step = c.in-Some.ensures.steps in
+    let text = rw c.in-Ok.is at step.2 in
+    rw text.1 text.0
 
 pub returns-in-Err-take-clause-fault : goal.returns-in-Err-take-clause-fault
 returns-in-Err-take-clause-fault c =
     let taken = c.loop-line.invariant in
     let step = c.in-Some.ensures.steps in
     let text = rw c.in-Ok.is at step.2 in
-    fault_told c.args.bytes.now c.loop-line.table c.loop-line.line-iterator c.next.new.self step.0 c.in-Ok.line taken step.1 text c.in-Err-take.fault (c.in-Err-take.ensures taken.lines taken.holds)
+    fault_told c.args.bytes.now c.loop-line.table c.loop-line.line-iterator c.next.new.self step.0 c.in-Ok.line.line taken step.1 text.0 c.in-Err-take.fault (c.in-Err-take.ensures taken.lines taken.holds)
 
 pub loop-line-preserved : goal.loop-line-preserved
 loop-line-preserved c =
     let taken = c.loop-line.invariant in
     let step = c.in-Some.ensures.steps in
     let text = rw c.in-Ok.is at step.2 in
-    taken_more c.args.bytes.now c.loop-line.table c.take.new.self c.loop-line.line-iterator c.next.new.self step.0 c.in-Ok.line taken step.1 text (c.in_default.ensures taken.lines taken.holds)
+    taken_more c.args.bytes.now c.loop-line.table c.take.new.self c.loop-line.line-iterator c.next.new.self step.0 c.in-Ok.line.line taken step.1 text.0 (c.in_default.ensures taken.lines taken.holds)
 
 pub overflow_add-line : goal.overflow_add-line
 overflow_add-line c =

@@ -5,5 +5,5 @@ use Rattle.ged_tree.proofs.table.TableBuilder.take.Goals as goal
 pub returns-in-Ok : goal.returns-in-Ok
 returns-in-Ok c = λ lines holds.
     let judged = c.in_default.ensures.takes lines holds.judged in
-    taken c.args.self.now (record { judge = c.line.new.self; count = c.args.self.now.count + 1; structures = c.args.self.now.structures; further = c.args.self.now.further }) c.push.new.self lines c.args.line.now
+    taken c.args.self.now (record { judge = c.line.new.self; count = c.args.self.now.count + 1; structures = c.args.self.now.structures; further = c.args.self.now.further }) c.push.new.self lines c.args.spelled.now.line
     holds judged.0 c.level-level.ensures.line judged.1 refl refl refl c.in-Ok.ensures

@@ -1,0 +1,162 @@
+-- What may be done to a document without changing what it says, one small step at a time
+-- (FamilySearch GEDCOM 7.0, "Structures", "Lines", "Date" and "Integer").
+use Rattle.std.specs.Prelude.{◌≡◌, ◌≢◌, Bool, true, false, cond, List, [], ◌∷◌, map, Option, Some, None}
+use Rattle.std.specs.Str.{bytes_eq}
+use Rattle.ged_line.specs.Bytes.{Bytes}
+use Rattle.ged_tree.specs.declared.payload.Payload.{Payload}
+use Rattle.ged_tree.specs.declared.payload.Payload.TheVariants.{Void, Pointer, Text}
+use Rattle.ged_tree.specs.Trees.{Structure, Trees, none, tree}
+use Rattle.ged_tree.specs.Documents.{is_document}
+use Rattle.ged_value.specs.declared.kind.Kind.{Kind}
+use Rattle.ged_value.specs.declared.kind.Kind.TheVariants.{DateValue, DatePeriod}
+use Rattle.ged_value.specs.Words.{words_of}
+use Rattle.ged_value.specs.Default.{TextLeavesOut}
+use Rattle.ged_value.specs.Zeros.{LeavesOutZero}
+use Rattle.ged_value.specs.ZeroKinds.{has_integers}
+use Rattle.ged_link.specs.Links.{IsAmong, AreDistinct, xrefs, IsNamed}
+use Rattle.ged_schema.specs.declared.context.Context.{Context}
+use Rattle.ged_schema.specs.declared.context.Context.TheVariants.{File}
+use Rattle.ged_schema.specs.Rows.{Row}
+use Rattle.ged_schema.specs.Tables.{row, context_below}
+use Rattle.ged_schema.specs.Payloads.{Fits}
+use Rattle.ged_canon.specs.declared.edition.Edition.{Edition}
+use Rattle.ged_canon.specs.declared.edition.Edition.TheVariants.{Second}
+
+-- Spelling.
+
+-- the kinds of dates that may name a calendar
+abbrev pub has_calendar : Kind → Bool
+has_calendar DateValue = true
+has_calendar DatePeriod = true
+has_calendar _ = false
+
+-- the row has such a kind
+abbrev pub is_dated : Option Row → Bool
+is_dated None = false
+is_dated (Some r) = has_calendar r.kind
+
+-- the row has a kind with Integers
+abbrev pub is_numeric : Option Row → Bool
+is_numeric None = false
+is_numeric (Some r) = has_integers r.kind
+
+-- the second line is the first with one leading zero of one word left out
+abbrev pub LeavesZero : Bytes → Bytes → Type 0
+LeavesZero longer shorter = LeavesOutZero (words_of longer) (words_of shorter)
+
+-- the second line is the first without something that has no meaning at a place with this row: a word of the default
+-- calendar, or, in the second edition, a leading zero
+pub data Shortened (edition : Edition) (r : Option Row) (longer shorter : Bytes) : Type 0 where
+  calendar : is_dated r ≡ true → TextLeavesOut longer shorter → Shortened edition r longer shorter
+  leading_zero : edition ≡ Second → is_numeric r ≡ true → LeavesZero longer shorter → Shortened edition r longer shorter
+
+-- a payload of one line is shortened, and both lines are of the row's kind
+pub data Respelt (edition : Edition) (r : Option Row) : Payload → Payload → Type 0 where
+  respelt : (longer shorter : Bytes) → Shortened edition r longer shorter → Fits r (Text (longer ∷ [])) → Fits r (Text (shorter ∷ []))
+      → Respelt edition r (Text (longer ∷ [])) (Text (shorter ∷ []))
+
+-- the structure with another payload
+abbrev pub with_payload : Structure → Payload → Structure
+with_payload s payload = record { xref = s.xref; tag = s.tag; payload = payload }
+
+-- Changes at one place.
+
+-- trees that stand side by side in a context become others by a change of the first of them
+pub data Change (edition : Edition) (context : Context) : Trees → Trees → Type 0 where
+  -- two neighbours with different tags change places
+  exchange : (s t : Structure) (below_s below_t next : Trees) → s.tag ≢ t.tag
+      → Change edition context (tree s below_s (tree t below_t next)) (tree t below_t (tree s below_s next))
+  -- a payload is respelt, to and fro
+  leave_out : (s : Structure) (longer shorter : Payload) (below next : Trees) → Respelt edition (row context s.tag) longer shorter
+      → Change edition context (tree (with_payload s longer) below next) (tree (with_payload s shorter) below next)
+  put_in : (s : Structure) (longer shorter : Payload) (below next : Trees) → Respelt edition (row context s.tag) longer shorter
+      → Change edition context (tree (with_payload s shorter) below next) (tree (with_payload s longer) below next)
+
+-- trees in a context become others by a change at one place, among them or deeper
+pub data Somewhere (Changes : Context → Trees → Trees → Type 0) : Context → Trees → Trees → Type 0 where
+  here : {context : Context} {t u : Trees} → Changes context t u → Somewhere Changes context t u
+  under : {context : Context} {t u : Trees} (s : Structure) (next : Trees) → Somewhere Changes (context_below context s.tag) t u
+      → Somewhere Changes context (tree s t next) (tree s u next)
+  later : {context : Context} {t u : Trees} (s : Structure) (below : Trees) → Somewhere Changes context t u
+      → Somewhere Changes context (tree s below t) (tree s below u)
+
+-- New identifiers.
+
+-- the new name of a name, which is itself where the pairs of old and new names have none
+abbrev pub new_name : List (Bytes × Bytes) → Bytes → Bytes
+new_name [] name = name
+new_name (pair ∷ pairs) name = cond (bytes_eq pair.0 name) pair.1 (new_name pairs name)
+
+abbrev pub renamed_xref : (Bytes → Bytes) → Option Bytes → Option Bytes
+renamed_xref new None = None
+renamed_xref new (Some name) = Some (new name)
+
+abbrev pub renamed_payload : (Bytes → Bytes) → Payload → Payload
+renamed_payload new Void = Void
+renamed_payload new (Pointer name) = Pointer (new name)
+renamed_payload new (Text lines) = Text lines
+
+abbrev pub renamed_structure : (Bytes → Bytes) → Structure → Structure
+renamed_structure new s = record { xref = renamed_xref new s.xref; tag = s.tag; payload = renamed_payload new s.payload }
+
+-- each identifier and each pointer gets its new name
+abbrev pub renamed : (Bytes → Bytes) → Trees → Trees
+renamed new none = none
+renamed new (tree s below next) = tree (renamed_structure new s) (renamed new below) (renamed new next)
+
+-- the old names of pairs, and the new ones
+abbrev pub olds : List (Bytes × Bytes) → List Bytes
+olds pairs = map (λ pair. pair.0) pairs
+
+abbrev pub news : List (Bytes × Bytes) → List Bytes
+news pairs = map (λ pair. pair.1) pairs
+
+-- the records get new identifiers, and the pointers with them, all at once
+pub record Renamed (d e : Trees) : Type 0 where
+  pub pairs : List (Bytes × Bytes)
+  pub olds_are_xrefs : olds pairs ≡ xrefs d
+  pub olds_distinct : AreDistinct (olds pairs)
+  pub news_distinct : AreDistinct (news pairs)
+  -- a pointer that has no new name names no new one
+  pub no_other_names_a_new : (name : Bytes) → IsNamed d name → IsAmong name (news pairs) → IsAmong name (olds pairs)
+  pub all_at_once : e ≡ renamed (new_name pairs) d
+
+-- the structure with another identifier, or none
+abbrev pub with_identifier : Structure → Option Bytes → Structure
+with_identifier s xref = record { xref = xref; tag = s.tag; payload = s.payload }
+
+-- one of the trees side by side gains an identifier
+pub data Gains (name : Bytes) : Trees → Trees → Type 0 where
+  gains : (s : Structure) (below next : Trees) → Gains name (tree (with_identifier s None) below next) (tree (with_identifier s (Some name)) below next)
+  after : {t u : Trees} (s : Structure) (below : Trees) → Gains name t u → Gains name (tree s below t) (tree s below u)
+
+-- a record gains a name that no record has and no pointer names
+pub record GainsName (d e : Trees) : Type 0 where
+  pub name : Bytes
+  pub no_record_has_it : IsAmong name (xrefs d) → ⊥
+  pub no_pointer_names_it : IsNamed d name → ⊥
+  pub gained : Gains name d e
+
+-- Steps.
+
+-- what a step does: a change at one place, a renaming of all identifiers, or a name gained or lost
+pub data Move (edition : Edition) (d e : Trees) : Type 0 where
+  change : Somewhere (Change edition) File d e → Move edition d e
+  rename : Renamed d e → Move edition d e
+  gain : GainsName d e → Move edition d e
+  lose : GainsName e d → Move edition d e
+
+-- A step leads from a document to a document: so HEAD stays first, and names stay names.
+pub record Step (edition : Edition) (d e : Trees) : Type 0 where
+  pub from : is_document d ≡ true
+  pub to : is_document e ≡ true
+  pub move : Move edition d e
+
+-- one thing becomes another by a finite number of steps
+pub data Chain {A : Type 0} (R : A → A → Type 0) : A → A → Type 0 where
+  done : {a : A} → Chain R a a
+  then : {a b c : A} → R a b → Chain R b c → Chain R a c
+
+-- a document becomes another by steps
+abbrev pub Equivalent : Edition → Trees → Trees → Type 0
+Equivalent edition = Chain (Step edition)

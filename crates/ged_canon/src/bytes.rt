@@ -1,0 +1,167 @@
+// The canonical spelling of a document, written from the document itself.
+ghost use Rattle.std.specs.Prelude.{◌≡◌, ◌≤◌, ◌<◌, ◌∷◌, ◌++◌, [], List, IfOk, OnOk, true, length};
+ghost use Rattle.std.specs.List.{AllByRecursion};
+ghost use Rattle.ged_line.specs.Bytes.{Bytes};
+ghost use Rattle.ged_tree.specs.Trees.{Trees, trees_count, records_of};
+ghost use Rattle.ged_tree.specs.Documents.{is_document, are_at};
+ghost use Rattle.ged_tree.specs.Places.{structure_at};
+ghost use Rattle.ged_link.specs.Links.{identifiers};
+ghost use Rattle.ged_link.specs.Indexes.{IsIndexOf};
+ghost use Rattle.ged_schema.specs.Checked.{Checked};
+ghost use Rattle.ged_schema.specs.declared.context.Context.TheVariants.{File};
+ghost use Rattle.ged_canon.specs.declared.edition.Edition.{Edition as AnyEdition};
+ghost use Rattle.ged_canon.specs.declared.edition.Edition.TheVariants.{First};
+ghost use Rattle.ged_canon.specs.Normal.{IsNormalForm};
+ghost use Rattle.ged_canon.specs.CanonText.{CanonText};
+ghost use Rattle.ged_canon.specs.Working.{is_named, used_document, sorted_document, IsNumbering};
+ghost use Rattle.ged_canon.specs.Siblings.{sibling_trees};
+ghost use Rattle.ged_canon.specs.CanonBytes.{AreNamed, number_at, spelled_siblings};
+
+use crate::edition::Edition;
+use crate::new_names::new_number;
+use crate::siblings::{Sibling, numbers_in_order, sorted_siblings};
+use crate::writing::{Plan, put_identifier, write_known, write_tree};
+use ged_line::ValueView;
+use ged_link::Index;
+use ged_schema::Context;
+use ged_tree::{Forest, end_of_all, next_in_run};
+use std::alloc::{AllocError, Global};
+
+/// HEAD, and behind it the records in the order of their tags.
+fn document_siblings<F: Forest>(alloc: Global, forest: &F) -> Result<Vec<Sibling<'_>>, AllocError>
+    ensures within { IfOk result (λ made. AllByRecursion (λ each. each.place < trees_count (F.trees forest.now)) made.items) }
+    ensures count { IfOk result (λ made. length (identifiers (records_of (F.trees forest.now))) ≤ length made.items) }
+    ensures trees { (edition : AnyEdition) → IfOk result (λ made. sibling_trees (is_named (F.trees forest.now)) edition File (F.trees forest.now) made.items
+        ≡ sorted_document edition (used_document (F.trees forest.now))) }
+    ensures document { is_document (F.trees forest.now) ≡ true }
+{
+    let end = end_of_all(forest);
+    let Some(records) = next_in_run(forest, 0, end) else {
+        unreachable!()
+    };
+    let mut made = sorted_siblings(alloc, forest, records, end)?;
+    made.insert(
+        0,
+        Sibling {
+            tag: forest.tag(0),
+            place: 0,
+        },
+    )?;
+    Ok(made)
+}
+
+/// The new number of the record at a place, or 0 where it gets none.
+fn own_number<F: Forest>(forest: &F, plan: &Plan<'_>, place: usize) -> usize
+    requires { place < trees_count (F.trees forest.now) }
+    ensures { (names : List Bytes) → IsNumbering names plan.now.index.now plan.now.numbers.now → result ≡ number_at names (structure_at (F.trees forest.now) place).xref }
+{
+    match forest.xref(place) {
+        Some(name) => new_number(plan.index, plan.numbers, name),
+        None => 0,
+    }
+}
+
+/// Appends the lines of HEAD or of a record, and of what stands below it. The texts are scratch: one takes the record's new
+/// identifier, the other those of pointers.
+fn write_record<F: Forest>(
+    forest: &F,
+    plan: &Plan<'_>,
+    sibling: Sibling<'_>,
+    name: &mut String,
+    scratch: &mut String,
+    out: &mut Vec<u8>,
+) -> Result<(), AllocError>
+    requires document { is_document (F.trees forest.now) ≡ true }
+    requires within { sibling.place < trees_count (F.trees forest.now) }
+    requires stands { are_at 0 (sibling_trees (is_named (F.trees forest.now)) plan.now.edition File (F.trees forest.now) (sibling ∷ [])) ≡ true }
+    ensures { (names : List Bytes) → IsNumbering names plan.now.index.now plan.now.numbers.now → AreNamed (F.trees forest.now) names →
+        OnOk result (out.new.items ≡ out.old.items ++ spelled_siblings plan.now.edition names (F.trees forest.now) (sibling.entry ∷ [])) }
+{
+    let number = own_number(forest, plan, sibling.place);
+    if number == 0 {
+        return write_tree(forest, plan, Context::File, 0, None, sibling, scratch, out);
+    }
+    put_identifier(number, name)?;
+    write_tree(
+        forest,
+        plan,
+        Context::File,
+        0,
+        Some(name.as_str()),
+        sibling,
+        scratch,
+        out,
+    )
+}
+
+/// Appends the lines of HEAD and the records, and of what stands below them.
+fn write_records<F: Forest>(
+    forest: &F,
+    plan: &Plan<'_>,
+    siblings: &[Sibling<'_>],
+    out: &mut Vec<u8>,
+) -> Result<(), AllocError>
+    requires document { is_document (F.trees forest.now) ≡ true }
+    requires within { AllByRecursion (λ each. each.place < trees_count (F.trees forest.now)) siblings.now }
+    requires stand { are_at 0 (sibling_trees (is_named (F.trees forest.now)) plan.now.edition File (F.trees forest.now) siblings.now) ≡ true }
+    ensures { (names : List Bytes) → IsNumbering names plan.now.index.now plan.now.numbers.now → AreNamed (F.trees forest.now) names →
+        OnOk result (out.new.items ≡ out.old.items ++ spelled_siblings plan.now.edition names (F.trees forest.now) siblings.now) }
+{
+    let mut name = String::new(plan.alloc);
+    let mut scratch = String::new(plan.alloc);
+    for each in siblings {
+        write_record(forest, plan, *each, &mut name, &mut scratch, out)?;
+    }
+    Ok(())
+}
+
+/// The byte order mark.
+fn start_file(alloc: Global) -> Result<Vec<u8>, AllocError>
+    ensures { IfOk result (λ out. out.items ≡ 0xEF ∷ 0xBB ∷ 0xBF ∷ []) }
+{
+    Vec::from_slice(alloc, &[0xEF, 0xBB, 0xBF])
+}
+
+/// The bytes of the canonical form of a document that is as the structure tables ask, where the index is the document's: those
+/// that [`crate::write_document`] gives for what [`crate::canonical_in`] makes. No tree is made, and a payload is copied only
+/// into the answer. Grows (FamilySearch GEDCOM 7.0, "Lines", "Structures", "Date" and "Integer").
+pub fn canonical_bytes_in<F: Forest>(
+    alloc: Global,
+    edition: Edition,
+    forest: &F,
+    index: &Index,
+) -> Result<Vec<u8>, AllocError>
+    requires index { IsIndexOf (F.trees forest.now) index.now }
+    requires checked { Checked (F.trees forest.now) }
+    ensures normal_form { IfOk result (λ text. (e : Trees) × IsNormalForm edition (F.trees forest.now) e × CanonText e text.items) }
+    ensures only { (e : Trees) → IsNormalForm edition (F.trees forest.now) e → IfOk result (λ text. CanonText e text.items) }
+{
+    let siblings = document_siblings(alloc, forest)?;
+    let records = siblings.as_slice();
+    let counted = numbers_in_order(alloc, forest, index, records)?;
+    let numbers = counted.as_slice();
+    let plan = Plan {
+        alloc,
+        edition,
+        index,
+        numbers,
+    };
+    let mut text = start_file(alloc)?;
+    write_records(forest, &plan, records, &mut text)?;
+    write_known(0, None, "TRLR", ValueView::Empty, &mut text)?;
+    Ok(text)
+}
+
+/// The bytes of the canonical form of the first edition, as [`canonical_bytes_in`] gives them. Grows.
+pub fn canonical_bytes<F: Forest>(
+    alloc: Global,
+    forest: &F,
+    index: &Index,
+) -> Result<Vec<u8>, AllocError>
+    requires index { IsIndexOf (F.trees forest.now) index.now }
+    requires checked { Checked (F.trees forest.now) }
+    ensures normal_form { IfOk result (λ text. (e : Trees) × IsNormalForm First (F.trees forest.now) e × CanonText e text.items) }
+    ensures only { (e : Trees) → IsNormalForm First (F.trees forest.now) e → IfOk result (λ text. CanonText e text.items) }
+{
+    canonical_bytes_in(alloc, Edition::First, forest, index)
+}

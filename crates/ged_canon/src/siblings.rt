@@ -1,0 +1,113 @@
+// The structures of a run in the order of their tags.
+ghost use Rattle.std.specs.Prelude.{◌≡◌, ◌<◌, ◌≤◌, Bool, true, IfOk, length};
+ghost use Rattle.std.specs.List.{AllByRecursion};
+ghost use Rattle.ged_line.specs.Bytes.{Bytes};
+ghost use Rattle.ged_line.specs.Names.{tag_order as order_of_tags};
+ghost use Rattle.ged_tree.specs.Trees.{trees_count, records_of};
+ghost use Rattle.ged_tree.specs.Documents.{is_document};
+ghost use Rattle.ged_tree.specs.Runs.{IsRun, trees_between};
+ghost use Rattle.ged_schema.specs.declared.context.Context.{Context as AnyContext};
+ghost use Rattle.ged_canon.specs.declared.edition.Edition.{Edition as AnyEdition};
+ghost use Rattle.ged_link.specs.Links.{identifiers, xrefs, IsAmong, AreDistinct};
+ghost use Rattle.ged_link.specs.Indexes.{IsIndexOf};
+ghost use Rattle.ged_canon.specs.Working.{sorted, each_sorted, used_trees, AreNumbersOf};
+ghost use Rattle.ged_canon.specs.Siblings.{sibling_trees, sibling_names};
+
+use ged_link::Index;
+use ged_tree::{Forest, next_in_run};
+use std::alloc::{AllocError, Global};
+use std::cmp::Ordering;
+
+/// A structure among its siblings: its tag, and its place among all structures.
+#[derive(Clone, Copy, Debug)]
+pub(crate) struct Sibling<'a> {
+    pub(crate) tag: &'a str,
+    pub(crate) place: usize,
+}
+
+/// The order of tags, for any texts.
+fn order(tag: &str, other: &str) -> Ordering
+    ensures { result ≡ order_of_tags tag.now other.now }
+{
+    match (tag == "GEDC", other == "GEDC") {
+        (true, true) => Ordering::Equal,
+        (true, false) => Ordering::Less,
+        (false, true) => Ordering::Greater,
+        (false, false) => tag.cmp(other),
+    }
+}
+
+/// The structures of a run in their own order.
+fn siblings<F: Forest>(
+    alloc: Global,
+    forest: &F,
+    start: usize,
+    end: usize,
+) -> Result<Vec<Sibling<'_>>, AllocError>
+    requires { IsRun (F.trees forest.now) start end }
+    ensures within { IfOk result (λ made. AllByRecursion (λ each. each.place < trees_count (F.trees forest.now)) made.items) }
+    ensures count { IfOk result (λ made. length made.items ≡ length (identifiers (trees_between (F.trees forest.now) start end))) }
+    ensures trees { (used : Bytes → Bool) (edition : AnyEdition) (context : AnyContext) →
+        IfOk result (λ made. sibling_trees used edition context (F.trees forest.now) made.items ≡ each_sorted edition context (used_trees used (trees_between (F.trees forest.now) start end))) }
+{
+    let mut made = Vec::new(alloc);
+    let mut place = start;
+    while let Some(after) = next_in_run(forest, place, end) {
+        made.push(Sibling {
+            tag: forest.tag(place),
+            place,
+        })?;
+        place = after;
+    }
+    Ok(made)
+}
+
+/// The structures of a run in the order of their tags; those with one tag keep their order.
+pub(crate) fn sorted_siblings<F: Forest>(
+    alloc: Global,
+    forest: &F,
+    start: usize,
+    end: usize,
+) -> Result<Vec<Sibling<'_>>, AllocError>
+    requires { IsRun (F.trees forest.now) start end }
+    ensures within { IfOk result (λ made. AllByRecursion (λ each. each.place < trees_count (F.trees forest.now)) made.items) }
+    ensures count { IfOk result (λ made. length made.items ≡ length (identifiers (trees_between (F.trees forest.now) start end))) }
+    ensures trees { (used : Bytes → Bool) (edition : AnyEdition) (context : AnyContext) →
+        IfOk result (λ made. sibling_trees used edition context (F.trees forest.now) made.items ≡ sorted edition context (used_trees used (trees_between (F.trees forest.now) start end))) }
+{
+    let mut made = siblings(alloc, forest, start, end)?;
+    made.sort_by(|a: &Sibling<'_>, b: &Sibling<'_>| order(a.tag, b.tag))?;
+    Ok(made)
+}
+
+/// The new numbers of a document's records, counted from 1, by the numbers that the records have in the document: those of
+/// the identifiers that pointers name, in the new order of the records. Any other record has the new number 0. HEAD, which has
+/// no identifier, may stand among the records.
+pub(crate) fn numbers_in_order<F: Forest>(
+    alloc: Global,
+    forest: &F,
+    index: &Index,
+    records: &[Sibling<'_>],
+) -> Result<Vec<usize>, AllocError>
+    requires index { IsIndexOf (F.trees forest.now) index.now }
+    requires document { is_document (F.trees forest.now) ≡ true }
+    requires within { AllByRecursion (λ each. each.place < trees_count (F.trees forest.now)) records.now }
+    requires count { length (identifiers (records_of (F.trees forest.now))) ≤ length records.now }
+    requires known { (name : Bytes) → IsAmong name (sibling_names (F.trees forest.now) records.now) → IsAmong name (xrefs (records_of (F.trees forest.now))) }
+    requires distinct { AreDistinct (sibling_names (F.trees forest.now) records.now) }
+    ensures { IfOk result (λ numbers. AreNumbersOf (F.trees forest.now) (sibling_names (F.trees forest.now) records.now) numbers.items) }
+{
+    let mut numbers = vec![in alloc; 0; records.len()]?;
+    let mut number = 0;
+    for each in records {
+        if let Some(name) = forest.xref(each.place) {
+            if let Some(place) = index.record_named(name) {
+                if index.is_used(place) {
+                    number += 1;
+                    numbers[place] = number;
+                }
+            }
+        }
+    }
+    Ok(numbers)
+}

@@ -1,0 +1,5 @@
+use Rattle.ged_link.specs.PairSets.{AreBothBefore}
+use Rattle.ged_link.proofs.pairs.are_answered.Given as goal
+
+abbrev pub invariant-loop-index : goal.invariant-loop-index
+invariant-loop-index l = AreBothBefore l.pairs l.index

@@ -1,0 +1,179 @@
+// Where the pointers of a document lead: the records that some pointer names, and the pairs of linked records.
+ghost use Rattle.std.specs.Prelude.{◌≡◌, ◌<◌, ◌≤◌, ◌+◌, ◌⊎◌, ℕ, IfOk, IfErr, OnOk, length, nat_eq, ◌&&◌, ◌||◌, alloc_error};
+ghost use Rattle.ged_tree.specs.Trees.{records_of, trees_count};
+ghost use Rattle.ged_tree.specs.Places.{structure_at};
+ghost use Rattle.ged_tree.specs.Runs.{trees_between, IsRun};
+ghost use Rattle.ged_link.specs.Links.{identifiers};
+ghost use Rattle.ged_link.specs.LinkFaults.{HasLinkFault, IsRepeated, IsDangling};
+ghost use Rattle.ged_link.specs.Indexes.{AreRecords, place_in};
+ghost use Rattle.ged_link.specs.LinkWalks.{target, linked, is_place, has_link_to};
+ghost use Rattle.ged_link.specs.PairSets.{pairs_have, ArePairs};
+ghost use Rattle.ged_link.specs.Resolving.{AreFollowed, AreUsed};
+ghost use Rattle.ged_link.specs.declared.pairs.Role.{Role};
+ghost use Rattle.ged_link.specs.declared.fault.LinkFault.TheVariants.{Memory};
+
+use crate::fault::LinkFault;
+use crate::index::{RecordPlace, find_record};
+use crate::links::role_of;
+use crate::pairs::Pairs;
+use ged_tree::{Forest, PayloadView, end_of_all, next_in_run};
+use indexmap::IndexMap;
+use std::alloc::{AllocError, Global};
+
+/// Marks the record that the structure at a place points to, and answers its place, or `None` where no pointer stands; or
+/// the fault of a pointer that names no record.
+fn follow<F: Forest>(
+    forest: &F,
+    records: &IndexMap<String, RecordPlace>,
+    place: usize,
+    used: &mut Vec<bool>,
+) -> Result<Option<usize>, LinkFault>
+    requires within { place < trees_count (F.trees forest.now) }
+    requires records { AreRecords (F.trees forest.now) records.now }
+    requires distinct { (place : ℕ) → IsRepeated (F.trees forest.now) place → ⊥ }
+    requires used { AreFollowed (F.trees forest.now) place used.old.items }
+    ensures used { OnOk result (AreFollowed (F.trees forest.now) (place + 1) used.new.items) }
+    ensures target { IfOk result (λ found. found ≡ target (place_in records.now) (structure_at (F.trees forest.now) place).payload) }
+    ensures fault { IfErr result (HasLinkFault (F.trees forest.now)) }
+{
+    let PayloadView::Pointer(name) = forest.payload(place) else {
+        return Ok(None);
+    };
+    let Some(found) = find_record(records, name) else {
+        return Err(LinkFault::Dangling(forest.line(place)));
+    };
+    used[found.number] = true;
+    Ok(Some(found.place))
+}
+
+/// Marks the records that the structures from a place on point to, up to an end; or the fault of the first pointer there
+/// that names none.
+fn follow_all<F: Forest>(
+    forest: &F,
+    records: &IndexMap<String, RecordPlace>,
+    start: usize,
+    end: usize,
+    used: &mut Vec<bool>,
+) -> Result<(), LinkFault>
+    requires order { start ≤ end }
+    requires within { end ≤ trees_count (F.trees forest.now) }
+    requires records { AreRecords (F.trees forest.now) records.now }
+    requires distinct { (place : ℕ) → IsRepeated (F.trees forest.now) place → ⊥ }
+    requires used { AreFollowed (F.trees forest.now) start used.old.items }
+    ensures used { OnOk result (AreFollowed (F.trees forest.now) end used.new.items) }
+    ensures fault { IfErr result (HasLinkFault (F.trees forest.now)) }
+{
+    for place in start..end {
+        if let Err(fault) = follow(forest, records, place, used) {
+            return Err(fault);
+        }
+    }
+    Ok(())
+}
+
+/// Marks the record that a structure directly under a record points to, and adds the pair of both where it is a link.
+#[tactic(auto, using(crate::proofs::WalkLemmas::one_link))]
+fn follow_link<F: Forest>(
+    forest: &F,
+    records: &IndexMap<String, RecordPlace>,
+    from: usize,
+    place: usize,
+    used: &mut Vec<bool>,
+    pairs: &mut Pairs,
+) -> Result<(), LinkFault>
+    requires from { from < trees_count (F.trees forest.now) }
+    requires within { place < trees_count (F.trees forest.now) }
+    requires records { AreRecords (F.trees forest.now) records.now }
+    requires distinct { (place : ℕ) → IsRepeated (F.trees forest.now) place → ⊥ }
+    requires used { AreFollowed (F.trees forest.now) place used.old.items }
+    ensures used { OnOk result (AreFollowed (F.trees forest.now) (place + 1) used.new.items) }
+    ensures pairs { OnOk result ((role : Role) (pair : ℕ × ℕ) → pairs_have pairs.new role pair
+        ≡ ((nat_eq pair.0 from && is_place (linked (place_in records.now) role (structure_at (F.trees forest.now) from).tag (structure_at (F.trees forest.now) place)) pair.1)
+        || pairs_have pairs.old role pair)) }
+    ensures fault { IfErr result (λ fault. (fault ≡ Memory alloc_error) ⊎ HasLinkFault (F.trees forest.now) fault) }
+{
+    let found = match follow(forest, records, place, used) {
+        Ok(found) => found,
+        Err(fault) => return Err(fault),
+    };
+    let Some(to) = found else {
+        return Ok(());
+    };
+    let Some(role) = role_of(forest.tag(from), forest.tag(place)) else {
+        return Ok(());
+    };
+    match pairs.insert(role, from, to) {
+        Ok(()) => Ok(()),
+        Err(_) => Err(LinkFault::Memory(AllocError)),
+    }
+}
+
+/// The same for all structures of a record, which end before a place.
+#[tactic(auto, using(crate::proofs::WalkLemmas::pairs))]
+fn follow_record<F: Forest>(
+    forest: &F,
+    records: &IndexMap<String, RecordPlace>,
+    from: usize,
+    end: usize,
+    used: &mut Vec<bool>,
+    pairs: &mut Pairs,
+) -> Result<(), LinkFault>
+    requires from { from < trees_count (F.trees forest.now) }
+    requires end { end ≤ trees_count (F.trees forest.now) }
+    requires run { IsRun (F.trees forest.now) (from + 1) end }
+    requires records { AreRecords (F.trees forest.now) records.now }
+    requires distinct { (place : ℕ) → IsRepeated (F.trees forest.now) place → ⊥ }
+    requires used { AreFollowed (F.trees forest.now) from used.old.items }
+    ensures used { OnOk result (AreFollowed (F.trees forest.now) end used.new.items) }
+    ensures pairs { OnOk result ((role : Role) (pair : ℕ × ℕ) → pairs_have pairs.new role pair
+        ≡ ((nat_eq pair.0 from && has_link_to (place_in records.now) role (structure_at (F.trees forest.now) from).tag pair.1 (trees_between (F.trees forest.now) (from + 1) end))
+        || pairs_have pairs.old role pair)) }
+    ensures fault { IfErr result (λ fault. (fault ≡ Memory alloc_error) ⊎ HasLinkFault (F.trees forest.now) fault) }
+{
+    if let Err(fault) = follow(forest, records, from, used) {
+        return Err(fault);
+    }
+    let mut place = from + 1;
+    while let Some(after) = next_in_run(forest, place, end) {
+        if let Err(fault) = follow_link(forest, records, from, place, used, pairs) {
+            return Err(fault);
+        }
+        if let Err(fault) = follow_all(forest, records, place + 1, after, used) {
+            return Err(fault);
+        }
+        place = after;
+    }
+    Ok(())
+}
+
+/// Which records some pointer names, and the pairs of all linked records; or the fault of the first pointer that names
+/// no record.
+#[tactic(auto, using(crate::proofs::WalkLemmas::pairs))]
+pub(crate) fn follow_pointers<F: Forest>(
+    alloc: Global,
+    forest: &F,
+    records: &IndexMap<String, RecordPlace>,
+    count: usize,
+) -> Result<(Vec<bool>, Pairs), LinkFault>
+    requires records { AreRecords (F.trees forest.now) records.now }
+    requires count { count ≡ length (identifiers (records_of (F.trees forest.now))) }
+    requires distinct { (place : ℕ) → IsRepeated (F.trees forest.now) place → ⊥ }
+    ensures used { IfOk result (λ followed. AreUsed (F.trees forest.now) followed.0.items) }
+    ensures found { IfOk result (λ _. (place : ℕ) → IsDangling (F.trees forest.now) place → ⊥) }
+    ensures pairs { IfOk result (λ followed. ArePairs (place_in records.now) (F.trees forest.now) followed.1) }
+    ensures fault { IfErr result (λ fault. (fault ≡ Memory alloc_error) ⊎ HasLinkFault (F.trees forest.now) fault) }
+{
+    let Ok(mut used) = vec![in alloc; false; count] else {
+        return Err(LinkFault::Memory(AllocError));
+    };
+    let mut pairs = Pairs::new(alloc);
+    let end = end_of_all(forest);
+    let mut place = 0;
+    while let Some(after) = next_in_run(forest, place, end) {
+        if let Err(fault) = follow_record(forest, records, place, after, &mut used, &mut pairs) {
+            return Err(fault);
+        }
+        place = after;
+    }
+    Ok((used, pairs))
+}

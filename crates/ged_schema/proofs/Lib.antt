@@ -1,0 +1,11 @@
+pub mod Numbers
+pub mod FaultLaws
+pub mod Runs
+pub mod Marking
+pub mod Listing
+pub mod ListingLaws
+pub mod FirstUnlisted
+pub mod NoticeLaws
+pub mod Fitting
+pub mod CheckedOrFaulty
+pub mod ProfileOrFaulty

@@ -1,0 +1,205 @@
+-- Structures of a run, marked by the numbers of their rows.
+use Rattle.std.proofs.Common.{◌≡◌, ◌≢◌, ℕ, zero, suc, ◌+◌, ◌<◌, ◌≤◌, ◌==◌, ◌&&◌, Bool, cond, sym, ◌∙◌, ap, refl, arith, true, false, List, [], ◌∷◌, inl, inr, Option, Some, None, get_or, slice_get, length, map, set, replicate, eqb→eq, subst, T}
+use Rattle.std.specs.Prelude.{◌⊎◌, ◌↔◌, IsTrue}
+use Rattle.std.specs.List.{AllByRecursion}
+use Rattle.std.specs.Bool.{OnTrue}
+use Rattle.std.specs.Str.{bytes_eq}
+use Rattle.std.proofs.lemmas.List.{get_or-set_same, get_or-set_other, length-map}
+use Rattle.std.proofs.lemmas.Slice.Eq.{bytes_eq-Decides}
+use Rattle.ged_line.specs.Bytes.{Bytes}
+use Rattle.ged_line.proofs.NameTests.{bool_cases, and_left, and_right}
+use Rattle.ged_tree.specs.Trees.{Structure, Trees, none, tree, trees_count}
+use Rattle.ged_schema.specs.declared.context.Context.{Context}
+use Rattle.ged_schema.specs.declared.rule.Rule.{Rule}
+use Rattle.ged_schema.specs.Rows.{Row, as_row}
+use Rattle.ged_schema.specs.Tables.{rows, row}
+use Rattle.ged_schema.specs.Payloads.{IsOfKind, target}
+use Rattle.ged_schema.specs.Checked.{count_of, IsAtMost, CountsRight, PointsRight, AreChecked}
+use Rattle.ged_schema.specs.Marks.{allows_one, is_needed, are_simple, IsNeededMarked}
+use Rattle.ged_schema.proofs.Numbers.{rule_stands, numbered_row}
+use Rattle.ged_schema.proofs.Runs.{count_same, count_other, IsOnlyNumber, checked_some}
+
+-- of a row's structures, those marked and those that are left are no more than there are; where the row has a greatest
+-- number, they are as many
+pub record IsMarked (mark left all : ℕ) (most : Option ℕ) : Type 0 where
+  pub some : mark + left ≤ all
+  pub each : (most ≡ None) ⊎ (all ≤ mark + left)
+
+abbrev pub AreMarked : List Row → List ℕ → Trees → Trees → Type 0
+AreMarked rs marks left all = (number : ℕ) (r : Row) → slice_get rs number ≡ Some r →
+    IsMarked (get_or marks number 0) (count_of r.tag left) (count_of r.tag all) r.most
+
+-- no row is marked twice
+abbrev pub AreOnce : List ℕ → Type 0
+AreOnce marks = (number : ℕ) → get_or marks number 0 ≤ 1
+
+zeros_at : (k i : ℕ) → ◌≡◌ {A = ℕ} (get_or {A = ℕ} (replicate k 0) i 0) 0
+zeros_at zero i = refl
+zeros_at (suc k) zero = refl
+zeros_at (suc k) (suc i) = zeros_at k i
+
+pub zeros_marked : (rs : List Row) (k : ℕ) (all : Trees) → AreMarked rs (replicate k 0) all all
+zeros_marked rs k all i r stands = record { some = omega (arith, zeros_at k i); each = inr (omega (arith, zeros_at k i)) }
+
+pub zeros_once : (k : ℕ) → AreOnce (replicate k 0)
+zeros_once k i = omega (arith, zeros_at k i)
+
+module _ (rs : List Row) (marks : List ℕ) (left all : Trees) (s : Structure) (b n : Trees) (is : left ≡ tree s b n) (so_far : AreMarked rs marks left all) where
+  pub marked_none : IsOnlyNumber rs s.tag None → AreMarked rs marks n all
+  marked_none only i r stands = elim (bool_cases (bytes_eq s.tag r.tag)) [
+    | inl same ↦ (let never : None ≡ Some i = only i r stands (sym ((bytes_eq-Decides s.tag r.tag).0 same)) in cc)
+    | inr other ↦ subst (λ m. IsMarked (get_or marks i 0) m (count_of r.tag all) r.most) (count_other r.tag left s b n is other) (so_far i r stands)
+  ]
+
+  pub marked_some : (k : ℕ) → IsOnlyNumber rs s.tag (Some k) → (q : Row) → slice_get rs k ≡ Some q → q.tag ≡ s.tag → k < length marks → (q.most ≡ None) ⊎ (get_or marks k 0 ≡ 0) → AreMarked rs (set marks k 1) n all
+  marked_some k only q at tags inside free i r stands = elim (bool_cases (bytes_eq s.tag r.tag)) [
+    | inl same ↦ (
+        let tag : s.tag ≡ r.tag = (bytes_eq-Decides s.tag r.tag).0 same in
+        let here : k ≡ i = some_is k i (only i r stands (sym tag)) in
+        let both : q ≡ r = row_is q r (sym at ∙ ap (slice_get rs) here ∙ stands) in
+        let new : get_or (set marks k 1) i 0 ≡ 1 = rw (sym here) (get_or-set_same marks k 1 0 inside) in
+        let one : count_of r.tag left ≡ 1 + count_of r.tag n = count_same r.tag left s b n is tag in
+        let old : IsMarked (get_or marks i 0) (count_of r.tag left) (count_of r.tag all) r.most = so_far i r stands in
+        record {
+          some = omega (arith, new, one, old.some);
+          each = elim free [
+            | inl any ↦ inl (ap (λ (x : Row). x.most) (sym both) ∙ any)
+            | inr fresh ↦ elim old.each [
+              | inl any ↦ inl any
+              | inr most ↦ (let z : get_or marks i 0 ≡ 0 = subst (λ (n : ℕ). get_or marks n 0 ≡ 0) here fresh in inr (omega (arith, new, one, most, z)))
+            ]
+          ];
+        })
+    | inr other ↦ (
+        let apart : i ≢ k = λ e. (let both : r ≡ q = row_is r q (sym stands ∙ ap (slice_get rs) e ∙ at) in
+        let equal : bytes_eq s.tag r.tag ≡ true = (bytes_eq-Decides s.tag r.tag).1 (sym tags ∙ ap (λ (x : Row). x.tag) (sym both)) in cc) in
+        let new : get_or (set marks k 1) i 0 ≡ get_or marks i 0 = get_or-set_other marks k i 1 0 apart in
+        let rest : count_of r.tag left ≡ count_of r.tag n = count_other r.tag left s b n is other in
+        let old : IsMarked (get_or marks i 0) (count_of r.tag left) (count_of r.tag all) r.most = so_far i r stands in
+        record {
+          some = omega (arith, new, rest, old.some);
+          each = elim old.each [
+            | inl any ↦ inl any
+            | inr most ↦ inr (omega (arith, new, rest, most))
+          ];
+        })
+  ]
+    where
+      some_is : (x y : ℕ) → Some x ≡ Some y → x ≡ y
+      some_is x y e = cc
+
+      row_is : (x y : Row) → Some x ≡ Some y → x ≡ y
+      row_is x y e = cc
+
+-- a mark more is no second one
+pub once_set : (marks : List ℕ) (k : ℕ) → k < length marks → AreOnce marks → AreOnce (set marks k 1)
+once_set marks k inside once i = elim (nat_cases i k) [
+  | inl same ↦ (let new : get_or (set marks k 1) i 0 ≡ 1 = rw same (get_or-set_same marks k 1 0 inside) in omega (arith, new))
+  | inr other ↦ (let new : get_or (set marks k 1) i 0 ≡ get_or marks i 0 = get_or-set_other marks k i 1 0 other in omega (arith, new, once i))
+]
+  where
+    nat_cases : (x y : ℕ) → (x ≡ y) ⊎ (x ≢ y)
+    nat_cases x y = elim (bool_cases (x == y)) [
+      | inl same ↦ inl (eqb→eq x y (subst T (sym same) tt))
+      | inr other ↦ inr (λ e. grind (arith))
+    ]
+
+some_row : (x y : Row) → Some x ≡ Some y → x ≡ y
+some_row x y e = cc
+
+-- what holds for each row by its number holds for all
+all_rows : (P : Row → Type 0) (rs : List Row) → ((i : ℕ) (r : Row) → slice_get rs i ≡ Some r → P r) → AllByRecursion P rs
+all_rows P [] each = tt
+all_rows P (r ∷ rs) each = (each 0 r refl, all_rows P rs (λ i q stands. each (suc i) q stands))
+
+abbrev IsSimple : Option ℕ → ℕ → Row → Type 0
+IsSimple needed number r = (allows_one r.most ≡ true) × ((r.least == cond (is_needed needed number) 1 0) ≡ true)
+
+simple_at : (needed : Option ℕ) (n i : ℕ) (rs : List Row) (r : Row) → are_simple needed n rs ≡ true → slice_get rs i ≡ Some r → IsSimple needed (n + i) r
+simple_at needed n i [] r simple e = cc
+simple_at needed n zero (q ∷ rs) r simple e =
+    let one : allows_one q.most ≡ true = and_left (allows_one q.most) ((q.least == cond (is_needed needed n) 1 0) && are_simple needed (n + 1) rs) simple in
+    let more : ((q.least == cond (is_needed needed n) 1 0) && are_simple needed (n + 1) rs) ≡ true = and_right (allows_one q.most) ((q.least == cond (is_needed needed n) 1 0) && are_simple needed (n + 1) rs) simple in
+    let least : (q.least == cond (is_needed needed n) 1 0) ≡ true = and_left (q.least == cond (is_needed needed n) 1 0) (are_simple needed (n + 1) rs) more in
+    let here : IsSimple needed n q = (one, least) in
+    let place : n ≡ n + 0 = omega arith in
+    subst (λ (x : Row). IsSimple needed (n + 0) x) (some_row q r e) (subst (λ (k : ℕ). IsSimple needed k q) place here)
+simple_at needed n (suc i) (q ∷ rs) r simple e =
+    let more : ((q.least == cond (is_needed needed n) 1 0) && are_simple needed (n + 1) rs) ≡ true = and_right (allows_one q.most) ((q.least == cond (is_needed needed n) 1 0) && are_simple needed (n + 1) rs) simple in
+    let rest : are_simple needed (n + 1) rs ≡ true = and_right (q.least == cond (is_needed needed n) 1 0) (are_simple needed (n + 1) rs) more in
+    let place : n + 1 + i ≡ n + suc i = omega arith in
+    subst (λ (k : ℕ). IsSimple needed k r) place (simple_at needed (n + 1) i rs r rest e)
+
+least_right : (needed : Option ℕ) (marks : List ℕ) (i least count : ℕ) → (least == cond (is_needed needed i) 1 0) ≡ true → IsNeededMarked needed marks → get_or marks i 0 ≤ count → least ≤ count
+least_right None marks i least count same marked enough = let e : least ≡ 0 = eqb→eq least 0 (subst T (sym same) tt) in omega (arith, e)
+least_right (Some k) marks i least count same marked enough = elim (bool_cases (k == i)) [
+  | inl here ↦ (
+      let e : least ≡ 1 = eqb→eq least 1 (subst T (sym (rw here at same)) tt) in
+      let at : k ≡ i = eqb→eq k i (subst T (sym here) tt) in
+      let some : 0 < get_or marks i 0 = subst (λ (n : ℕ). 0 < get_or marks n 0) at marked in
+      omega (arith, e, some, enough))
+  | inr other ↦ (let e : least ≡ 0 = eqb→eq least 0 (subst T (sym (rw other at same)) tt) in omega (arith, e))
+]
+
+most_right : (most : Option ℕ) (mark count : ℕ) → allows_one most ≡ true → mark ≤ 1 → (most ≡ None) ⊎ (count ≤ mark) → IsAtMost count most
+most_right None mark count one small each = tt
+most_right (Some k) mark count one small (inl any) = cc
+most_right (Some k) mark count one small (inr few) = let e : k ≡ 1 = eqb→eq k 1 (subst T (sym one) tt) in omega (arith, e, small, few)
+
+-- where no structure is left, rows that are marked as they should be have as many structures as they ask
+pub marked_right : (needed : Option ℕ) (rs : List Row) (marks : List ℕ) (left all : Trees) → left ≡ none → are_simple needed 0 rs ≡ true → IsNeededMarked needed marks → AreOnce marks → AreMarked rs marks left all → AllByRecursion (CountsRight all) rs
+marked_right needed rs marks left all is simple needs once marked = all_rows (CountsRight all) rs (λ i r stands.
+    let at : i ≡ 0 + i = omega arith in
+    let row : IsSimple needed i r = subst (λ (k : ℕ). IsSimple needed k r) (sym at) (simple_at needed 0 i rs r simple stands) in
+    let last : count_of r.tag left ≡ 0 = rw is refl in
+    let h : IsMarked (get_or marks i 0) (count_of r.tag left) (count_of r.tag all) r.most = marked i r stands in
+    let enough : get_or marks i 0 ≤ count_of r.tag all = omega (arith, h.some, last) in
+    let few : (r.most ≡ None) ⊎ (count_of r.tag all ≤ get_or marks i 0) = elim h.each [
+      | inl any ↦ inl any
+      | inr most ↦ inr (omega (arith, most, last))
+    ] in
+    (least_right needed marks i r.least (count_of r.tag all) row.1 needs enough, most_right r.most (get_or marks i 0) (count_of r.tag all) row.0 (once i) few))
+
+no_trees : (t : Trees) → trees_count t ≡ 0 → t ≡ none
+no_trees none e = refl
+no_trees (tree s b n) e = absurd (omega (arith, e))
+
+-- no structure stands in a run that ends where it begins
+pub nothing_stands : (start end : ℕ) (t : Trees) → start + trees_count t ≡ end → end ≤ start → t ≡ none
+nothing_stands start end t fills past = no_trees t (omega arith)
+
+-- and that is right where no row asks for one
+pub nothing_right : (d : Trees) (c : Context) (t : Trees) → t ≡ none → are_simple None 0 (rows c) ≡ true → AllByRecursion (CountsRight t) (rows c) × AreChecked d c t
+nothing_right d c t is simple = (marked_right None (rows c) [] t t is simple tt (zeros_once 0) (zeros_marked (rows c) 0 t), rw is tt)
+
+-- a structure whose row is found, and the rule that stands for the row
+module _ (c : Context) (t : Trees) (s : Structure) (b n : Trees) (is : t ≡ tree s b n) (tag : Bytes) (same : tag ≡ s.tag) (rules : List Rule) (seen : map as_row rules ≡ rows c) (k : ℕ) (within : k < length (rows c)) (found : slice_get (rows c) k ≡ row c tag) (o : Rule) where
+  rule_at : slice_get (rows c) k ≡ Some (as_row (get_or rules k o))
+  rule_at = let long : length (rows c) ≡ length rules = ap length (sym seen) ∙ length-map rules as_row in rule_stands rules (rows c) k o seen (omega (arith, long, within))
+
+  rule_tag : (as_row (get_or rules k o)).tag ≡ s.tag
+  unfolding row
+  rule_tag =
+      let (r, stands, tags) = numbered_row (rows c) tag k within found in
+      let here : as_row (get_or rules k o) ≡ r = some_row (as_row (get_or rules k o)) r (sym rule_at ∙ stands) in
+      ap (λ (x : Row). x.tag) here ∙ tags ∙ same
+
+  pub rule_marked : (marks : List ℕ) (all : Trees) → AreMarked (rows c) marks t all → IsOnlyNumber (rows c) s.tag (Some k) → k < length marks → ((get_or rules k o).most ≡ None) ⊎ (get_or marks k 0 ≡ 0) → AreMarked (rows c) (set marks k 1) n all
+  rule_marked marks all so_far only inside free = marked_some (rows c) marks t all s b n is so_far k only (as_row (get_or rules k o)) rule_at rule_tag inside free
+
+  pub rule_checked : (d : Trees) → IsOfKind (get_or rules k o).kind s.payload × PointsRight d (target (get_or rules k o).kind) s.payload → AllByRecursion (CountsRight b) (rows (get_or rules k o).below) × AreChecked d (get_or rules k o).below b → AreChecked d c n → AreChecked d c t
+  rule_checked d payload under rest =
+      let some : row c s.tag ≡ Some (as_row (get_or rules k o)) = ap (row c) (sym same) ∙ sym found ∙ rule_at in
+      checked_some d c t s b n is (as_row (get_or rules k o)) some (payload.0, payload.1, under.0) under.1 rest
+
+-- what a test that came out true tells
+pub on_true : {P : Type 0} (b : Bool) → OnTrue b P → b ≡ true → P
+on_true b h e = rw e at h
+
+pub true_on : {P Q : Type 0} (b : Bool) → OnTrue b P → (P → Q) → OnTrue b Q
+true_on true h f = f h
+true_on false h f = tt
+
+pub on_both : {P Q : Type 0} (b : Bool) → IsTrue b ↔ Q → P → OnTrue b (P × Q)
+on_both true h p = (p, h.0 refl)
+on_both false h p = tt

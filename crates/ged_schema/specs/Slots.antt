@@ -1,0 +1,19 @@
+-- The slots that keep the numbers of rows. Only private functions cite what stands here.
+use Rattle.std.specs.Prelude.{ℕ, ◌+◌, ◌-◌, ◌*◌, ◌%◌, ◌==◌, ◌&&◌, Bool, true, List, [], ◌∷◌, length, slice_index}
+use Rattle.ged_line.specs.Bytes.{Bytes}
+use Rattle.ged_schema.specs.declared.slots.TheConstants.{SLOTS}
+use Rattle.ged_schema.specs.Rows.{Row}
+
+-- the slot of a tag: its first three bytes and its last one, weighed and summed from the seed on; a byte past the end
+-- counts as 0
+abbrev pub slot_from : ℕ → Bytes → ℕ
+slot_from seed tag = (seed + slice_index tag 0 * 4 + slice_index tag 1 + slice_index tag 2 * 32 + slice_index tag (length tag - 1) * 4) % 512
+
+-- the number that is kept for a tag
+abbrev pub kept_number : ℕ → Bytes → ℕ
+kept_number seed tag = slice_index SLOTS (slot_from seed tag)
+
+-- each row's number, where they are counted from a number on, is that of its tag
+abbrev pub are_numbered : (Bytes → ℕ) → ℕ → List Row → Bool
+are_numbered number_of number [] = true
+are_numbered number_of number (r ∷ rs) = (number_of r.tag == number) && are_numbered number_of (number + 1) rs

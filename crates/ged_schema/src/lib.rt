@@ -1,0 +1,37 @@
+//! The structure tables of FamilySearch GEDCOM 7.0: which structures may stand where, how often, and with which
+//! payload.
+//!
+//! [`rows`] and [`lookup`] give the tables. [`check`] judges a document by them, [`unlisted`] tells the standard tags that
+//! they do not list where they stand, and [`check_as`] also refuses notices where a [`Profile`] asks for that.
+#![tactic(auto)]
+
+mod checking;
+mod context;
+mod fault;
+mod laws;
+mod lookups;
+mod notices;
+mod passing;
+mod payloads;
+mod profile;
+mod rule;
+mod slots;
+mod tables;
+
+pub use checking::check;
+pub use context::Context;
+pub use fault::{SchemaAt, SchemaFault};
+pub use laws::{
+    checked_or_fault, distinct_tags, fault_of_unchecked, no_fault_of_checked, none_is_unlisted,
+    one_first_fault, one_listing, one_notice, unlisted_has_place,
+};
+pub use lookups::{lookup, lookup_name};
+pub use notices::{first_unlisted, unlisted};
+pub use profile::{Profile, check_as};
+pub use rule::Rule;
+pub use tables::rows;
+
+#[cfg(test)]
+mod tests;
+#[cfg(test)]
+mod tests_check;

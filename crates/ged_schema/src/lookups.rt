@@ -1,0 +1,28 @@
+// The row of a tag in a context.
+ghost use Rattle.std.specs.Prelude.{◌≡◌, option_map};
+ghost use Rattle.ged_schema.specs.Rows.{as_row};
+ghost use Rattle.ged_schema.specs.Tables.{row};
+
+use crate::context::Context;
+use crate::rule::Rule;
+use crate::slots::row_number;
+use crate::tables::rows;
+use ged_line::Tag;
+
+/// The row of a tag in a context, or `None` where the context has none for it. Takes no memory
+/// (FamilySearch GEDCOM 7.0, "Structure Organization").
+pub fn lookup(context: Context, tag: &Tag) -> Option<Rule>
+    ensures { option_map as_row result ≡ row context tag.now }
+{
+    lookup_name(context, tag.as_str())
+}
+
+/// What [`lookup`] answers for the tag that a text is, and `None` for any other text. Takes no memory.
+pub fn lookup_name(context: Context, name: &str) -> Option<Rule>
+    ensures { option_map as_row result ≡ row context name.now }
+{
+    match row_number(context, name) {
+        Some(number) => Some(rows(context)[number]),
+        None => None,
+    }
+}

@@ -1,0 +1,90 @@
+#!/usr/bin/env python3
+"""Prints the weights, the seeds and the slots of src/slots.rt for the rows of src/tables.
+
+A tag's slot is the sum of its context's seed and of its first three bytes and its last one, each times a weight, modulo
+the number of slots. A byte that the tag doesn't have counts as 0. The script takes the first weights, among sums of few
+powers of two, under which each context finds a seed that puts none of its rows on a slot which keeps another number:
+the contexts with the most rows first, each with its least such seed.
+
+Run it after a change of the tables, and put what it prints into src/slots.rt and specs/Slots.antt. The proof checks the
+numbers, however they were found.
+"""
+
+import itertools
+import re
+from pathlib import Path
+
+SOURCE = Path(__file__).resolve().parent.parent / "src"
+# A power of two, so that the remainder is no division.
+SLOTS = 512
+WEIGHTS = (1, 2, 4, 8, 16, 32, 64, 3, 5, 9, 17, 33, 65)
+WIDTH = 100
+
+
+def read_tables():
+    """The tags of each context's rows, by the context's name."""
+    rows = {}
+    for path in sorted((SOURCE / "tables").glob("*.rt")):
+        for name, body in re.findall(r"static (\w+): \[Rule; \d+\] = \[(.*?)\];", path.read_text(), re.S):
+            rows[name] = re.findall(r'!\("(\w+)"', body)
+    arms = re.findall(r"Context::(\w+) => &(\w+),", (SOURCE / "tables.rt").read_text())
+    contexts = re.findall(r"^    (\w+),$", (SOURCE / "context.rt").read_text(), re.M)
+    named = dict(arms)
+    return {context: rows[named[context]] if context in named else [] for context in contexts}
+
+
+def weigh(tag, weights):
+    """The sum of the weighed bytes of a tag."""
+    code = tag.encode()
+    places = (0, 1, 2, len(code) - 1)
+    return sum(weight * code[place] for weight, place in zip(weights, places) if place < len(code))
+
+
+def find_seed(sums, slots):
+    """The least seed that puts each of a context's rows on a slot of its own number, and the slots that it fills."""
+    for seed in range(SLOTS):
+        filled = [(seed + weighed) % SLOTS for weighed in sums]
+        if len(set(filled)) == len(sums) and all(slots.get(slot, i) == i for i, slot in enumerate(filled)):
+            return seed, filled
+    return None
+
+
+def find_slots(tables, weights):
+    """A seed for each context, those with the most rows first, and the numbers by their slots."""
+    slots, seeds = {}, {}
+    for context in sorted(tables, key=lambda context: -len(tables[context])):
+        found = find_seed([weigh(tag, weights) for tag in tables[context]], slots)
+        if found is None:
+            return None
+        seeds[context], filled = found
+        slots.update({slot: number for number, slot in enumerate(filled)})
+    return seeds, slots
+
+
+def print_found(weights, seeds, slots):
+    print("weights of the first, the second, the third and the last byte:", *weights)
+    line = "   "
+    for slot in range(SLOTS):
+        word = f" {slots.get(slot, 0)},"
+        if len(line + word) > WIDTH:
+            print(line)
+            line = "   "
+        line += word
+    print(line)
+    for seed in sorted(set(seeds.values())):
+        contexts = " | ".join(f"Context::{context}" for context in seeds if seeds[context] == seed)
+        print(f"        {contexts} => {seed},")
+
+
+def main():
+    tables = read_tables()
+    for weights in sorted(itertools.product(WEIGHTS, repeat=4), key=lambda four: (sum(w & (w - 1) > 0 for w in four), sum(four))):
+        found = find_slots(tables, weights)
+        if found is not None:
+            print_found(weights, *found)
+            return
+    raise SystemExit("no weights were found")
+
+
+if __name__ == "__main__":
+    main()

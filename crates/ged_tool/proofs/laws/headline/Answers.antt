@@ -1,0 +1,5 @@
+use Rattle.ged_tool.proofs.CanonLaws.{headline, agrees_with_first}
+use Rattle.ged_tool.proofs.laws.headline.Goals as goal
+
+pub returns : goal.returns
+returns c = record { promised = headline; second_agrees = agrees_with_first }

@@ -1,0 +1,26 @@
+-- Whether two files are the same, and what is wrong with the one that cannot be compared.
+use Rattle.std.specs.Prelude.{◌↔◌, Bool, IsTrue}
+use Rattle.ged_line.specs.Bytes.{Bytes}
+use Rattle.ged_tree.specs.Trees.{Trees}
+use Rattle.ged_schema.specs.declared.profile.Profile.{Profile}
+use Rattle.ged_canon.specs.declared.edition.Edition.{Edition}
+use Rattle.ged_canon.specs.Steps.{Equivalent}
+use Rattle.ged_tool.specs.Accepted.{IsAccepted, FileFaultAt, IsRefusal}
+use Rattle.ged_tool.specs.declared.faults.Which.{Which}
+use Rattle.ged_tool.specs.declared.faults.Which.TheVariants.{First, Second}
+use Rattle.ged_tool.specs.declared.faults.Fault.{Fault}
+
+-- both files are accepted, and they are the same exactly where one's document becomes the other's by steps
+pub record AreCompared (profile : Profile) (edition : Edition) (first second : Bytes) (same : Bool) : Type 0 where
+  pub document : Trees
+  pub other : Trees
+  pub first_accepted : IsAccepted profile first document
+  pub second_accepted : IsAccepted profile second other
+  pub same_exactly_when : IsTrue same ↔ Equivalent edition document other
+
+-- Why the files are not compared: what is wrong with the first; else, where that one is accepted, what is wrong with the
+-- second.
+abbrev pub IsSameRefusal : Profile → Bytes → Bytes → Which → Fault → Type 0
+IsSameRefusal profile first second First fault = IsRefusal (FileFaultAt profile first) fault
+IsSameRefusal profile first second Second fault =
+    ((document : Trees) × IsAccepted profile first document) × IsRefusal (FileFaultAt profile second) fault
