@@ -1,7 +1,7 @@
 -- What the test of a brief line says.
-use Rattle.std.proofs.Common.{◌≡◌, ◌≢◌, Bool, true, false, ◌&&◌, List, [], ◌∷◌, Option, refl, sym, ap, ◌∙◌}
-use Rattle.std.specs.Prelude.{not}
-use Rattle.std.specs.List.{AllByRecursion, list_all}
+use Rattle.std.proofs.Common.{◌≡◌, ◌≢◌, ℕ, Bool, true, false, cond, ◌&&◌, List, [], ◌∷◌, Option, refl, sym, ap, ◌∙◌}
+use Rattle.std.specs.Prelude.{not, ◌||◌, ◌==◌}
+use Rattle.std.specs.List.{AllByRecursion, list_all, list_any, onto_first}
 use Rattle.std.specs.Str.{bytes_eq}
 use Rattle.std.proofs.lemmas.Bool.{true≢false, false≢true, and_parts, and_from}
 use Rattle.ged_line.specs.Bytes.{Bytes}
@@ -61,6 +61,13 @@ module _ (dated numeric : Bool) where
   words_brief [] p q = refl
   words_brief (w ∷ ws) p q = and_from _ _ (word_brief w (λ d. (p d).0) (λ n. (q n).0)) (words_brief ws (λ d. (p d).1) (λ n. (q n).1))
 
+-- where nothing is left out, each word stays
+pub all_brief : (dated numeric : Bool) → dated ≡ false → numeric ≡ false → (ws : List Bytes) → list_all (is_brief_word dated numeric) ws ≡ true
+all_brief true numeric p q ws = absurd (true≢false p)
+all_brief false true p q ws = absurd (true≢false q)
+all_brief false false p q [] = refl
+all_brief false false p q (w ∷ ws) = all_brief false false refl refl ws
+
 module _ (edition : Edition) (r : Option Row) (line : Bytes) where
   pub brief_from : list_all (is_brief_word (is_dated r) (trims edition r)) (words_of line) ≡ true → IsBrief edition r line
   brief_from h = record {
@@ -72,3 +79,37 @@ module _ (edition : Edition) (r : Option Row) (line : Bytes) where
   from_brief h =
       words_brief (is_dated r) (trims edition r) (words_of line) h.no_calendar
       (λ t. let p = and_parts (is_second edition) (is_numeric r) t in h.no_leading_zero (second_is edition p.0) p.1)
+
+-- Words without a G.
+
+abbrev lacks : Bytes → Bool
+lacks word = not (list_any (λ b. b == 0x47) word)
+
+lacks_more : (x : ℕ) (w : Bytes) → (x == 0x47) ≡ false → lacks w ≡ true → lacks (x ∷ w) ≡ true
+lacks_more x w e h = ap (λ t. not (t || list_any (λ b. b == 0x47) w)) e ∙ h
+
+onto_lacks : (x : ℕ) (ws : List Bytes) → (x == 0x47) ≡ false → list_all lacks ws ≡ true → list_all lacks (onto_first x ws) ≡ true
+onto_lacks x [] e h = and_from (lacks (x ∷ [])) true (lacks_more x [] e refl) refl
+onto_lacks x (w ∷ ws) e h = let p = and_parts (lacks w) (list_all lacks ws) h in and_from (lacks (x ∷ w)) (list_all lacks ws) (lacks_more x w e p.0) p.1
+
+words_lack : (line : Bytes) → lacks line ≡ true → list_all lacks (words_of line) ≡ true
+words_lack [] h = refl
+words_lack (x ∷ xs) h = by (x == 0x20) (x == 0x47) refl h (words_lack xs)
+  where
+    by : (s t : Bool) → (x == 0x47) ≡ t → not (t || list_any (λ b. b == 0x47) xs) ≡ true → (lacks xs ≡ true → list_all lacks (words_of xs) ≡ true)
+        → list_all lacks (cond s ([] ∷ words_of xs) (onto_first x (words_of xs))) ≡ true
+    by s true e k rest = absurd (false≢true k)
+    by true false e k rest = rest k
+    by false false e k rest = onto_lacks x (words_of xs) e (rest k)
+
+lacking_brief : (word : Bytes) → lacks word ≡ true → is_brief_word true false word ≡ true
+lacking_brief word h = word_brief true false word (λ d same. false≢true (sym (ap lacks same) ∙ h)) (λ n. absurd (false≢true n))
+
+all_lacking : (dated : Bool) (ws : List Bytes) → list_all lacks ws ≡ true → list_all (is_brief_word dated false) ws ≡ true
+all_lacking dated [] h = refl
+all_lacking true (w ∷ ws) h = let p = and_parts (lacks w) (list_all lacks ws) h in and_from (is_brief_word true false w) _ (lacking_brief w p.0) (all_lacking true ws p.1)
+all_lacking false (w ∷ ws) h = let p = and_parts (lacks w) (list_all lacks ws) h in all_lacking false ws p.1
+
+-- no word of a line without a G is GREGORIAN
+pub brief_without_g : (dated numeric : Bool) (line : Bytes) → numeric ≡ false → list_any (λ b. b == 0x47) line ≡ false → list_all (is_brief_word dated numeric) (words_of line) ≡ true
+brief_without_g dated numeric line n e = ap (λ t. list_all (is_brief_word dated t) (words_of line)) n ∙ all_lacking dated (words_of line) (words_lack line (ap not e))

@@ -21,7 +21,6 @@ pub mod Noticed
 pub mod StableSort
 pub mod Examples
 pub mod BriefTests
-pub mod OrderTests
 pub mod NumberTests
 pub mod BriefWords
 pub mod Placed
@@ -30,6 +29,7 @@ pub mod NewNames
 pub mod NewNumbers
 pub mod CanonParts
 pub mod SiblingTrees
+pub mod SortedTail
 pub mod SiblingNames
 pub mod WriteLemmas
 pub mod WriteRuns

@@ -1,7 +1,7 @@
 -- The lines of the structures of a run, and of what stands below them.
-use Rattle.std.proofs.Common.{◌≡◌, ℕ, ◌+◌, ◌<◌, true, false, ◌&&◌, List, [], ◌∷◌, ◌++◌, Option, Some, None, length, drop, get_or, add-one, refl, sym, ap, ◌∙◌, subst, append_assoc, append-nil, arith}
+use Rattle.std.proofs.Common.{◌≡◌, ℕ, ◌+◌, ◌<◌, true, false, ◌&&◌, List, [], ◌∷◌, ◌++◌, Option, Some, None, length, drop, get_or, refl, sym, ap, ◌∙◌, subst, append_assoc, append-nil, arith}
 use Rattle.std.specs.Prelude.{◌==◌}
-use Rattle.std.proofs.Math.Seq.{drop-cons}
+use Rattle.std.proofs.lemmas.List.{drop_more}
 use Rattle.std.proofs.lemmas.Bool.{and_parts, true≢false}
 use Rattle.std.proofs.lemmas.Bool.Decides.{nat_tests}
 use Rattle.ged_line.specs.Bytes.{Bytes}
@@ -92,8 +92,8 @@ module _ (edition : Edition) (context : Context) (d : Trees) (level : ℕ) (sibl
 
 -- Siblings that are listed.
 
-pub left_first : (xs : List Sibling) (n : ℕ) (other : Sibling) → n < length xs → drop n xs ≡ get_or xs n other ∷ drop (n + 1) xs
-left_first xs n other h = drop-cons xs n other h ∙ ap (λ m. get_or xs n other ∷ drop m xs) (sym (add-one n))
+pub next_left : (xs : List Sibling) (n : ℕ) (next : Sibling) → n < length xs → next ≡ get_or xs n next → drop n xs ≡ next ∷ drop (n + 1) xs
+next_left xs n next h is = drop_more xs n next h ∙ ap (λ (first : Sibling). first ∷ drop (n + 1) xs) (sym is)
 
 -- where all identifiers are kept
 kept_xref : (x : Option Bytes) → used_xref (λ name. true) x ≡ x

@@ -19,9 +19,9 @@ ghost use Rattle.ged_canon.specs.CanonBytes.{AreNamed, number_at, spelled_siblin
 
 use crate::edition::Edition;
 use crate::new_names::new_number;
-use crate::siblings::{Sibling, numbers_in_order, sorted_siblings};
-use crate::writing::{Plan, put_identifier, write_known, write_tree};
-use ged_line::ValueView;
+use crate::siblings::{Sibling, numbers_in_order, push_sorted};
+use crate::writing::{Plan, Scratch, put_identifier, write_tree};
+use ged_line::{ValueView, write_parts};
 use ged_link::Index;
 use ged_schema::Context;
 use ged_tree::{Forest, end_of_all, next_in_run};
@@ -39,14 +39,12 @@ fn document_siblings<F: Forest>(alloc: Global, forest: &F) -> Result<Vec<Sibling
     let Some(records) = next_in_run(forest, 0, end) else {
         unreachable!()
     };
-    let mut made = sorted_siblings(alloc, forest, records, end)?;
-    made.insert(
-        0,
-        Sibling {
-            tag: forest.tag(0),
-            place: 0,
-        },
-    )?;
+    let mut made = Vec::new(alloc);
+    made.push(Sibling {
+        tag: forest.tag(0),
+        place: 0,
+    })?;
+    push_sorted(alloc, forest, records, end, &mut made)?;
     Ok(made)
 }
 
@@ -61,14 +59,13 @@ fn own_number<F: Forest>(forest: &F, plan: &Plan<'_>, place: usize) -> usize
     }
 }
 
-/// Appends the lines of HEAD or of a record, and of what stands below it. The texts are scratch: one takes the record's new
-/// identifier, the other those of pointers.
-fn write_record<F: Forest>(
-    forest: &F,
+/// Appends the lines of HEAD or of a record, and of what stands below it. The text takes the record's new identifier.
+fn write_record<'a, F: Forest>(
+    forest: &'a F,
     plan: &Plan<'_>,
     sibling: Sibling<'_>,
     name: &mut String,
-    scratch: &mut String,
+    scratch: &mut Scratch<'a>,
     out: &mut Vec<u8>,
 ) -> Result<(), AllocError>
     requires document { is_document (F.trees forest.now) ≡ true }
@@ -108,18 +105,28 @@ fn write_records<F: Forest>(
         OnOk result (out.new.items ≡ out.old.items ++ spelled_siblings plan.now.edition names (F.trees forest.now) siblings.now) }
 {
     let mut name = String::new(plan.alloc);
-    let mut scratch = String::new(plan.alloc);
+    let mut scratch = Scratch {
+        name: String::new(plan.alloc),
+        siblings: Vec::new(plan.alloc),
+    };
     for each in siblings {
         write_record(forest, plan, *each, &mut name, &mut scratch, out)?;
     }
     Ok(())
 }
 
-/// The byte order mark.
-fn start_file(alloc: Global) -> Result<Vec<u8>, AllocError>
+/// How many bytes are taken for each structure of a document before it is written, a little more than most need.
+const BYTES_PER_STRUCTURE: usize = 28;
+
+/// The byte order mark, in memory for a document of so many structures. An ordinary one has room there, and any other one
+/// makes it grow.
+fn start_file(alloc: Global, structures: usize) -> Result<Vec<u8>, AllocError>
     ensures { IfOk result (λ out. out.items ≡ 0xEF ∷ 0xBB ∷ 0xBF ∷ []) }
 {
-    Vec::from_slice(alloc, &[0xEF, 0xBB, 0xBF])
+    let room = structures.saturating_mul(BYTES_PER_STRUCTURE);
+    let mut out = Vec::with_capacity(alloc, room)?;
+    out.extend_from_slice(&[0xEF, 0xBB, 0xBF])?;
+    Ok(out)
 }
 
 /// The bytes of the canonical form of a document that is as the structure tables ask, where the index is the document's: those
@@ -146,9 +153,9 @@ pub fn canonical_bytes_in<F: Forest>(
         index,
         numbers,
     };
-    let mut text = start_file(alloc)?;
+    let mut text = start_file(alloc, forest.size())?;
     write_records(forest, &plan, records, &mut text)?;
-    write_known(0, None, "TRLR", ValueView::Empty, &mut text)?;
+    write_parts(0, None, "TRLR", ValueView::Empty, &mut text)?;
     Ok(text)
 }
 

@@ -1,7 +1,6 @@
 // Whether a document is normal.
-ghost use Rattle.std.specs.Prelude.{◌≡◌, ◌<◌, ◌↔◌, true, Some, IsTrue};
+ghost use Rattle.std.specs.Prelude.{◌<◌, ◌↔◌, Some, IsTrue};
 ghost use Rattle.ged_tree.specs.Trees.{trees_count};
-ghost use Rattle.ged_tree.specs.Documents.{is_document};
 ghost use Rattle.ged_tree.specs.Places.{structure_at};
 ghost use Rattle.ged_tree.specs.Runs.{IsRun, trees_between};
 ghost use Rattle.ged_link.specs.Indexes.{IsIndexOf};
@@ -11,8 +10,8 @@ ghost use Rattle.ged_canon.specs.Normal.{IsBriefPayload, InOrder, AreNormal, Nor
 
 use crate::edition::Edition;
 use crate::numbers::have_own_numbers;
+use crate::siblings::order;
 use crate::spelling::is_brief_line;
-use ged_line::tag_order;
 use ged_link::Index;
 use ged_schema::{Context, Rule, lookup_name};
 use ged_tree::{Forest, PayloadView, end_of_all, next_in_run};
@@ -31,17 +30,19 @@ fn is_brief_at<F: Forest>(forest: &F, edition: Edition, rule: &Rule, place: usiz
 
 /// Whether the structures of a run stand in the order of their tags.
 pub(crate) fn are_in_order<F: Forest>(forest: &F, start: usize, end: usize) -> bool
-    requires run { IsRun (F.trees forest.now) start end }
-    requires document { is_document (F.trees forest.now) ≡ true }
+    requires { IsRun (F.trees forest.now) start end }
     ensures { IsTrue result ↔ InOrder (tags (trees_between (F.trees forest.now) start end)) }
 {
-    let mut before = start;
-    let mut place = start;
+    let Some(mut place) = next_in_run(forest, start, end) else {
+        return true;
+    };
+    let mut before = forest.tag(start);
     while let Some(after) = next_in_run(forest, place, end) {
-        if tag_order(forest.tag(before), forest.tag(place)) == Ordering::Greater {
+        let tag = forest.tag(place);
+        if order(before, tag) == Ordering::Greater {
             return false;
         }
-        before = place;
+        before = tag;
         place = after;
     }
     true
@@ -56,8 +57,7 @@ fn are_normal<F: Forest>(
     start: usize,
     end: usize,
 ) -> bool
-    requires run { IsRun (F.trees forest.now) start end }
-    requires document { is_document (F.trees forest.now) ≡ true }
+    requires { IsRun (F.trees forest.now) start end }
     ensures { IsTrue result ↔ AreNormal edition context (trees_between (F.trees forest.now) start end) }
 {
     let mut place = start;

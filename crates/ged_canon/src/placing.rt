@@ -66,8 +66,8 @@ fn brief_payload(
     }
 }
 
-pub(crate) fn context_below(rule: Option<Rule>) -> Context
-    ensures { result ≡ below_row (option_map as_row rule) }
+pub(crate) fn context_below(rule: Option<&Rule>) -> Context
+    ensures { result ≡ below_row (option_map as_row (option_copied rule.entry)) }
 {
     match rule {
         Some(rule) => rule.below,
@@ -88,7 +88,7 @@ pub(crate) fn placed_nodes(
     for node in nodes {
         let rule = lookup(context, &node.tag);
         let payload = brief_payload(alloc, edition, rule, &node.payload)?;
-        let below = context_below(rule);
+        let below = context_below(rule.as_ref());
         let children = placed_nodes(alloc, edition, below, node.children.as_slice())?;
         let tag = node.tag.copy(alloc)?;
         made.push(Node {
@@ -112,7 +112,7 @@ fn placed_node(
 {
     let rule = lookup(context, &node.tag);
     let payload = brief_payload(alloc, edition, rule, &node.payload)?;
-    let below = context_below(rule);
+    let below = context_below(rule.as_ref());
     let children = placed_nodes(alloc, edition, below, node.children.as_slice())?;
     let tag = node.tag.copy(alloc)?;
     Ok(Node {

@@ -1,16 +1,17 @@
 // The structures of a run in the order of their tags.
-ghost use Rattle.std.specs.Prelude.{◌≡◌, ◌<◌, ◌≤◌, Bool, true, IfOk, length};
+ghost use Rattle.std.specs.Prelude.{◌≡◌, ◌<◌, ◌≤◌, Bool, true, IfOk, OnOk, length, take, drop};
 ghost use Rattle.std.specs.List.{AllByRecursion};
+ghost use Rattle.std.specs.List.Sorted.{IsPermutation};
 ghost use Rattle.ged_line.specs.Bytes.{Bytes};
 ghost use Rattle.ged_line.specs.Names.{tag_order as order_of_tags};
-ghost use Rattle.ged_tree.specs.Trees.{trees_count, records_of};
+ghost use Rattle.ged_tree.specs.Trees.{Trees, trees_count, records_of};
 ghost use Rattle.ged_tree.specs.Documents.{is_document};
 ghost use Rattle.ged_tree.specs.Runs.{IsRun, trees_between};
 ghost use Rattle.ged_schema.specs.declared.context.Context.{Context as AnyContext};
 ghost use Rattle.ged_canon.specs.declared.edition.Edition.{Edition as AnyEdition};
 ghost use Rattle.ged_link.specs.Links.{identifiers, xrefs, IsAmong, AreDistinct};
 ghost use Rattle.ged_link.specs.Indexes.{IsIndexOf};
-ghost use Rattle.ged_canon.specs.Working.{sorted, each_sorted, used_trees, AreNumbersOf};
+ghost use Rattle.ged_canon.specs.Working.{grouped, sorted, each_sorted, used_trees, AreNumbersOf};
 ghost use Rattle.ged_canon.specs.Siblings.{sibling_trees, sibling_names};
 
 use ged_link::Index;
@@ -25,8 +26,8 @@ pub(crate) struct Sibling<'a> {
     pub(crate) place: usize,
 }
 
-/// The order of tags, for any texts.
-fn order(tag: &str, other: &str) -> Ordering
+/// The order of tags, for any texts, from the texts whole.
+fn whole_order(tag: &str, other: &str) -> Ordering
     ensures { result ≡ order_of_tags tag.now other.now }
 {
     match (tag == "GEDC", other == "GEDC") {
@@ -37,47 +38,74 @@ fn order(tag: &str, other: &str) -> Ordering
     }
 }
 
-/// The structures of a run in their own order.
-fn siblings<F: Forest>(
-    alloc: Global,
-    forest: &F,
+/// The order of tags, for any texts. Most tags differ in their first byte, and no other byte is then read, unless one of the
+/// tags may be GEDC.
+#[inline]
+pub(crate) fn order(tag: &str, other: &str) -> Ordering
+    ensures { result ≡ order_of_tags tag.now other.now }
+{
+    match (tag.as_bytes(), other.as_bytes()) {
+        ([first, ..], [second, ..]) if first != second && *first != b'G' && *second != b'G' => {
+            first.cmp(second)
+        }
+        _ => whole_order(tag, other),
+    }
+}
+
+/// Appends the structures of a run in their own order. Grows.
+fn push_siblings<'a, F: Forest>(
+    forest: &'a F,
     start: usize,
     end: usize,
-) -> Result<Vec<Sibling<'_>>, AllocError>
+    siblings: &mut Vec<Sibling<'a>>,
+) -> Result<(), AllocError>
     requires { IsRun (F.trees forest.now) start end }
-    ensures within { IfOk result (λ made. AllByRecursion (λ each. each.place < trees_count (F.trees forest.now)) made.items) }
-    ensures count { IfOk result (λ made. length made.items ≡ length (identifiers (trees_between (F.trees forest.now) start end))) }
+    ensures kept { OnOk result (take (length siblings.old.items) siblings.new.items ≡ siblings.old.items) }
+    ensures within { OnOk result (AllByRecursion (λ each. each.place < trees_count (F.trees forest.now)) (drop (length siblings.old.items) siblings.new.items)) }
+    ensures count { OnOk result (length (drop (length siblings.old.items) siblings.new.items) ≡ length (identifiers (trees_between (F.trees forest.now) start end))) }
     ensures trees { (used : Bytes → Bool) (edition : AnyEdition) (context : AnyContext) →
-        IfOk result (λ made. sibling_trees used edition context (F.trees forest.now) made.items ≡ each_sorted edition context (used_trees used (trees_between (F.trees forest.now) start end))) }
+        OnOk result (sibling_trees used edition context (F.trees forest.now) (drop (length siblings.old.items) siblings.new.items) ≡ each_sorted edition context (used_trees used (trees_between (F.trees forest.now) start end))) }
 {
-    let mut made = Vec::new(alloc);
     let mut place = start;
     while let Some(after) = next_in_run(forest, place, end) {
-        made.push(Sibling {
+        siblings.push(Sibling {
             tag: forest.tag(place),
             place,
         })?;
         place = after;
     }
-    Ok(made)
+    Ok(())
 }
 
-/// The structures of a run in the order of their tags; those with one tag keep their order.
-pub(crate) fn sorted_siblings<F: Forest>(
+/// Puts siblings in the order of their tags; those with one tag keep their order. Takes memory for more than 20.
+fn sort_siblings(alloc: Global, siblings: &mut [Sibling<'_>]) -> Result<(), AllocError>
+    ensures permutation { IsPermutation siblings.old siblings.new }
+    ensures trees { (d : Trees) (used : Bytes → Bool) (edition : AnyEdition) (context : AnyContext) →
+        OnOk result (sibling_trees used edition context d siblings.new ≡ grouped (sibling_trees used edition context d siblings.old)) }
+{
+    siblings.sort_by(alloc, |a: &Sibling<'_>, b: &Sibling<'_>| {
+        order(a.tag, b.tag)
+    })
+}
+
+/// Appends the structures of a run in the order of their tags; those with one tag keep their order. Grows.
+pub(crate) fn push_sorted<'a, F: Forest>(
     alloc: Global,
-    forest: &F,
+    forest: &'a F,
     start: usize,
     end: usize,
-) -> Result<Vec<Sibling<'_>>, AllocError>
+    siblings: &mut Vec<Sibling<'a>>,
+) -> Result<(), AllocError>
     requires { IsRun (F.trees forest.now) start end }
-    ensures within { IfOk result (λ made. AllByRecursion (λ each. each.place < trees_count (F.trees forest.now)) made.items) }
-    ensures count { IfOk result (λ made. length made.items ≡ length (identifiers (trees_between (F.trees forest.now) start end))) }
+    ensures kept { OnOk result (take (length siblings.old.items) siblings.new.items ≡ siblings.old.items) }
+    ensures within { OnOk result (AllByRecursion (λ each. each.place < trees_count (F.trees forest.now)) (drop (length siblings.old.items) siblings.new.items)) }
+    ensures count { OnOk result (length (drop (length siblings.old.items) siblings.new.items) ≡ length (identifiers (trees_between (F.trees forest.now) start end))) }
     ensures trees { (used : Bytes → Bool) (edition : AnyEdition) (context : AnyContext) →
-        IfOk result (λ made. sibling_trees used edition context (F.trees forest.now) made.items ≡ sorted edition context (used_trees used (trees_between (F.trees forest.now) start end))) }
+        OnOk result (sibling_trees used edition context (F.trees forest.now) (drop (length siblings.old.items) siblings.new.items) ≡ sorted edition context (used_trees used (trees_between (F.trees forest.now) start end))) }
 {
-    let mut made = siblings(alloc, forest, start, end)?;
-    made.sort_by(|a: &Sibling<'_>, b: &Sibling<'_>| order(a.tag, b.tag))?;
-    Ok(made)
+    let base = siblings.len();
+    push_siblings(forest, start, end, siblings)?;
+    sort_siblings(alloc, &mut siblings[base..])
 }
 
 /// The new numbers of a document's records, counted from 1, by the numbers that the records have in the document: those of

@@ -45,9 +45,16 @@ fn is_brief_word(word: &str, without_calendar: bool, without_zeros: bool) -> boo
     !(without_calendar && word == "GREGORIAN") && !(without_zeros && has_leading_zero(word))
 }
 
+/// Whether all words of a line stay. No word is read where none is left out, nor where only GREGORIAN is and no byte is a G.
 fn are_brief_words(line: &str, without_calendar: bool, without_zeros: bool) -> bool
     ensures { result ≡ list_all (tests_word without_calendar without_zeros) (words_of line.now) }
 {
+    if !without_calendar && !without_zeros {
+        return true;
+    }
+    if !without_zeros && !line.as_bytes().contains(&b'G') {
+        return true;
+    }
     for word in line.split(' ') {
         if !is_brief_word(word, without_calendar, without_zeros) {
             return false;

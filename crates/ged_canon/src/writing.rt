@@ -25,9 +25,9 @@ use crate::edition::Edition;
 use crate::new_names::new_number;
 use crate::normal::are_in_order;
 use crate::placing::context_below;
-use crate::siblings::{Sibling, sorted_siblings};
+use crate::siblings::{Sibling, push_sorted};
 use crate::spelling::{brief_line, is_brief_line};
-use ged_line::{LineView, ValueView, write_view};
+use ged_line::{ValueView, write_parts};
 use ged_link::Index;
 use ged_schema::{Context, Rule, lookup_name};
 use ged_tree::{Forest, PayloadView, next_in_run};
@@ -43,6 +43,14 @@ pub(crate) struct Plan<'a> {
     pub(crate) numbers: &'a [usize],
 }
 
+/// Memory that is taken once for a whole document: the text of a pointer's new name, and the siblings of each run in another
+/// order that is being written, those of a deeper run behind those of the runs above it.
+#[derive(Drop)]
+pub(crate) struct Scratch<'a> {
+    pub(crate) name: String,
+    pub(crate) siblings: Vec<Sibling<'a>>,
+}
+
 /// Makes a text the identifier that is X and the number.
 pub(crate) fn put_identifier(number: usize, text: &mut String) -> Result<(), AllocError>
     requires { 0 < number }
@@ -53,23 +61,6 @@ pub(crate) fn put_identifier(number: usize, text: &mut String) -> Result<(), All
     text.push_str("X")?;
     text.push_str(buffer.format(number))?;
     Ok(())
-}
-
-/// Appends the line of parts that are known to be a line's.
-pub(crate) fn write_known(
-    level: u8,
-    xref: Option<&str>,
-    tag: &str,
-    value: ValueView<'_>,
-    out: &mut Vec<u8>,
-) -> Result<(), AllocError>
-    requires { is_line (line_parts level (option_copied xref) tag.now (viewed_value value)) ≡ true }
-    ensures { OnOk result (out.new.items ≡ out.old.items ++ (spelling (line_parts level (option_copied xref.entry) tag.now (viewed_value value.entry)) ++ line_feed ∷ [])) }
-{
-    match LineView::new(level, xref, tag, value) {
-        Some(line) => write_view(&line, out),
-        None => unreachable!(),
-    }
 }
 
 /// What stands in a line that shows one line of a text.
@@ -98,41 +89,41 @@ fn write_pointer(
 {
     let number = new_number(plan.index, plan.numbers, name);
     if number == 0 {
-        return write_known(level, xref, tag, ValueView::Pointer(name), out);
+        return write_parts(level, xref, tag, ValueView::Pointer(name), out);
     }
     put_identifier(number, scratch)?;
-    write_known(level, xref, tag, ValueView::Pointer(scratch.as_str()), out)
+    write_parts(level, xref, tag, ValueView::Pointer(scratch.as_str()), out)
 }
 
 /// Appends the own line of a structure at a place with this rule, whose payload is a text of this line alone. What can be left
 /// out is left out.
 fn write_text(
     plan: &Plan<'_>,
-    rule: Option<Rule>,
+    rule: Option<&Rule>,
     level: u8,
     xref: Option<&str>,
     tag: &str,
     line: &str,
     out: &mut Vec<u8>,
 ) -> Result<(), AllocError>
-    requires { is_line (line_parts level (option_copied xref) tag.now (line_value (spells_brief plan.now.edition (option_map as_row rule) line.now))) ≡ true }
-    ensures { OnOk result (out.new.items ≡ out.old.items ++ (spelling (line_parts level (option_copied xref.entry) tag.now (line_value (spells_brief plan.now.edition (option_map as_row rule) line.now))) ++ line_feed ∷ [])) }
+    requires { is_line (line_parts level (option_copied xref) tag.now (line_value (spells_brief plan.now.edition (option_map as_row (option_copied rule)) line.now))) ≡ true }
+    ensures { OnOk result (out.new.items ≡ out.old.items ++ (spelling (line_parts level (option_copied xref.entry) tag.now (line_value (spells_brief plan.now.edition (option_map as_row (option_copied rule.entry)) line.now))) ++ line_feed ∷ [])) }
 {
     let Some(rule) = rule else {
-        return write_known(level, xref, tag, text_value(line), out);
+        return write_parts(level, xref, tag, text_value(line), out);
     };
-    if is_brief_line(plan.edition, &rule, line) {
-        return write_known(level, xref, tag, text_value(line), out);
+    if is_brief_line(plan.edition, rule, line) {
+        return write_parts(level, xref, tag, text_value(line), out);
     }
-    let brief = brief_line(plan.alloc, plan.edition, &rule, line)?;
-    write_known(level, xref, tag, text_value(brief.as_str()), out)
+    let brief = brief_line(plan.alloc, plan.edition, rule, line)?;
+    write_parts(level, xref, tag, text_value(brief.as_str()), out)
 }
 
 /// Appends the own line of a structure at a place with this rule.
 fn write_own<F: Forest>(
     forest: &F,
     plan: &Plan<'_>,
-    rule: Option<Rule>,
+    rule: Option<&Rule>,
     level: u8,
     xref: Option<&str>,
     sibling: Sibling<'_>,
@@ -140,18 +131,18 @@ fn write_own<F: Forest>(
     out: &mut Vec<u8>,
 ) -> Result<(), AllocError>
     requires within { sibling.place < trees_count (F.trees forest.now) }
-    requires stands { HasLinesAt level (brief_sibling plan.now.edition (option_map as_row rule) (option_copied xref) (F.trees forest.now) sibling) }
+    requires stands { HasLinesAt level (brief_sibling plan.now.edition (option_map as_row (option_copied rule)) (option_copied xref) (F.trees forest.now) sibling) }
     ensures { (names : List Bytes) → IsNumbering names plan.now.index.now plan.now.numbers.now →
-        OnOk result (out.new.items ≡ out.old.items ++ (spelling (own_line level (renamed_sibling (number_of 1 names) plan.now.edition (option_map as_row rule) (option_copied xref.entry) (F.trees forest.now) sibling.entry)) ++ line_feed ∷ [])) }
+        OnOk result (out.new.items ≡ out.old.items ++ (spelling (own_line level (renamed_sibling (number_of 1 names) plan.now.edition (option_map as_row (option_copied rule.entry)) (option_copied xref.entry) (F.trees forest.now) sibling.entry)) ++ line_feed ∷ [])) }
 {
     match forest.payload(sibling.place) {
-        PayloadView::Void => write_known(level, xref, sibling.tag, ValueView::Void, out),
+        PayloadView::Void => write_parts(level, xref, sibling.tag, ValueView::Void, out),
         PayloadView::Pointer(name) => {
             write_pointer(plan, level, xref, sibling.tag, name, scratch, out)
         }
         PayloadView::Text(line) => {
             if forest.further(sibling.place) > 0 {
-                return write_known(level, xref, sibling.tag, text_value(line), out);
+                return write_parts(level, xref, sibling.tag, text_value(line), out);
             }
             write_text(plan, rule, level, xref, sibling.tag, line, out)
         }
@@ -173,7 +164,7 @@ fn write_further<F: Forest>(
 {
     for number in 0..forest.further(place) {
         let value = text_value(forest.further_line(place, number));
-        write_known(level + 1, None, "CONT", value, out)?;
+        write_parts(level + 1, None, "CONT", value, out)?;
     }
     Ok(())
 }
@@ -183,7 +174,7 @@ fn write_further<F: Forest>(
 pub(crate) fn write_structure<F: Forest>(
     forest: &F,
     plan: &Plan<'_>,
-    rule: Option<Rule>,
+    rule: Option<&Rule>,
     level: u8,
     xref: Option<&str>,
     sibling: Sibling<'_>,
@@ -191,9 +182,9 @@ pub(crate) fn write_structure<F: Forest>(
     out: &mut Vec<u8>,
 ) -> Result<(), AllocError>
     requires within { sibling.place < trees_count (F.trees forest.now) }
-    requires stands { HasLinesAt level (brief_sibling plan.now.edition (option_map as_row rule) (option_copied xref) (F.trees forest.now) sibling) }
+    requires stands { HasLinesAt level (brief_sibling plan.now.edition (option_map as_row (option_copied rule)) (option_copied xref) (F.trees forest.now) sibling) }
     ensures { (names : List Bytes) → IsNumbering names plan.now.index.now plan.now.numbers.now →
-        OnOk result (out.new.items ≡ out.old.items ++ spelled_lines (structure_lines level (renamed_sibling (number_of 1 names) plan.now.edition (option_map as_row rule) (option_copied xref.entry) (F.trees forest.now) sibling.entry))) }
+        OnOk result (out.new.items ≡ out.old.items ++ spelled_lines (structure_lines level (renamed_sibling (number_of 1 names) plan.now.edition (option_map as_row (option_copied rule.entry)) (option_copied xref.entry) (F.trees forest.now) sibling.entry))) }
 {
     write_own(forest, plan, rule, level, xref, sibling, scratch, out)?;
     write_further(forest, level, sibling.place, out)
@@ -201,28 +192,42 @@ pub(crate) fn write_structure<F: Forest>(
 
 /// Appends the lines of a structure in a context, and of what stands below it.
 #[cycle(trees)]
-pub(crate) fn write_tree<F: Forest>(
-    forest: &F,
+pub(crate) fn write_tree<'a, F: Forest>(
+    forest: &'a F,
     plan: &Plan<'_>,
     context: Context,
     level: u8,
     xref: Option<&str>,
     sibling: Sibling<'_>,
-    scratch: &mut String,
+    scratch: &mut Scratch<'a>,
     out: &mut Vec<u8>,
 ) -> Result<(), AllocError>
     requires document { is_document (F.trees forest.now) ≡ true }
     requires within { sibling.place < trees_count (F.trees forest.now) }
     requires stands { HasLinesAt level (brief_sibling plan.now.edition (row context sibling.tag.now) (option_copied xref) (F.trees forest.now) sibling) }
     requires below { are_at (level + 1) (sorted plan.now.edition (context_under context sibling.tag.now) (below_at (F.trees forest.now) sibling.place)) ≡ true }
-    ensures { (names : List Bytes) → IsNumbering names plan.now.index.now plan.now.numbers.now →
+    ensures kept { OnOk result (scratch.new.siblings.items ≡ scratch.old.siblings.items) }
+    ensures lines { (names : List Bytes) → IsNumbering names plan.now.index.now plan.now.numbers.now →
         OnOk result (out.new.items ≡ out.old.items ++ spelled_lines (structure_lines level (renamed_sibling (number_of 1 names) plan.now.edition (row context sibling.entry.tag.now) (option_copied xref.entry) (F.trees forest.now) sibling.entry)
         ++ lines_of (level + 1) (renamed (number_of 1 names) (sorted plan.now.edition (context_under context sibling.entry.tag.now) (below_at (F.trees forest.now) sibling.entry.place))))) }
 {
-    let rule = lookup_name(context, sibling.tag);
-    write_structure(forest, plan, rule, level, xref, sibling, scratch, out)?;
+    let found = lookup_name(context, sibling.tag);
+    let rule = found.as_ref();
+    write_structure(
+        forest,
+        plan,
+        rule,
+        level,
+        xref,
+        sibling,
+        &mut scratch.name,
+        out,
+    )?;
     let end = forest.after(sibling.place);
     let start = sibling.place + 1;
+    if start >= end {
+        return Ok(());
+    }
     write_run(
         forest,
         plan,
@@ -238,21 +243,22 @@ pub(crate) fn write_tree<F: Forest>(
 /// Appends the lines of the structures of a run that stand in a context, and of what stands below them, in the order of
 /// their tags. They are no records.
 #[cycle(trees)]
-fn write_run<F: Forest>(
-    forest: &F,
+fn write_run<'a, F: Forest>(
+    forest: &'a F,
     plan: &Plan<'_>,
     context: Context,
     level: u8,
     start: usize,
     end: usize,
-    scratch: &mut String,
+    scratch: &mut Scratch<'a>,
     out: &mut Vec<u8>,
 ) -> Result<(), AllocError>
     requires document { is_document (F.trees forest.now) ≡ true }
     requires run { IsRun (F.trees forest.now) start end }
     requires deep { 0 < level }
     requires stand { are_at level (sorted plan.now.edition context (trees_between (F.trees forest.now) start end)) ≡ true }
-    ensures { (names : List Bytes) → IsNumbering names plan.now.index.now plan.now.numbers.now →
+    ensures kept { OnOk result (scratch.new.siblings.items ≡ scratch.old.siblings.items) }
+    ensures lines { (names : List Bytes) → IsNumbering names plan.now.index.now plan.now.numbers.now →
         OnOk result (out.new.items ≡ out.old.items ++ spelled_lines (lines_of level (renamed (number_of 1 names) (sorted plan.now.edition context (trees_between (F.trees forest.now) start end))))) }
 {
     if !are_in_order(forest, start, end) {
@@ -270,28 +276,35 @@ fn write_run<F: Forest>(
     Ok(())
 }
 
-/// The same for a run that is in another order.
+/// The same for a run that is in another order: its siblings are put in order behind those that the scratch has, and taken
+/// away again.
 #[cycle(trees)]
-fn write_sorted<F: Forest>(
-    forest: &F,
+fn write_sorted<'a, F: Forest>(
+    forest: &'a F,
     plan: &Plan<'_>,
     context: Context,
     level: u8,
     start: usize,
     end: usize,
-    scratch: &mut String,
+    scratch: &mut Scratch<'a>,
     out: &mut Vec<u8>,
 ) -> Result<(), AllocError>
     requires document { is_document (F.trees forest.now) ≡ true }
     requires run { IsRun (F.trees forest.now) start end }
     requires deep { 0 < level }
     requires stand { are_at level (sorted plan.now.edition context (trees_between (F.trees forest.now) start end)) ≡ true }
-    ensures { (names : List Bytes) → IsNumbering names plan.now.index.now plan.now.numbers.now →
+    ensures kept { OnOk result (scratch.new.siblings.items ≡ scratch.old.siblings.items) }
+    ensures lines { (names : List Bytes) → IsNumbering names plan.now.index.now plan.now.numbers.now →
         OnOk result (out.new.items ≡ out.old.items ++ spelled_lines (lines_of level (renamed (number_of 1 names) (sorted plan.now.edition context (trees_between (F.trees forest.now) start end))))) }
 {
-    let siblings = sorted_siblings(plan.alloc, forest, start, end)?;
-    for sibling in &siblings {
-        write_tree(forest, plan, context, level, None, *sibling, scratch, out)?;
+    let base = scratch.siblings.len();
+    push_sorted(plan.alloc, forest, start, end, &mut scratch.siblings)?;
+    let mut number = base;
+    while number < scratch.siblings.len() {
+        let sibling = scratch.siblings[number];
+        write_tree(forest, plan, context, level, None, sibling, scratch, out)?;
+        number += 1;
     }
+    scratch.siblings.truncate(base);
     Ok(())
 }

@@ -77,36 +77,41 @@ fn settings_of(matches: &ArgMatches<'_>) -> Settings {
     settings
 }
 
+/// What the program understands.
 fn command_line<'a>(alloc: Global) -> Result<clap::Command<'a>, AllocError> {
-    let lines = file_command(
-        alloc,
-        "lines",
-        "Writes the lines of a file in their canonical spelling",
-    )?;
-    let check = file_command(
-        alloc,
-        "check",
-        "Tells the notices of a file, and that it is accepted",
-    )?
-    .arg(strict_flag(alloc))?;
-    let show = file_command(
-        alloc,
-        "show",
-        "Writes the level, tag and kind of each structure of a file",
-    )?
-    .arg(strict_flag(alloc))?;
-    let canon = file_command(alloc, "canon", "Writes a file in its canonical form")?
-        .arg(strict_flag(alloc))?
-        .arg(second_flag(alloc))?;
     clap::Command::new(alloc, NAME)
         .bin_name(NAME)?
         .about("Reads FamilySearch GEDCOM 7.0 files")
         .subcommand_required(true)
-        .subcommand(lines)?
-        .subcommand(check)?
-        .subcommand(show)?
-        .subcommand(canon)?
+        .subcommand(lines_command(alloc)?)?
+        .subcommand(check_command(alloc)?)?
+        .subcommand(show_command(alloc)?)?
+        .subcommand(canon_command(alloc)?)?
         .subcommand(same_command(alloc)?)
+}
+
+fn lines_command<'a>(alloc: Global) -> Result<clap::Command<'a>, AllocError> {
+    file_command(
+        alloc,
+        "lines",
+        "Writes the lines of a file in their canonical spelling",
+    )
+}
+
+fn check_command<'a>(alloc: Global) -> Result<clap::Command<'a>, AllocError> {
+    let about = "Tells the notices of a file, and that it is accepted";
+    file_command(alloc, "check", about)?.arg(strict_flag(alloc))
+}
+
+fn show_command<'a>(alloc: Global) -> Result<clap::Command<'a>, AllocError> {
+    let about = "Writes the level, tag and kind of each structure of a file";
+    file_command(alloc, "show", about)?.arg(strict_flag(alloc))
+}
+
+fn canon_command<'a>(alloc: Global) -> Result<clap::Command<'a>, AllocError> {
+    file_command(alloc, "canon", "Writes a file in its canonical form")?
+        .arg(strict_flag(alloc))?
+        .arg(second_flag(alloc))
 }
 
 /// The flag under which files are judged by the strict profile.

@@ -1,8 +1,8 @@
 // The lines of a file as slices of it, one after another.
-ghost use Rattle.std.specs.Prelude.{◌≡◌, ◌≤◌, ◌∷◌, [], length, MatchOption, IfSome, IsUtf8};
+ghost use Rattle.std.specs.Prelude.{◌≡◌, ◌≤◌, ◌<◌, ◌∷◌, ◌++◌, [], length, MatchOption, IfSome, IsUtf8};
 ghost use Rattle.std.specs.Iterator.{item_count};
 ghost use Rattle.ged_line.specs.Bytes.{Bytes};
-ghost use Rattle.ged_line.specs.Pieces.{ArePiecesOf, pieces_of};
+ghost use Rattle.ged_line.specs.Pieces.{ArePiecesOf, IsBehindMark, pieces_of};
 ghost use Rattle.ged_line.specs.Reading.{TellsSpelled, YieldsLine};
 
 use crate::blocks::split_block;
@@ -50,11 +50,29 @@ pub fn view_lines(bytes: &[u8]) -> LineViews<'_>
     }
 }
 
-/// What the first line of a text is, and the text behind it.
+/// The whole text of a file behind an optional byte order mark, or `None` where it is not UTF-8. Many bytes are
+/// validated at a time. Takes no memory.
+pub fn text_behind_mark(bytes: &[u8]) -> Option<&str>
+    ensures { MatchOption result
+        ((rest : Bytes) × IsBehindMark bytes.now rest × ¬ (IsUtf8 rest))
+        (λ text. IsBehindMark bytes.now text.now × IsUtf8 text.now) }
+{
+    match simdutf8::basic::from_utf8(skip_mark(bytes)) {
+        Ok(text) => Some(text),
+        Err(_) => None,
+    }
+}
+
+/// What the first line of a text without a mark is, as [`view_line`] answers for its piece, and the text behind its end;
+/// `None` where the text is empty. The piece stands at the front of the text. Takes no memory
+/// (FamilySearch GEDCOM 7.0, "Lines").
 #[inline(always)]
-fn first_of_text(text: &str) -> Option<(Result<SpelledLine<'_>, LineFault>, &str)>
+pub fn first_line(text: &str) -> Option<(Result<SpelledLine<'_>, LineFault>, &str)>
     ensures line { MatchOption result (pieces_of text.now ≡ []) (λ p. (piece : Bytes)
         × (pieces_of text.now ≡ piece ∷ pieces_of p.1.now) × TellsSpelled p.0 piece) }
+    ensures front { IfSome result (λ p. (piece end : Bytes)
+        × (text.now ≡ piece ++ (end ++ p.1.now)) × TellsSpelled p.0 piece) }
+    ensures shorter { IfSome result (λ p. length p.1.now < length text.now) }
     ensures utf8 { IfSome result (λ p. IsUtf8 p.1.now) }
 {
     if text.is_empty() {
@@ -90,7 +108,7 @@ fn first_of_blocks(bytes: &[u8]) -> Option<(Result<SpelledLine<'_>, LineFault>, 
         };
         return Some((spelled_line(piece), lines));
     };
-    let Some((line, text)) = first_of_text(text) else {
+    let Some((line, text)) = first_line(text) else {
         return None;
     };
     let lines = LineViews {
@@ -110,7 +128,7 @@ impl<'a> Iterator for LineViews<'a> {
 
     #[inline(always)]
     fn next(&mut self) -> Option<Result<SpelledLine<'a>, LineFault>> {
-        if let Some((line, after)) = first_of_text(self.text) {
+        if let Some((line, after)) = first_line(self.text) {
             self.text = after;
             return Some(line);
         }

@@ -1,7 +1,7 @@
 // Writing lines in their canonical spelling.
-ghost use Rattle.std.specs.Prelude.{◌≡◌, true, ◌++◌, ◌∷◌, List, ℕ, [], OnOk, OnErr, IfOk, option_map};
-ghost use Rattle.ged_line.specs.Bytes.{Bytes, line_feed};
-ghost use Rattle.ged_line.specs.Lines.{xref_part, is_line};
+ghost use Rattle.std.specs.Prelude.{◌≡◌, ◌≤◌, true, ◌++◌, ◌∷◌, List, ℕ, [], OnOk, OnErr, IfOk, option_map, decimal};
+ghost use Rattle.ged_line.specs.Bytes.{Bytes, line_feed, space};
+ghost use Rattle.ged_line.specs.Lines.{xref_part, line_parts, is_line};
 ghost use Rattle.ged_line.specs.Files.{FileText};
 ghost use Rattle.ged_line.specs.Views.{viewed_value};
 ghost use Rattle.ged_line.specs.Spelling.{spelling, value_part, file_of};
@@ -10,6 +10,21 @@ use crate::line::Line;
 use crate::view::{LineView, ValueView};
 use itoa::Buffer;
 use std::alloc::{AllocError, Global};
+
+/// Appends the digits of a level, and a space. Most levels have one digit.
+fn append_level(level: u8, out: &mut Vec<u8>) -> Result<(), AllocError>
+    requires { level ≤ 99 }
+    ensures ok { OnOk result (out.new.items ≡ out.old.items ++ (decimal level ++ space ∷ [])) }
+    ensures kept { (more : Bytes) × (out.new.items ≡ out.old.items ++ more) }
+{
+    if level < 10 {
+        return out.extend_from_slice(&[b'0' + level, b' ']);
+    }
+    let mut buffer = Buffer::new();
+    out.extend_from_slice(buffer.format(level).as_bytes())?;
+    out.push(b' ')?;
+    Ok(())
+}
 
 fn append_xref(xref: Option<&str>, out: &mut Vec<u8>) -> Result<(), AllocError>
     ensures ok { OnOk result (out.new.items ≡ out.old.items ++ xref_part (option_map (λ name. name.now) xref.entry)) }
@@ -46,19 +61,45 @@ fn append_value(value: ValueView<'_>, out: &mut Vec<u8>) -> Result<(), AllocErro
     Ok(())
 }
 
-fn append_line(view: &LineView<'_>, out: &mut Vec<u8>) -> Result<(), AllocError>
-    ensures ok { OnOk result (out.new.items ≡ out.old.items ++ (spelling view.now ++ line_feed ∷ [])) }
+fn append_line(
+    level: u8,
+    xref: Option<&str>,
+    tag: &str,
+    value: ValueView<'_>,
+    out: &mut Vec<u8>,
+) -> Result<(), AllocError>
+    requires { level ≤ 99 }
+    ensures ok { OnOk result (out.new.items ≡ out.old.items ++ (spelling (line_parts level (option_map (λ name. name.now) xref.entry) tag.now (viewed_value value.entry)) ++ line_feed ∷ [])) }
     ensures kept { (more : Bytes) × (out.new.items ≡ out.old.items ++ more) }
-    ensures line { is_line view.now ≡ true }
 {
-    let mut buffer = Buffer::new();
-    out.extend_from_slice(buffer.format(view.level()).as_bytes())?;
-    out.push(b' ')?;
-    append_xref(view.xref(), out)?;
-    out.extend_from_slice(view.tag().as_bytes())?;
-    append_value(view.value(), out)?;
+    append_level(level, out)?;
+    append_xref(xref, out)?;
+    out.extend_from_slice(tag.as_bytes())?;
+    append_value(value, out)?;
     out.push(b'\n')?;
     Ok(())
+}
+
+/// Appends the canonical spelling of the line of parts that are known to be a line's, and LF: a name is a tag or a
+/// cross-reference identifier, and a text has no banned character. They aren't tested again. Grows; after an `Err` the
+/// vector is unchanged (FamilySearch GEDCOM 7.0, "Lines").
+pub fn write_parts(
+    level: u8,
+    xref: Option<&str>,
+    tag: &str,
+    value: ValueView<'_>,
+    out: &mut Vec<u8>,
+) -> Result<(), AllocError>
+    requires { is_line (line_parts level (option_map (λ name. name.now) xref) tag.now (viewed_value value)) ≡ true }
+    ensures ok { OnOk result (out.new.items ≡ out.old.items ++ (spelling (line_parts level (option_map (λ name. name.now) xref.entry) tag.now (viewed_value value.entry)) ++ line_feed ∷ [])) }
+    ensures err { OnErr result (out.new.items ≡ out.old.items) }
+{
+    let start = out.len();
+    let result = append_line(level, xref, tag, value, out);
+    if result.is_err() {
+        out.truncate(start);
+    }
+    result
 }
 
 /// Appends the canonical spelling of a line and LF. Grows; after an `Err` the vector is unchanged
@@ -68,12 +109,7 @@ pub fn write_view(view: &LineView<'_>, out: &mut Vec<u8>) -> Result<(), AllocErr
     ensures err { OnErr result (out.new.items ≡ out.old.items) }
     ensures line { is_line view.now ≡ true }
 {
-    let start = out.len();
-    let result = append_line(view, out);
-    if result.is_err() {
-        out.truncate(start);
-    }
-    result
+    write_parts(view.level(), view.xref(), view.tag(), view.value(), out)
 }
 
 /// Appends the canonical spelling of a line and LF. Grows; after an `Err` the vector is unchanged

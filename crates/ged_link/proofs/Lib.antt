@@ -2,6 +2,8 @@ pub mod WalkLemmas
 pub mod PairLemmas
 pub mod PlaceCases
 pub mod LinkLemmas
+pub mod NameLemmas
+pub mod TypeLemmas
 pub mod LawLemmas
 pub mod RecordLemmas
 pub mod UseLemmas

@@ -1,5 +1,5 @@
 -- The pairs of linked records, kept by their places in order; where each is told by both, no link goes in one direction only.
-use Rattle.std.proofs.Common.{◌≡◌, ℕ, ◌+◌, ◌≤◌, Bool, true, false, cond, not, ◌&&◌, ◌||◌, nat_eq, nat_le, [], Option, Some, None, length, slice_get, inl, inr, refl, sym, ap, ◌∙◌, arith}
+use Rattle.std.proofs.Common.{◌≡◌, ℕ, ◌+◌, ◌≤◌, Bool, true, false, ◌&&◌, ◌||◌, nat_eq, nat_le, [], Option, Some, None, length, slice_get, unwrap_or, inl, inr, refl, sym, ap, ◌∙◌, arith}
 use Rattle.std.specs.HashMap.{get}
 use Rattle.std.specs.Str.{bytes_eq}
 use Rattle.std.proofs.lemmas.Bool.{cases_lt}
@@ -20,10 +20,6 @@ or_true : (b : Bool) → b || true ≡ true
 or_true true = refl
 or_true false = refl
 
-or_false : (b : Bool) → b || false ≡ b
-or_false true = refl
-or_false false = refl
-
 and_false : (b : Bool) → b && false ≡ false
 and_false true = refl
 and_false false = refl
@@ -33,62 +29,10 @@ same_number n = grind (arith, nat_tests)
 
 -- ---- one more link
 
--- in the direction of the link
-told_here : (b : Bool) (old here : Option Told) (rising : Bool) → tells (cond b (Some (told_more old rising)) here) rising ≡ b || tells here rising
-told_here false old here rising = refl
-told_here true None here true = refl
-told_here true None here false = refl
-told_here true (Some told) here true = or_true told.by_lower
-told_here true (Some told) here false = or_true told.by_higher
-
--- in the other direction
-told_back : (old : Option Told) (rising : Bool) → tells (Some (told_more old (not rising))) rising ≡ tells old rising
-told_back None true = refl
-told_back None false = refl
-told_back (Some told) true = or_false told.by_lower
-told_back (Some told) false = or_false told.by_higher
-
-told_there : (b : Bool) (old here : Option Told) (rising : Bool) → (b ≡ true → old ≡ here) → tells (cond b (Some (told_more old (not rising))) here) rising ≡ tells here rising
-told_there false old here rising same = refl
-told_there true old here rising same = told_back old rising ∙ ap (λ o. tells o rising) (same refl)
-
-module _ (from to p q : ℕ) where
-  turned_pair : nat_eq p from && nat_eq q to ≡ nat_eq from p && nat_eq to q
-  turned_pair = grind (arith, nat_tests)
-
-  crossed_pair : nat_eq p from && nat_eq q to ≡ nat_eq to q && nat_eq from p
-  crossed_pair = grind (arith, nat_tests)
-
-  not_falling : nat_le p q ≡ true → nat_le from to ≡ false → nat_eq p from && nat_eq q to ≡ false
-  not_falling h k = grind (arith, nat_tests)
-
-  not_rising : nat_le p q ≡ false → nat_le from to ≡ true → nat_eq p from && nat_eq q to ≡ false
-  not_rising h k = grind (arith, nat_tests)
-
-same_first : (a b c d : ℕ) → nat_eq a c && nat_eq b d ≡ true → a ≡ c
-same_first a b c d e = grind (arith, nat_tests)
-
-same_second : (a b c d : ℕ) → nat_eq a c && nat_eq b d ≡ true → b ≡ d
-same_second a b c d e = grind (arith, nat_tests)
-
-same_key : (map : PairMap) (a b c d : ℕ) → nat_eq a c && nat_eq b d ≡ true → get pair_eq map (a, b) ≡ get pair_eq map (c, d)
-same_key map a b c d e = rw (same_first a b c d e, same_second a b c d e) refl
-
-module _ (old new : PairMap) (from to : ℕ) (more : (pair : ℕ × ℕ) → get pair_eq new pair ≡ cond (pair_eq (in_order (from, to)) pair) (Some (told_more (get pair_eq old (in_order (from, to))) (nat_le from to))) (get pair_eq old pair)) where
-  added_by : (p q : ℕ) (x y : Bool) → nat_le p q ≡ x → nat_le from to ≡ y → links_to new (p, q) ≡ (pair_eq (p, q) (from, to) || links_to old (p, q))
-  added_by p q true true h k =
-      rw (h, more (p, q), k, turned_pair from to p q) (told_here (nat_eq from p && nat_eq to q) (get pair_eq old (from, to)) (get pair_eq old (p, q)) true)
-  added_by p q false false h k =
-      rw (h, more (q, p), k, crossed_pair from to p q) (told_here (nat_eq to q && nat_eq from p) (get pair_eq old (to, from)) (get pair_eq old (q, p)) false)
-  added_by p q true false h k =
-      rw (not_falling from to p q h k, h, more (p, q), k)
-      (told_there (nat_eq to p && nat_eq from q) (get pair_eq old (to, from)) (get pair_eq old (p, q)) true (same_key old to from p q))
-  added_by p q false true h k =
-      rw (not_rising from to p q h k, h, more (q, p), k)
-      (told_there (nat_eq from q && nat_eq to p) (get pair_eq old (from, to)) (get pair_eq old (q, p)) false (same_key old from to q p))
-
-  pub added : (pair : ℕ × ℕ) → links_to new pair ≡ (pair_eq pair (from, to) || links_to old pair)
-  added pair = added_by pair.0 pair.1 (nat_le pair.0 pair.1) (nat_le from to) refl refl
+-- what is told of a new pair is told on top of nothing
+pub told_of_new : (old : Option Told) (told : Told) (rising : Bool) → told ≡ unwrap_or old (record { by_lower = false; by_higher = false }) → told_more (Some told) rising ≡ told_more old rising
+told_of_new None told rising e = rw e refl
+told_of_new (Some other) told rising e = rw e refl
 
 -- ---- pairs that are told by both
 

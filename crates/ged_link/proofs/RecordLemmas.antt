@@ -2,7 +2,6 @@
 use Rattle.std.proofs.Common.{◌≡◌, ℕ, ◌+◌, ◌-◌, ◌<◌, ◌≤◌, true, false, Bool, sym, ◌∙◌, ap, refl, arith, rules, List, [], ◌∷◌, drop, length, get_or, Option, Some, None, option_map, slice_get, is_some, is_none, ◌⊎◌, inl, inr, subst, ◌↔◌}
 use Rattle.std.specs.Bool.{if◌then◌else◌, Decides}
 use Rattle.std.specs.Str.{bytes_eq}
-use Rattle.std.specs.HashMap.{get_by_text, IsEmpty}
 use Rattle.std.proofs.lemmas.Slice.Eq.{bytes_eq-Decides}
 use Rattle.std.proofs.lemmas.Bool.{cases_lt}
 use Rattle.std.proofs.lemmas.List.{drop_all, drop_more}
@@ -15,8 +14,10 @@ use Rattle.ged_tree.specs.Runs.{trees_between, IsRun, IsStep}
 use Rattle.ged_tree.proofs.PlaceLemmas.{whole_is, run_whole, run_ends}
 use Rattle.ged_link.specs.declared.index.RecordPlace.{RecordPlace}
 use Rattle.ged_link.specs.Links.{identifiers, IsRecordNumber}
+use Rattle.ged_link.specs.RecordTypes.{IsTypeOf}
 use Rattle.ged_link.specs.LinkFaults.{HasXref, IsRepeated, IsLowest}
-use Rattle.ged_link.specs.Indexes.{RecordMap, AreRecords}
+use Rattle.ged_link.specs.declared.names.Names.{Names}
+use Rattle.ged_link.specs.Indexes.{found_in, AreRecords}
 use Rattle.ged_link.specs.Resolving.{AddsName, AreRecordsBefore}
 use Rattle.ged_link.proofs.LinkLemmas.{both, document_level, level_parts, unnamed, unnamed_run}
 use Rattle.ged_link.proofs.PlaceCases.{place_cases, at_first, at_below}
@@ -43,9 +44,6 @@ whole_end d e run is = let f : 0 + trees_count d ≡ e = rw is at run.fills in o
 -- a run without a tree is over
 pub run_over : (d : Trees) (p e : ℕ) → IsRun d p e → trees_between d p e ≡ none → p ≡ e
 run_over d p e run ends = let f : p + 0 ≡ e = rw ends at run.fills in omega arith
-
-pub empty_none : (records : RecordMap) → IsEmpty records → (name : Bytes) → get_by_text records name ≡ None
-empty_none records empty name = search rules
 
 -- ---- the identifiers of the records that are left
 
@@ -92,6 +90,14 @@ point f name n found old false x A B d fresh is cases grows here = (
   ],
 )
 
+-- one more type
+typed_one : (d : Trees) (found : RecordPlace) (old : Option RecordPlace) (same : Bool) (kept : RecordPlace)
+    → IsTypeOf found.record_type (structure_at d found.place).tag
+    → ((other : RecordPlace) → old ≡ Some other → IsTypeOf other.record_type (structure_at d other.place).tag)
+    → (if same then Some found else old) ≡ Some kept → IsTypeOf kept.record_type (structure_at d kept.place).tag
+typed_one d found old true kept new before is = let f : found ≡ kept = cc in subst (λ (r : RecordPlace). IsTypeOf r.record_type (structure_at d r.place).tag) f new
+typed_one d found old false kept new before is = before kept is
+
 -- the walk is at a record
 module _ (d : Trees) (p e a k : ℕ) (step : IsStep d p e a) (level : are_at 0 (trees_between d p e) ≡ true) (left : drop k (identifiers (records_of d)) ≡ identifiers (trees_between d p e)) where
   level_here : (are_at 1 (trees_between d (p + 1) a) ≡ true) × (are_at 0 (trees_between d a e) ≡ true)
@@ -134,7 +140,7 @@ module _ (d : Trees) (p e a k : ℕ) (step : IsStep d p e a) (level : are_at 0 (
   number_grows : (name : Bytes) (other : ℕ) → (other < k) × IsRecordNumber d other name → (other < k + 1) × IsRecordNumber d other name
   number_grows name other h = (omega (arith, h.0), h.1)
 
-  pub records_kept : (records : RecordMap) → (structure_at d p).xref ≡ None → AreRecordsBefore d p k records → AreRecordsBefore d a (k + 1) records
+  pub records_kept : (records : Names) → (structure_at d p).xref ≡ None → AreRecordsBefore d p k records → AreRecordsBefore d a (k + 1) records
   records_kept records unnamed_here are = record {
     placed = λ name other. (
       λ s. place_grows name other ((are.placed name other).0 s),
@@ -144,27 +150,29 @@ module _ (d : Trees) (p e a k : ℕ) (step : IsStep d p e a) (level : are_at 0 (
       λ s. number_grows name other ((are.numbered name other).0 s),
       λ h. elim (number_before name other h) [ inl old ↦ (are.numbered name other).1 old | inr new ↦ (let some_is = new.1 in cc) ],
     );
+    typed = are.typed;
   }
 
-  pub records_more : (old new : RecordMap) (name : Bytes) (found : RecordPlace) → found.place ≡ p → found.number ≡ k → (structure_at d p).xref ≡ Some name → get_by_text old name ≡ None
+  pub records_more : (old new : Names) (name : Bytes) (found : RecordPlace) → found.place ≡ p → found.number ≡ k → IsTypeOf found.record_type (structure_at d p).tag → (structure_at d p).xref ≡ Some name → found_in old name ≡ None
       → AddsName old new name found → AreRecordsBefore d p k old → AreRecordsBefore d a (k + 1) new
-  records_more old new name found at_place at_number here fresh adds are = record {
+  records_more old new name found at_place at_number of_type here fresh adds are = record {
     placed = λ n other.
         subst (λ (x : Option RecordPlace). (option_map (λ (r : RecordPlace). r.place) x ≡ Some other) ↔ ((other < a) × HasXref d other n)) (sym (adds n))
-        (point (λ r. r.place) name n found (get_by_text old n) (bytes_eq name n) other ((other < p) × HasXref d other n) ((other < a) × HasXref d other n) (bytes_eq-Decides name n)
-        (λ same. ap (get_by_text old) (sym same) ∙ fresh)
+        (point (λ r. r.place) name n found (found_in old n) (bytes_eq name n) other ((other < p) × HasXref d other n) ((other < a) × HasXref d other n) (bytes_eq-Decides name n)
+        (λ same. ap (found_in old) (sym same) ∙ fresh)
         (are.placed n other)
         (λ h. elim (place_before n other h) [ inl before ↦ inl before | inr new ↦ inr (let some_is = new.1 in cc, at_place ∙ sym new.0) ])
         (place_grows n other)
         (λ same is. let f : other ≡ p = sym is ∙ at_place in (omega (arith, f, step.forth), (omega (arith, f, step.within), rw (f, ← same) here))));
     numbered = λ n other.
         subst (λ (x : Option RecordPlace). (option_map (λ (r : RecordPlace). r.number) x ≡ Some other) ↔ ((other < k + 1) × IsRecordNumber d other n)) (sym (adds n))
-        (point (λ r. r.number) name n found (get_by_text old n) (bytes_eq name n) other ((other < k) × IsRecordNumber d other n) ((other < k + 1) × IsRecordNumber d other n) (bytes_eq-Decides name n)
-        (λ same. ap (get_by_text old) (sym same) ∙ fresh)
+        (point (λ r. r.number) name n found (found_in old n) (bytes_eq name n) other ((other < k) × IsRecordNumber d other n) ((other < k + 1) × IsRecordNumber d other n) (bytes_eq-Decides name n)
+        (λ same. ap (found_in old) (sym same) ∙ fresh)
         (are.numbered n other)
         (λ h. elim (number_before n other h) [ inl before ↦ inl before | inr new ↦ inr (let some_is = new.1 in cc, at_number ∙ sym new.0) ])
         (number_grows n other)
         (λ same is. let f : other ≡ k = sym is ∙ at_number in (omega (arith, f), rw (f, ← same) (named_here ∙ ap Some here))));
+    typed = λ n kept is. typed_one d found (found_in old n) (bytes_eq name n) kept (rw at_place of_type) (are.typed n) (sym (adds n) ∙ is);
   }
 
 -- ---- the records before the first one
@@ -183,8 +191,8 @@ head_unnamed (tree s b n) doc first other name sum before h =
       | inr (inr w) ↦ absurd (omega (arith, w.2, sum, before))
     ]
 
-pub records_start : (d : Trees) → is_document d ≡ true → (first e : ℕ) → e ≡ trees_count d → IsRun d first e → trees_between d first e ≡ records_of d → (records : RecordMap)
-    → ((name : Bytes) → get_by_text records name ≡ None) → AreRecordsBefore d first 0 records
+pub records_start : (d : Trees) → is_document d ≡ true → (first e : ℕ) → e ≡ trees_count d → IsRun d first e → trees_between d first e ≡ records_of d → (records : Names)
+    → ((name : Bytes) → found_in records name ≡ None) → AreRecordsBefore d first 0 records
 records_start d doc first e whole run is records empty =
     let sum : first + trees_count (records_of d) ≡ trees_count d = rw (is, whole) at run.fills in
     record {
@@ -196,6 +204,7 @@ records_start d doc first e whole run is records empty =
         λ s. absurd (let f = empty name in let g : None ≡ Some other = sym (ap (option_map (λ (r : RecordPlace). r.number)) f) ∙ s in cc),
         λ h. absurd (omega (arith, h.0)),
       );
+      typed = λ name found is. absurd (let f = empty name in let g : None ≡ Some found = sym f ∙ is in cc);
     }
 
 pub records_level : (d : Trees) → is_document d ≡ true → are_at 0 (records_of d) ≡ true
@@ -203,7 +212,7 @@ records_level none doc = cc
 records_level (tree s b n) doc = (level_parts 0 s b n (document_level (tree s b n) doc)).2
 
 -- all records are found
-pub records_all : (d : Trees) (p k e : ℕ) (records : RecordMap) → e ≡ trees_count d → IsRun d p e → trees_between d p e ≡ none
+pub records_all : (d : Trees) (p k e : ℕ) (records : Names) → e ≡ trees_count d → IsRun d p e → trees_between d p e ≡ none
     → drop k (identifiers (records_of d)) ≡ identifiers (trees_between d p e) → AreRecordsBefore d p k records → AreRecords d records
 records_all d p k e records whole run ends left are =
     let at_end : p ≡ trees_count d = let f : p + 0 ≡ e = rw ends at run.fills in omega arith in
@@ -211,13 +220,14 @@ records_all d p k e records whole run ends left are =
     record {
       placed = λ name other. (λ s. ((are.placed name other).0 s).1, λ h. (are.placed name other).1 (omega (arith, at_end, h.0), h));
       numbered = λ name other. (λ s. ((are.numbered name other).0 s).1, λ h. (are.numbered name other).1 (omega (arith, few, slice_get_within (identifiers (records_of d)) other (Some name) h), h));
+      typed = are.typed;
     }
 
 pub records_count : (d : Trees) (p k e : ℕ) → trees_between d p e ≡ none → drop k (identifiers (records_of d)) ≡ identifiers (trees_between d p e) → k ≤ length (identifiers (records_of d)) → k ≡ length (identifiers (records_of d))
 records_count d p k e ends left few = let many = left_none (identifiers (records_of d)) k (left ∙ ap identifiers ends) in omega arith
 
 -- no identifier is repeated before the place of the walk
-pub none_repeated : (d : Trees) (p k : ℕ) (records : RecordMap) → AreRecordsBefore d p k records → (place : ℕ) → place < p → IsRepeated d place → ⊥
+pub none_repeated : (d : Trees) (p k : ℕ) (records : Names) → AreRecordsBefore d p k records → (place : ℕ) → place < p → IsRepeated d place → ⊥
 none_repeated d p k records are place before h =
     let here = (are.placed h.0 place).1 (before, h.2) in
     let there = (are.placed h.0 h.1).1 (omega (arith, h.4, before), h.3) in
@@ -228,19 +238,23 @@ found_of : (o : Option RecordPlace) → is_some o ≡ true → (found : RecordPl
 found_of None e = cc
 found_of (Some found) e = (found, refl)
 
-pub first_repeated : (d : Trees) (p k : ℕ) (records : RecordMap) (name : Bytes) → AreRecordsBefore d p k records → is_some (get_by_text records name) ≡ true → HasXref d p name → IsLowest (IsRepeated d) p
+pub first_repeated : (d : Trees) (p k : ℕ) (records : Names) (name : Bytes) → AreRecordsBefore d p k records → is_some (found_in records name) ≡ true → HasXref d p name → IsLowest (IsRepeated d) p
 first_repeated d p k records name are some_is here =
-    let found = found_of (get_by_text records name) some_is in
+    let found = found_of (found_in records name) some_is in
     let there = (are.placed name found.0.place).0 (ap (option_map (λ (r : RecordPlace). r.place)) found.1) in (
       (name, found.0.place, here, there.1, there.0),
       λ other h. elim (cases_lt other p) [ inl before ↦ absurd (none_repeated d p k records are other before h) | inr past ↦ past ],
     )
 
-pub none_repeated_all : (d : Trees) (p k e : ℕ) (records : RecordMap) → e ≡ trees_count d → IsRun d p e → trees_between d p e ≡ none → AreRecordsBefore d p k records → (place : ℕ) → IsRepeated d place → ⊥
+pub none_repeated_all : (d : Trees) (p k e : ℕ) (records : Names) → e ≡ trees_count d → IsRun d p e → trees_between d p e ≡ none → AreRecordsBefore d p k records → (place : ℕ) → IsRepeated d place → ⊥
 none_repeated_all d p k e records whole run ends are place h =
     let at_end : p ≡ trees_count d = let f : p + 0 ≡ e = rw ends at run.fills in omega arith in
     none_repeated d p k records are place (omega (arith, at_end, h.2.0)) h
 
-pub none_of_false : (o : Option RecordPlace) → is_some o ≡ false → o ≡ None
-none_of_false None e = refl
-none_of_false (Some found) e = cc
+pub none_of_new : (o : Option RecordPlace) → is_none o ≡ true → o ≡ None
+none_of_new None e = refl
+none_of_new (Some found) e = cc
+
+pub some_of_old : (o : Option RecordPlace) → is_none o ≡ false → is_some o ≡ true
+some_of_old None e = cc
+some_of_old (Some found) e = refl

@@ -14,10 +14,10 @@ use Rattle.ged_tree.specs.declared.payload.PayloadView.{PayloadView}
 use Rattle.ged_tree.specs.declared.payload.PayloadView.TheVariants as views
 use Rattle.ged_tree.specs.Views.{payload_of}
 use Rattle.ged_link.specs.declared.index.RecordPlace.{RecordPlace}
-use Rattle.std.specs.HashMap.{get_by_text}
 use Rattle.ged_link.specs.Links.{identifiers}
 use Rattle.ged_link.specs.LinkFaults.{HasXref, HasPointer, IsDangling, IsLowest}
-use Rattle.ged_link.specs.Indexes.{RecordMap, AreRecords, number_in}
+use Rattle.ged_link.specs.declared.names.Names.{Names}
+use Rattle.ged_link.specs.Indexes.{found_in, AreRecords, number_in}
 use Rattle.ged_link.specs.LinkWalks.{target}
 use Rattle.ged_link.specs.Resolving.{AreUsedBefore, NoneDanglesBefore, AreFollowed, AreUsed}
 use Rattle.ged_link.proofs.LinkLemmas.{named_at, at_named}
@@ -87,7 +87,7 @@ module _ (d : Trees) (place : ℕ) (within : place < trees_count d) where
     | inr here ↦ other h.0 here.1
   ]
 
-  module _ (records : RecordMap) (name : Bytes) (are : AreRecords d records) (here : (structure_at d place).payload ≡ Pointer name) where
+  module _ (records : Names) (name : Bytes) (are : AreRecords d records) (here : (structure_at d place).payload ≡ Pointer name) where
     -- one more pointer marks the record that it names
     pub used_more : (used : List Bool) (found : ℕ) → number_in records name ≡ Some found → found < length used → AreUsedBefore d place used → AreUsedBefore d (place + 1) (slice_set used found true)
     used_more used found named inside before number = (
@@ -112,17 +112,17 @@ module _ (d : Trees) (place : ℕ) (within : place < trees_count d) where
       | inl earlier ↦ none k earlier.0 h
       | inr now ↦ (
           let same : h.0 ≡ name = pointer_name h.0 name (sym now.1 ∙ here) in
-          let at_place = number_place (get_by_text records name) number named in
+          let at_place = number_place (found_in records name) number named in
           h.2 at_place.0 (subst (HasXref d at_place.0) (sym same) ((are.placed name at_place.0).0 at_place.1)))
     ]
 
     pub first_dangling : number_in records name ≡ None → NoneDanglesBefore d place → IsLowest (IsDangling d) place
     first_dangling missing none = (
-      (name, (within, here), λ other h. let e = (are.placed name other).1 h in let f : None ≡ Some other = sym (no_place (get_by_text records name) missing) ∙ e in cc),
+      (name, (within, here), λ other h. let e = (are.placed name other).1 h in let f : None ≡ Some other = sym (no_place (found_in records name) missing) ∙ e in cc),
       λ other h. elim (cases_lt other place) [ inl earlier ↦ absurd (none other earlier h) | inr past ↦ past ],
     )
 
-pub number_inside : (d : Trees) (records : RecordMap) (name : Bytes) (number : ℕ) → AreRecords d records → number_in records name ≡ Some number → number < length (identifiers (records_of d))
+pub number_inside : (d : Trees) (records : Names) (name : Bytes) (number : ℕ) → AreRecords d records → number_in records name ≡ Some number → number < length (identifiers (records_of d))
 number_inside d records name number are e = slice_get_within (identifiers (records_of d)) number (Some name) ((are.numbered name number).0 e)
 
 -- all pointers are gone through

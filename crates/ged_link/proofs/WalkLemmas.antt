@@ -5,7 +5,8 @@ use Rattle.ged_tree.specs.Trees.{Structure, Trees, none, tree, trees_count}
 use Rattle.ged_link.specs.declared.pairs.Role.{Role}
 use Rattle.ged_tree.specs.declared.payload.Payload.{Payload}
 use Rattle.ged_tree.specs.declared.payload.Payload.TheVariants.{Void, Pointer, Text}
-use Rattle.ged_link.specs.Indexes.{RecordMap, AreRecords, place_in}
+use Rattle.ged_link.specs.declared.names.Names.{Names}
+use Rattle.ged_link.specs.Indexes.{AreRecords, place_in}
 use Rattle.ged_link.specs.LinkWalks.{role_under, role_eq, is_role, is_place, target, linked, has_link_to, has_pair, is_one_way_for, is_one_way, one_way_below, one_way_places}
 
 pub link_none : (find : Bytes → Option ℕ) (role : Role) (at : Bytes) (q : ℕ) (t : Trees) → t ≡ none → has_link_to find role at q t ≡ false
@@ -101,7 +102,7 @@ not_one_way find d at from s h = go (role_under at s.tag)
     go None = refl
     go (Some role) = rw (← h) refl
 
-pub target_within : (d : Trees) (records : RecordMap) (p : Payload) (place : ℕ) → AreRecords d records → target (place_in records) p ≡ Some place → place < trees_count d
+pub target_within : (d : Trees) (records : Names) (p : Payload) (place : ℕ) → AreRecords d records → target (place_in records) p ≡ Some place → place < trees_count d
 target_within d records Void place are e = cc
 target_within d records (Pointer name) place are e = ((are.placed name place).0 e).0
 target_within d records (Text lines) place are e = cc

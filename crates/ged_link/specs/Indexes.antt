@@ -1,32 +1,41 @@
 -- Which document an index is of. The contracts of its calls say what follows; what it holds is told here for the proofs.
-use Rattle.std.specs.Prelude.{◌≡◌, ℕ, true, false, Option, Some, ◌↔◌, slice_index_or, option_map}
-use Rattle.std.specs.HashMap.{HashMap, get_by_text}
-use Rattle.std.specs.declared.string.String.{String}
-use Rattle.std.specs.declared.hash.FoldHasher.{FoldHasher}
-use Rattle.std.specs.declared.hash.BuildHasherDefault.{BuildHasherDefault}
-use Rattle.std.specs.declared.alloc.Global.{Global}
+use Rattle.std.specs.Prelude.{◌≡◌, ℕ, true, false, Option, Some, None, ◌↔◌, nat_eq, slice_index_or, option_map}
+use Rattle.std.specs.HashMap.{get, get_by_text}
 use Rattle.ged_line.specs.Bytes.{Bytes}
 use Rattle.ged_tree.specs.Trees.{Trees}
+use Rattle.ged_tree.specs.Places.{structure_at}
 use Rattle.ged_link.specs.declared.index.Index.{Index}
 use Rattle.ged_link.specs.declared.index.RecordPlace.{RecordPlace}
+use Rattle.ged_link.specs.declared.names.Names.{Names}
+use Rattle.ged_link.specs.NameNumbers.{short_number}
 use Rattle.ged_link.specs.Links.{Resolved, IsRecordNumber, IsUsed}
 use Rattle.ged_link.specs.LinkFaults.{HasXref}
+use Rattle.ged_link.specs.RecordTypes.{IsTypeOf}
 use Rattle.ged_link.specs.Notices.{AreOneWay}
 
--- records by their identifiers
-abbrev pub RecordMap : Type 0
-RecordMap = HashMap (String Global) RecordPlace (BuildHasherDefault FoldHasher)
+-- the record that has a name: by the name's number, where it has one
+abbrev pub found_by : Names → Bytes → Option ℕ → Option RecordPlace
+found_by records name (Some number) = get nat_eq records.short number
+found_by records name None = get_by_text records.long name
 
-abbrev pub number_in : RecordMap → Bytes → Option ℕ
-number_in records name = option_map (λ found. found.number) (get_by_text records name)
+abbrev pub found_in : Names → Bytes → Option RecordPlace
+found_in records name = found_by records name (short_number name)
 
-abbrev pub place_in : RecordMap → Bytes → Option ℕ
-place_in records name = option_map (λ found. found.place) (get_by_text records name)
+abbrev pub number_in : Names → Bytes → Option ℕ
+number_in records name = option_map (λ found. found.number) (found_in records name)
+
+abbrev pub place_in : Names → Bytes → Option ℕ
+place_in records name = option_map (λ found. found.place) (found_in records name)
+
+-- what is kept of each record has its type
+abbrev pub AreTyped : Trees → Names → Type 0
+AreTyped d records = (name : Bytes) (found : RecordPlace) → found_in records name ≡ Some found → IsTypeOf found.record_type (structure_at d found.place).tag
 
 -- each identifier of a document, and no other, has the number and the place of its record
-pub record AreRecords (d : Trees) (records : RecordMap) : Type 0 where
+pub record AreRecords (d : Trees) (records : Names) : Type 0 where
   pub placed : (name : Bytes) (place : ℕ) → (place_in records name ≡ Some place) ↔ HasXref d place name
   pub numbered : (name : Bytes) (number : ℕ) → (number_in records name ≡ Some number) ↔ IsRecordNumber d number name
+  pub typed : AreTyped d records
 
 -- the index of a document, all of whose pointers name records
 pub record IsIndexOf (d : Trees) (index : Index) : Type 0 where

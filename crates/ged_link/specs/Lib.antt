@@ -1,8 +1,10 @@
 pub mod Links
 pub mod LinkFaults
+pub mod RecordTypes
 pub mod LinkLaws
 pub mod ResolvedLaws
 pub mod Notices
+pub mod NameNumbers
 pub mod Indexes
 pub mod LinkWalks
 pub mod PairSets

@@ -1,22 +1,23 @@
 -- How far the walks of resolving have come; only private functions cite this.
 use Rattle.std.specs.Prelude.{◌≡◌, ℕ, ◌<◌, Bool, true, false, List, Some, ◌↔◌, if◌then◌else◌, slice_index_or, length}
-use Rattle.std.specs.HashMap.{get_by_text}
 use Rattle.std.specs.Str.{bytes_eq}
 use Rattle.ged_line.specs.Bytes.{Bytes}
 use Rattle.ged_tree.specs.Trees.{Trees, records_of}
 use Rattle.ged_link.specs.declared.index.RecordPlace.{RecordPlace}
 use Rattle.ged_link.specs.Links.{identifiers, IsRecordNumber, IsUsed}
 use Rattle.ged_link.specs.LinkFaults.{HasXref, HasPointer, IsDangling}
-use Rattle.ged_link.specs.Indexes.{RecordMap, place_in, number_in}
+use Rattle.ged_link.specs.declared.names.Names.{Names}
+use Rattle.ged_link.specs.Indexes.{found_in, place_in, number_in, AreTyped}
 
--- the map gains a name, and keeps all others
-abbrev pub AddsName : RecordMap → RecordMap → Bytes → RecordPlace → Type 0
-AddsName old new name found = (other : Bytes) → get_by_text new other ≡ (if bytes_eq name other then Some found else get_by_text old other)
+-- the records gain a name, and keep all others
+abbrev pub AddsName : Names → Names → Bytes → RecordPlace → Type 0
+AddsName old new name found = (other : Bytes) → found_in new other ≡ (if bytes_eq name other then Some found else found_in old other)
 
 -- each identifier before a place, and those of so many records, and no other, has the number and the place of its record
-pub record AreRecordsBefore (d : Trees) (place number : ℕ) (records : RecordMap) : Type 0 where
+pub record AreRecordsBefore (d : Trees) (place number : ℕ) (records : Names) : Type 0 where
   pub placed : (name : Bytes) (other : ℕ) → (place_in records name ≡ Some other) ↔ ((other < place) × HasXref d other name)
   pub numbered : (name : Bytes) (other : ℕ) → (number_in records name ≡ Some other) ↔ ((other < number) × IsRecordNumber d other name)
+  pub typed : AreTyped d records
 
 -- a record is marked exactly where a pointer before a place names it
 abbrev pub AreUsedBefore : Trees → ℕ → List Bool → Type 0

@@ -13,18 +13,18 @@ ghost use Rattle.ged_link.specs.declared.pairs.Role.{Role};
 ghost use Rattle.ged_link.specs.declared.fault.LinkFault.TheVariants.{Memory};
 
 use crate::fault::LinkFault;
-use crate::index::{RecordPlace, find_record};
 use crate::links::role_of;
+use crate::names::Names;
 use crate::pairs::Pairs;
 use ged_tree::{Forest, PayloadView, end_of_all, next_in_run};
-use indexmap::IndexMap;
 use std::alloc::{AllocError, Global};
 
 /// Marks the record that the structure at a place points to, and answers its place, or `None` where no pointer stands; or
 /// the fault of a pointer that names no record.
+#[inline(always)]
 fn follow<F: Forest>(
     forest: &F,
-    records: &IndexMap<String, RecordPlace>,
+    records: &Names,
     place: usize,
     used: &mut Vec<bool>,
 ) -> Result<Option<usize>, LinkFault>
@@ -39,7 +39,7 @@ fn follow<F: Forest>(
     let PayloadView::Pointer(name) = forest.payload(place) else {
         return Ok(None);
     };
-    let Some(found) = find_record(records, name) else {
+    let Some(found) = records.find(name) else {
         return Err(LinkFault::Dangling(forest.line(place)));
     };
     used[found.number] = true;
@@ -50,7 +50,7 @@ fn follow<F: Forest>(
 /// that names none.
 fn follow_all<F: Forest>(
     forest: &F,
-    records: &IndexMap<String, RecordPlace>,
+    records: &Names,
     start: usize,
     end: usize,
     used: &mut Vec<bool>,
@@ -71,17 +71,19 @@ fn follow_all<F: Forest>(
     Ok(())
 }
 
-/// Marks the record that a structure directly under a record points to, and adds the pair of both where it is a link.
+/// Marks the record that a structure directly under a record with a tag points to, and adds the pair of both where it is a
+/// link.
 #[tactic(auto, using(crate::proofs::WalkLemmas::one_link))]
 fn follow_link<F: Forest>(
     forest: &F,
-    records: &IndexMap<String, RecordPlace>,
+    records: &Names,
     from: usize,
+    record_tag: &str,
     place: usize,
     used: &mut Vec<bool>,
     pairs: &mut Pairs,
 ) -> Result<(), LinkFault>
-    requires from { from < trees_count (F.trees forest.now) }
+    requires record_tag { record_tag.now ≡ (structure_at (F.trees forest.now) from).tag }
     requires within { place < trees_count (F.trees forest.now) }
     requires records { AreRecords (F.trees forest.now) records.now }
     requires distinct { (place : ℕ) → IsRepeated (F.trees forest.now) place → ⊥ }
@@ -99,7 +101,7 @@ fn follow_link<F: Forest>(
     let Some(to) = found else {
         return Ok(());
     };
-    let Some(role) = role_of(forest.tag(from), forest.tag(place)) else {
+    let Some(role) = role_of(record_tag, forest.tag(place)) else {
         return Ok(());
     };
     match pairs.insert(role, from, to) {
@@ -112,7 +114,7 @@ fn follow_link<F: Forest>(
 #[tactic(auto, using(crate::proofs::WalkLemmas::pairs))]
 fn follow_record<F: Forest>(
     forest: &F,
-    records: &IndexMap<String, RecordPlace>,
+    records: &Names,
     from: usize,
     end: usize,
     used: &mut Vec<bool>,
@@ -133,9 +135,10 @@ fn follow_record<F: Forest>(
     if let Err(fault) = follow(forest, records, from, used) {
         return Err(fault);
     }
+    let record_tag = forest.tag(from);
     let mut place = from + 1;
     while let Some(after) = next_in_run(forest, place, end) {
-        if let Err(fault) = follow_link(forest, records, from, place, used, pairs) {
+        if let Err(fault) = follow_link(forest, records, from, record_tag, place, used, pairs) {
             return Err(fault);
         }
         if let Err(fault) = follow_all(forest, records, place + 1, after, used) {
@@ -152,7 +155,7 @@ fn follow_record<F: Forest>(
 pub(crate) fn follow_pointers<F: Forest>(
     alloc: Global,
     forest: &F,
-    records: &IndexMap<String, RecordPlace>,
+    records: &Names,
     count: usize,
 ) -> Result<(Vec<bool>, Pairs), LinkFault>
     requires records { AreRecords (F.trees forest.now) records.now }

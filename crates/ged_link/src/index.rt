@@ -1,19 +1,22 @@
 // The records of a document by their cross-reference identifiers.
-ghost use Rattle.std.specs.Prelude.{◌≡◌, ◌↔◌, ℕ, Some, true};
-ghost use Rattle.std.specs.HashMap.{get_by_text};
+ghost use Rattle.std.specs.Prelude.{◌≡◌, ◌↔◌, ℕ, Some, true, IsTrue};
 ghost use Rattle.ged_tree.specs.Trees.{Trees};
 ghost use Rattle.ged_link.specs.Links.{IsRecordNumber, IsUsed};
 ghost use Rattle.ged_link.specs.LinkFaults.{HasXref};
+ghost use Rattle.ged_link.specs.RecordTypes.{HasRecordOf};
 ghost use Rattle.ged_link.specs.Indexes.{IsIndexOf, number_in, place_in};
 
+use crate::names::Names;
+use crate::record_type::{RecordType, is_of_type};
 use ged_line::Xref;
-use indexmap::IndexMap;
 
-/// Where a record stands: among the records, and among all structures.
+/// Where a record stands, among the records and among all structures, and its type, if pointers of the structure tables
+/// lead to such records.
 #[derive(Clone, Copy, Debug)]
 pub(crate) struct RecordPlace {
     pub(crate) number: usize,
     pub(crate) place: usize,
+    pub(crate) record_type: Option<RecordType>,
 }
 
 /// The records of a document by their identifiers, which of them some pointer names, and the places of its links in one
@@ -22,7 +25,7 @@ pub(crate) struct RecordPlace {
 /// Records are counted from 0, as a document has them after HEAD.
 #[derive(Drop)]
 pub struct Index {
-    pub(crate) records: IndexMap<String, RecordPlace>,
+    pub(crate) records: Names,
     pub(crate) used: Vec<bool>,
     pub(crate) one_way: Vec<usize>,
 }
@@ -54,6 +57,16 @@ impl Index {
         find_place(&self.records, name)
     }
 
+    /// Whether the record whose identifier has this name, if there is one, is of a type. Takes no memory.
+    pub fn leads_to(&self, name: &str, wanted: RecordType) -> bool
+        ensures { (document : Trees) → IsIndexOf document self.now → IsTrue result ↔ HasRecordOf document wanted name.now }
+    {
+        match self.records.find(name) {
+            Some(found) => is_of_type(found.record_type, wanted),
+            None => false,
+        }
+    }
+
     /// Whether some pointer, in the record itself or elsewhere, names the record with this number. It is false past the
     /// last record. Takes no memory.
     pub fn is_used(&self, number: usize) -> bool
@@ -63,28 +76,20 @@ impl Index {
     }
 }
 
-/// Where the record that has an identifier stands.
-pub(crate) fn find_record(
-    records: &IndexMap<String, RecordPlace>,
-    name: &str,
-) -> Option<RecordPlace>
-    ensures { result ≡ get_by_text records.now name.now }
-{
-    records.get(name).copied()
-}
-
 /// The number of the record that has an identifier.
-fn find_number(records: &IndexMap<String, RecordPlace>, name: &str) -> Option<usize>
+#[inline(always)]
+fn find_number(records: &Names, name: &str) -> Option<usize>
     ensures { result ≡ number_in records.now name.now }
 {
-    let found = find_record(records, name)?;
+    let found = records.find(name)?;
     Some(found.number)
 }
 
 /// The place of the record that has an identifier.
-pub(crate) fn find_place(records: &IndexMap<String, RecordPlace>, name: &str) -> Option<usize>
+#[inline(always)]
+pub(crate) fn find_place(records: &Names, name: &str) -> Option<usize>
     ensures { result ≡ place_in records.now name.now }
 {
-    let found = find_record(records, name)?;
+    let found = records.find(name)?;
     Some(found.place)
 }

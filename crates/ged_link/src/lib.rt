@@ -6,8 +6,10 @@ mod following;
 mod index;
 mod laws;
 mod links;
+mod names;
 mod notices;
 mod pairs;
+mod record_type;
 mod resolving;
 
 pub use fault::LinkFault;
@@ -17,6 +19,7 @@ pub use laws::{
     resolved_is_faultless, resolved_or_fault,
 };
 pub use notices::{Notice, NoticeKind, first_one_way, one_way};
+pub use record_type::RecordType;
 pub use resolving::resolve;
 
 #[cfg(test)]

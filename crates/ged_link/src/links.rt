@@ -8,13 +8,14 @@ ghost use Rattle.ged_link.specs.LinkWalks.{role_under, target, one_way_below, on
 ghost use Rattle.ged_link.specs.LinkWalks.{is_one_way as one_way_under, other_tag as tag_of_other};
 ghost use Rattle.ged_link.specs.PairSets.{ArePairs};
 
-use crate::index::{RecordPlace, find_place};
+use crate::index::find_place;
+use crate::names::Names;
 use crate::pairs::{Pairs, Role};
 use ged_tree::{Forest, PayloadView, end_of_all, next_in_run};
-use indexmap::IndexMap;
 use std::alloc::{AllocError, Global};
 
 /// The role of the person that a structure directly under a record tells.
+#[inline(always)]
 pub(crate) fn role_of(record_tag: &str, tag: &str) -> Option<Role>
     ensures { result ≡ role_under record_tag.now tag.now }
 {
@@ -40,11 +41,7 @@ pub(crate) fn role_of(record_tag: &str, tag: &str) -> Option<Role>
 }
 
 /// The place of the record that the structure at a place points to.
-fn target_of<F: Forest>(
-    forest: &F,
-    records: &IndexMap<String, RecordPlace>,
-    place: usize,
-) -> Option<usize>
+fn target_of<F: Forest>(forest: &F, records: &Names, place: usize) -> Option<usize>
     requires { place < trees_count (F.trees forest.now) }
     ensures { result ≡ target (place_in records.now) (structure_at (F.trees forest.now) place).payload }
 {
@@ -65,7 +62,7 @@ fn other_tag(record_tag: &str) -> &'static str
 #[tactic(auto, using(crate::proofs::WalkLemmas::not_one_way))]
 fn is_one_way<F: Forest>(
     forest: &F,
-    records: &IndexMap<String, RecordPlace>,
+    records: &Names,
     pairs: &Pairs,
     from: usize,
     place: usize,
@@ -90,7 +87,7 @@ fn is_one_way<F: Forest>(
 #[tactic(auto, using(crate::proofs::WalkLemmas::one_ways))]
 fn push_one_way<F: Forest>(
     forest: &F,
-    records: &IndexMap<String, RecordPlace>,
+    records: &Names,
     pairs: &Pairs,
     from: usize,
     end: usize,
@@ -118,7 +115,7 @@ fn push_one_way<F: Forest>(
 pub(crate) fn find_one_way<F: Forest>(
     alloc: Global,
     forest: &F,
-    records: &IndexMap<String, RecordPlace>,
+    records: &Names,
     pairs: &Pairs,
 ) -> Result<Vec<usize>, AllocError>
     requires records { AreRecords (F.trees forest.now) records.now }

@@ -1,5 +1,6 @@
 // The pairs of records that are linked with each other, and which of the two tells it.
-ghost use Rattle.std.specs.Prelude.{◌≡◌, ℕ, true, false, OnOk, ◌&&◌, ◌||◌};
+ghost use Rattle.std.specs.Prelude.{◌≡◌, ℕ, true, false, OnOk, Some, cond, ◌&&◌, ◌||◌};
+ghost use Rattle.std.specs.HashMap.{get};
 ghost use Rattle.ged_link.specs.LinkWalks.{pair_eq, role_eq};
 ghost use Rattle.ged_link.specs.PairSets.{in_order as order_of, told_more, links_to, pairs_have, AreAnswered};
 
@@ -47,19 +48,32 @@ fn has_link(pairs: &IndexMap<(usize, usize), Told>, from: usize, to: usize) -> b
 }
 
 /// What is told, and that the record at the lower place, or else the one at the higher place, points to the other.
-fn told_also(told: Option<Told>, by_lower: bool) -> Told
-    ensures { result ≡ told_more told by_lower }
+fn told_also(told: Told, by_lower: bool) -> Told
+    ensures { result ≡ told_more (Some told) by_lower }
 {
-    match told {
-        Some(told) => Told {
-            by_lower: told.by_lower || by_lower,
-            by_higher: told.by_higher || !by_lower,
-        },
-        None => Told {
-            by_lower,
-            by_higher: !by_lower,
-        },
+    Told {
+        by_lower: told.by_lower || by_lower,
+        by_higher: told.by_higher || !by_lower,
     }
+}
+
+/// Adds that of a pair the record at the lower place, or else the one at the higher place, points to the other.
+#[tactic(auto, using(crate::proofs::PairLemmas::told_of_new))]
+fn add_told(
+    pairs: &mut IndexMap<(usize, usize), Told>,
+    pair: (usize, usize),
+    by_lower: bool,
+) -> Result<(), AllocError>
+    ensures { OnOk result ((other : ℕ × ℕ) → get pair_eq pairs.new other
+        ≡ cond (pair_eq pair other) (Some (told_more (get pair_eq pairs.old pair) by_lower)) (get pair_eq pairs.old other)) }
+{
+    let untold = Told {
+        by_lower: false,
+        by_higher: false,
+    };
+    let told = pairs.entry(pair)?.or_insert(untold);
+    *told = told_also(*told, by_lower);
+    Ok(())
 }
 
 /// Adds that the record at the first place points to the one at the second.
@@ -70,10 +84,7 @@ fn add_link(
 ) -> Result<(), AllocError>
     ensures { OnOk result ((pair : ℕ × ℕ) → links_to pairs.new pair ≡ (pair_eq pair (from, to) || links_to pairs.old pair)) }
 {
-    let pair = in_order(from, to);
-    let told = told_also(pairs.get(&pair).copied(), from <= to);
-    pairs.insert(pair, told)?;
-    Ok(())
+    add_told(pairs, in_order(from, to), from <= to)
 }
 
 /// Whether each record that is pointed to points back.

@@ -1,5 +1,5 @@
 // Values that the standard and worked examples give, and each public call once.
-use crate::{Index, LinkFault, Notice, NoticeKind, first_one_way, one_way, resolve};
+use crate::{Index, LinkFault, Notice, NoticeKind, RecordType, first_one_way, one_way, resolve};
 use ged_line::Xref;
 use ged_tree::flatten;
 use std::alloc::{AllocError, Global};
@@ -68,6 +68,61 @@ fn finds_records_by_their_identifiers(rt: HostRuntime) -> Result<(), Fail> {
             assert_eq!(rt; index.place_of("VOID"), None);
         }
         _ => assert!(rt; false, "the file is resolved"),
+    }
+    Ok(())
+}
+
+/// Records whose identifiers have one to nine bytes.
+const NAMES_OF_ALL_LENGTHS: &str =
+    "0 @A@ INDI\n0 @AA@ INDI\n0 @AAA@ INDI\n0 @AAAA@ INDI\n0 @AAAAA@ INDI\n0 @AAAAAA@ INDI\n0 @AAAAAAA@ INDI\n0 @AAAAAAAA@ INDI\n0 @AAAAAAAAA@ INDI\n0 @BAAA@ FAM\n0 @AAAB@ FAM\n";
+
+#[test]
+fn tells_names_of_all_lengths_apart(rt: HostRuntime) -> Result<(), Fail> {
+    let alloc = rt.alloc();
+    let file = file_of(alloc, NAMES_OF_ALL_LENGTHS)?;
+    match index_of(alloc, file.as_str()) {
+        Some(index) => {
+            let names = "AAAAAAAAA";
+            for length in 1..10 {
+                assert_eq!(rt;
+                    index.record_named(&names[..length]),
+                    Some(length - 1),
+                    "{length}"
+                );
+            }
+            assert_eq!(rt; index.record_named("BAAA"), Some(9));
+            assert_eq!(rt; index.record_named("AAAB"), Some(10));
+            assert_eq!(rt; index.record_named("AABA"), None);
+            assert_eq!(rt; index.record_named("AAAAAAAAAA"), None);
+        }
+        None => assert!(rt; false, "the file is resolved"),
+    }
+    Ok(())
+}
+
+#[test]
+fn tells_the_types_of_records(rt: HostRuntime) -> Result<(), Fail> {
+    let alloc = rt.alloc();
+    let lines =
+        "0 @F@ FAM\n0 @I@ INDI\n0 @O@ OBJE\n0 @N@ SNOTE a\n0 @S@ SOUR\n0 @U@ SUBM\n0 @R@ REPO\n";
+    let file = file_of(alloc, lines)?;
+    match index_of(alloc, file.as_str()) {
+        Some(index) => {
+            for (name, wanted) in [
+                ("F", RecordType::Fam),
+                ("I", RecordType::Indi),
+                ("O", RecordType::Obje),
+                ("N", RecordType::Snote),
+                ("S", RecordType::Sour),
+                ("U", RecordType::Subm),
+            ] {
+                assert!(rt; index.leads_to(name, wanted), "{name}");
+                assert!(rt; !index.leads_to("R", wanted), "a record of another type");
+                assert!(rt; !index.leads_to("X", wanted), "no record");
+            }
+            assert!(rt; !index.leads_to("F", RecordType::Indi), "another type");
+        }
+        None => assert!(rt; false, "the file is resolved"),
     }
     Ok(())
 }

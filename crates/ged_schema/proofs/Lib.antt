@@ -5,6 +5,7 @@ pub mod Marking
 pub mod Listing
 pub mod ListingLaws
 pub mod FirstUnlisted
+pub mod Noting
 pub mod NoticeLaws
 pub mod Fitting
 pub mod CheckedOrFaulty

@@ -187,10 +187,12 @@ module _ (c : Context) (t : Trees) (s : Structure) (b n : Trees) (is : t ≡ tre
   pub rule_marked : (marks : List ℕ) (all : Trees) → AreMarked (rows c) marks t all → IsOnlyNumber (rows c) s.tag (Some k) → k < length marks → ((get_or rules k o).most ≡ None) ⊎ (get_or marks k 0 ≡ 0) → AreMarked (rows c) (set marks k 1) n all
   rule_marked marks all so_far only inside free = marked_some (rows c) marks t all s b n is so_far k only (as_row (get_or rules k o)) rule_at rule_tag inside free
 
+  pub rule_row : row c s.tag ≡ Some (as_row (get_or rules k o))
+  rule_row = ap (row c) (sym same) ∙ sym found ∙ rule_at
+
   pub rule_checked : (d : Trees) → IsOfKind (get_or rules k o).kind s.payload × PointsRight d (target (get_or rules k o).kind) s.payload → AllByRecursion (CountsRight b) (rows (get_or rules k o).below) × AreChecked d (get_or rules k o).below b → AreChecked d c n → AreChecked d c t
   rule_checked d payload under rest =
-      let some : row c s.tag ≡ Some (as_row (get_or rules k o)) = ap (row c) (sym same) ∙ sym found ∙ rule_at in
-      checked_some d c t s b n is (as_row (get_or rules k o)) some (payload.0, payload.1, under.0) under.1 rest
+      checked_some d c t s b n is (as_row (get_or rules k o)) rule_row (payload.0, payload.1, under.0) under.1 rest
 
 -- what a test that came out true tells
 pub on_true : {P : Type 0} (b : Bool) → OnTrue b P → b ≡ true → P

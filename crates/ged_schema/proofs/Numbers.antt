@@ -7,9 +7,10 @@ use Rattle.std.proofs.lemmas.Slice.Eq.{bytes_eq-Decides}
 use Rattle.std.proofs.lemmas.Option.{slice_get-map, slice_get-get_or, slice_get_past, slice_get_within, get_or_from_slice_get}
 use Rattle.ged_line.specs.Bytes.{Bytes}
 use Rattle.ged_line.proofs.NameTests.{bool_cases, and_left, and_right}
+use Rattle.ged_schema.specs.declared.context.Context.{Context}
 use Rattle.ged_schema.specs.declared.rule.Rule.{Rule}
 use Rattle.ged_schema.specs.Rows.{Row, as_row}
-use Rattle.ged_schema.specs.Tables.{row_of}
+use Rattle.ged_schema.specs.Tables.{row, row_of, rows}
 use Rattle.ged_schema.specs.Slots.{are_numbered}
 
 some_is : {X : Type 0} (x y : X) → Some x ≡ Some y → x ≡ y
@@ -84,6 +85,22 @@ numbered_row rs tag k inside same = go (slice_get rs k) refl
         within (x ∷ xs) zero lt none = cc
         within (x ∷ xs) (suc i) lt none = within xs i (omega arith) none
     go (Some r) e = (r, e, (row_found rs tag r (sym same ∙ e)).same)
+
+-- what is found for a tag among the rules of a context is its row there
+pub row_among : (c : Context) (rules : List Rule) (tag : Bytes) (o : Option Row) → map as_row rules ≡ rows c → o ≡ row_of (map as_row rules) tag → row c tag ≡ o
+unfolding row
+row_among c rules tag o seen found = sym (found ∙ ap (λ (rs : List Row). row_of rs tag) seen)
+
+pub number_among : (c : Context) (rules : List Rule) (tag : Bytes) (k : ℕ) → map as_row rules ≡ rows c
+    → (k < length (map as_row rules)) × (slice_get (map as_row rules) k ≡ row_of (map as_row rules) tag)
+    → (k < length (rows c)) × (slice_get (rows c) k ≡ row c tag)
+unfolding row
+number_among c rules tag k seen h = rw seen at h
+
+-- a tag whose row has a number has a row
+pub row_there : (c : Context) (tag : Bytes) (k : ℕ) → k < length (rows c) → slice_get (rows c) k ≡ row c tag → (r : Row) × (row c tag ≡ Some r)
+unfolding row
+row_there c tag k within found = let (r, stands, _) = numbered_row (rows c) tag k within found in (r, sym found ∙ stands)
 
 -- rules that stand for rows, and the number of a tag
 pub record IsLookedUp (f : Bytes → ℕ) (rs : List Row) (tag : Bytes) (rules : List Rule) (k : ℕ) : Type 0 where

@@ -11,6 +11,8 @@ use Rattle.ged_link.specs.declared.notices.Notice.{Notice}
 use Rattle.ged_link.specs.declared.notices.NoticeKind.TheVariants as kinds
 use Rattle.ged_schema.specs.declared.context.Context.{Context}
 use Rattle.ged_schema.specs.declared.context.Context.TheVariants.{File, Unchecked}
+use Rattle.ged_schema.specs.declared.notices.Coverage.{Coverage}
+use Rattle.ged_schema.specs.declared.notices.Coverage.TheVariants.{Whole, Partial}
 use Rattle.ged_schema.specs.Tables.{row, context_below}
 
 -- a standard tag that has no row in the context, where the tables say what may stand
@@ -23,6 +25,11 @@ Unlisted context none = ⊥
 Unlisted context (tree s below next) =
     IsUnlisted context s.tag
     ⊎ (Unlisted (context_below context s.tag) below ⊎ Unlisted context next)
+
+-- the tables list each standard tag of a document where they say what may stand, or they leave one out
+abbrev pub IsCoverage : Trees → Coverage → Type 0
+IsCoverage d Whole = ¬ (Unlisted File d)
+IsCoverage d Partial = Unlisted File d
 
 -- the structure at a place has an unlisted tag, where the trees stand in the context and the first of them at start
 abbrev pub UnlistedFrom : Context → ℕ → Trees → ℕ → Type 0

@@ -9,11 +9,13 @@ ghost use Rattle.ged_link.specs.Indexes.{IsIndexOf};
 ghost use Rattle.ged_schema.specs.Rows.{Row, as_row};
 ghost use Rattle.ged_schema.specs.Tables.{rows as rows_of};
 ghost use Rattle.ged_schema.specs.Checked.{AreChecked, Checked, CountsRight, MeetsRow, count_of};
+ghost use Rattle.ged_schema.specs.Unlisted.{IsCoverage};
 ghost use Rattle.ged_schema.specs.Faults.{CountFault, FirstCountFault, FirstFault, IsFirstFault, OwnFault, StandsAfter, payload_fault as fault_of_payload};
 
 use crate::context::Context;
 use crate::fault::{FaultPlace, SchemaAt, SchemaFault};
 use crate::lookups::lookup_name;
+use crate::notices::{Coverage, coverage_of};
 use crate::passing::all_pass;
 use crate::payloads::{given_of, points_right};
 use crate::rule::Rule;
@@ -192,6 +194,31 @@ fn check_between<F: Forest>(
     None
 }
 
+/// What [`check`] answers, and where a document is as the structure tables ask, whether they list its tags.
+pub(crate) fn check_tables<F: Forest>(forest: &F, index: &Index) -> Result<Coverage, SchemaAt>
+    requires { IsIndexOf (F.trees forest.now) index.now }
+    ensures { MatchResult result
+        (λ coverage. Checked (F.trees forest.now) × IsCoverage (F.trees forest.now) coverage)
+        (λ at. IsFirstFault (F.trees forest.now) at) }
+{
+    let end = end_of_all(forest);
+    let mut noted = false;
+    if all_pass(forest, index, Context::File, 0, end, &mut noted) {
+        return Ok(if noted {
+            Coverage::Partial
+        } else {
+            Coverage::Whole
+        });
+    }
+    match check_between(forest, index, Context::File, 0, end) {
+        Some(FaultPlace { place, fault }) => Err(SchemaAt {
+            line: forest.line(place),
+            fault,
+        }),
+        None => Ok(coverage_of(forest)),
+    }
+}
+
 /// Whether a document is as the structure tables ask, or its first fault, which is never one of the strict profile's.
 /// Takes no memory.
 ///
@@ -203,15 +230,8 @@ pub fn check<F: Forest>(forest: &F, index: &Index) -> Result<(), SchemaAt>
     requires { IsIndexOf (F.trees forest.now) index.now }
     ensures { MatchResult result (λ _. Checked (F.trees forest.now)) (λ at. IsFirstFault (F.trees forest.now) at) }
 {
-    let end = end_of_all(forest);
-    if all_pass(forest, index, Context::File, 0, end) {
-        return Ok(());
-    }
-    match check_between(forest, index, Context::File, 0, end) {
-        Some(FaultPlace { place, fault }) => Err(SchemaAt {
-            line: forest.line(place),
-            fault,
-        }),
-        None => Ok(()),
+    match check_tables(forest, index) {
+        Ok(_) => Ok(()),
+        Err(at) => Err(at),
     }
 }

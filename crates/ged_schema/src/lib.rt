@@ -26,8 +26,8 @@ pub use laws::{
     one_first_fault, one_listing, one_notice, unlisted_has_place,
 };
 pub use lookups::{lookup, lookup_name};
-pub use notices::{first_unlisted, unlisted};
-pub use profile::{Profile, check_as};
+pub use notices::{Coverage, first_unlisted, unlisted};
+pub use profile::{Profile, check_as, check_coverage};
 pub use rule::Rule;
 pub use tables::rows;
 

@@ -5,7 +5,7 @@ ghost use Rattle.ged_schema.specs.Tables.{row};
 
 use crate::context::Context;
 use crate::rule::Rule;
-use crate::slots::row_number;
+use crate::slots::{rule_among, seed_of};
 use crate::tables::rows;
 use ged_line::Tag;
 
@@ -18,11 +18,9 @@ pub fn lookup(context: Context, tag: &Tag) -> Option<Rule>
 }
 
 /// What [`lookup`] answers for the tag that a text is, and `None` for any other text. Takes no memory.
+#[inline(always)]
 pub fn lookup_name(context: Context, name: &str) -> Option<Rule>
     ensures { option_map as_row result ≡ row context name.now }
 {
-    match row_number(context, name) {
-        Some(number) => Some(rows(context)[number]),
-        None => None,
-    }
+    rule_among(rows(context), seed_of(context), name).copied()
 }

@@ -7,17 +7,28 @@ ghost use Rattle.ged_tree.specs.Runs.{IsRun, trees_between};
 ghost use Rattle.ged_tree.specs.Places.{line_at};
 ghost use Rattle.ged_link.specs.LinkFaults.{IsLowest};
 ghost use Rattle.ged_schema.specs.declared.context.Context.TheVariants.{File, Unchecked};
-ghost use Rattle.ged_schema.specs.Unlisted.{AreUnlistedNotices, Unlisted, UnlistedAt, UnlistedFrom, unlisted_notice};
+ghost use Rattle.ged_schema.specs.Unlisted.{AreUnlistedNotices, IsCoverage, Unlisted, UnlistedAt, UnlistedFrom, unlisted_notice};
 ghost use Rattle.ged_schema.specs.Listings.{ListsUnlisted};
 
 use crate::context::Context;
-use crate::lookups::lookup_name;
+use crate::slots::{rule_among, seed_of};
+use crate::tables::rows;
 use ged_link::{Notice, NoticeKind};
 use ged_tree::{Forest, end_of_all, next_in_run};
 use std::alloc::{AllocError, Global};
 
+/// Whether the tables list each standard tag of a document in the contexts where they say what may stand
+/// (FamilySearch GEDCOM 7.0, "Structure Organization").
+#[derive(Clone, Copy, Debug, PartialEq, Eq)]
+pub enum Coverage {
+    /// They do: [`unlisted`] has nothing to tell.
+    Whole,
+    /// They do not: [`unlisted`] tells one notice or more.
+    Partial,
+}
+
 /// Whether a tag without a row in a context gives a notice there.
-fn gives_notice(context: Context, tag: &str) -> bool
+pub(crate) fn gives_notice(context: Context, tag: &str) -> bool
     requires { is_tag tag.now ≡ true }
     ensures { IsTrue result ↔ ((is_standard_tag tag.now ≡ true) × (context ≢ Unchecked)) }
 {
@@ -37,11 +48,15 @@ fn push_unlisted<F: Forest>(
     ensures { OnOk result ((places : List ℕ) × ListsUnlisted context start (trees_between (F.trees forest.now) start end) places
         × (notices.new.items ≡ notices.old.items ++ map (unlisted_notice (F.trees forest.now)) places)) }
 {
+    let rules = rows(context);
+    let seed = seed_of(context);
     let mut place = start;
     while let Some(after) = next_in_run(forest, place, end) {
         let tag = forest.tag(place);
-        if let Some(rule) = lookup_name(context, tag) {
-            push_unlisted(forest, rule.below, place + 1, after, notices)?;
+        if let Some(rule) = rule_among(rules, seed, tag) {
+            if place + 1 < after {
+                push_unlisted(forest, rule.below, place + 1, after, notices)?;
+            }
         } else if gives_notice(context, tag) {
             notices.push(Notice {
                 line: forest.line(place),
@@ -72,10 +87,12 @@ fn first_between<F: Forest>(forest: &F, context: Context, start: usize, end: usi
         ((place : ℕ) → UnlistedFrom context start (trees_between (F.trees forest.now) start end) place → ⊥)
         (λ place. IsLowest (UnlistedFrom context start (trees_between (F.trees forest.now) start end)) place) }
 {
+    let rules = rows(context);
+    let seed = seed_of(context);
     let mut place = start;
     while let Some(after) = next_in_run(forest, place, end) {
         let tag = forest.tag(place);
-        if let Some(rule) = lookup_name(context, tag) {
+        if let Some(rule) = rule_among(rules, seed, tag) {
             if let Some(found) = first_between(forest, rule.below, place + 1, after) {
                 return Some(found);
             }
@@ -95,4 +112,14 @@ pub fn first_unlisted<F: Forest>(forest: &F) -> Option<u64>
 {
     let place = first_between(forest, Context::File, 0, end_of_all(forest))?;
     Some(forest.line(place))
+}
+
+/// Whether the tables list each tag of a document, told in a walk of its own.
+pub(crate) fn coverage_of<F: Forest>(forest: &F) -> Coverage
+    ensures { IsCoverage (F.trees forest.now) result }
+{
+    match first_unlisted(forest) {
+        Some(_) => Coverage::Partial,
+        None => Coverage::Whole,
+    }
 }

@@ -1,7 +1,6 @@
 // What a structure carries, against its row's kind.
-ghost use Rattle.std.specs.Prelude.{◌≡◌, true, ◌<◌, IsTrue, ◌↔◌};
-ghost use Rattle.std.specs.Option.{option_copied};
-ghost use Rattle.ged_tree.specs.Trees.{trees_count, further_lines};
+ghost use Rattle.std.specs.Prelude.{◌≡◌, true, ◌<◌, IsTrue, ◌↔◌, option_map};
+ghost use Rattle.ged_tree.specs.Trees.{Trees, trees_count, further_lines};
 ghost use Rattle.ged_tree.specs.Documents.{is_document};
 ghost use Rattle.ged_tree.specs.Places.{structure_at};
 ghost use Rattle.ged_tree.specs.Views.{payload_of};
@@ -9,10 +8,11 @@ ghost use Rattle.ged_value.specs.declared.kind.Kind.{Kind as AnyKind};
 ghost use Rattle.ged_value.specs.Kinds.{Fits as FitsGiven};
 ghost use Rattle.ged_link.specs.Links.{SomeTree};
 ghost use Rattle.ged_link.specs.Indexes.{IsIndexOf};
+ghost use Rattle.ged_link.specs.RecordTypes.{record_tag};
 ghost use Rattle.ged_schema.specs.Payloads.{IsOfKind, target};
 ghost use Rattle.ged_schema.specs.Checked.{IsRecordNamed, PointsRight};
 
-use ged_link::Index;
+use ged_link::{Index, RecordType};
 use ged_tree::{Forest, PayloadView};
 use ged_value::{Given, Kind};
 
@@ -35,35 +35,34 @@ pub(crate) fn given_of<'a, F: Forest>(
     }
 }
 
-/// The tag of the records to which pointers of a kind lead.
+/// The type of the records to which pointers of a kind lead.
 #[tactic(auto, unfolding(crate::specs::Payloads::target))]
-fn target_tag(kind: Kind) -> Option<&'static str>
-    ensures { option_copied result ≡ target kind }
+#[inline(always)]
+fn target_type(kind: Kind) -> Option<RecordType>
+    ensures { option_map record_tag result ≡ target kind }
 {
     match kind {
-        Kind::ToFam => Some("FAM"),
-        Kind::ToIndi => Some("INDI"),
-        Kind::ToSubm => Some("SUBM"),
-        Kind::ToSnote => Some("SNOTE"),
-        Kind::ToSour => Some("SOUR"),
-        Kind::ToObje => Some("OBJE"),
+        Kind::ToFam => Some(RecordType::Fam),
+        Kind::ToIndi => Some(RecordType::Indi),
+        Kind::ToSubm => Some(RecordType::Subm),
+        Kind::ToSnote => Some(RecordType::Snote),
+        Kind::ToSour => Some(RecordType::Sour),
+        Kind::ToObje => Some(RecordType::Obje),
         _ => None,
     }
 }
 
-/// Whether a name is the identifier of a record with the tag.
-fn names_record<F: Forest>(forest: &F, index: &Index, name: &str, tag: &str) -> bool
-    requires index { IsIndexOf (F.trees forest.now) index.now }
-    requires document { is_document (F.trees forest.now) ≡ true }
-    ensures { IsTrue result ↔ SomeTree (IsRecordNamed name.now tag.now) (F.trees forest.now) }
+/// Whether a name is the identifier of a record of a type.
+#[inline(always)]
+fn names_record(index: &Index, name: &str, wanted: RecordType) -> bool
+    ensures { (document : Trees) → IsIndexOf document index.now → is_document document ≡ true
+        → IsTrue result ↔ SomeTree (IsRecordNamed name.now (record_tag wanted)) document }
 {
-    match index.place_of(name) {
-        Some(place) => forest.tag(place) == tag,
-        None => false,
-    }
+    index.leads_to(name, wanted)
 }
 
-/// Whether a payload, that of the structure at a place, leads to a record of the tag that the kind names.
+/// Whether a payload, that of the structure at a place, leads to a record of the type that the kind names.
+#[inline(always)]
 pub(crate) fn points_right<F: Forest>(
     forest: &F,
     index: &Index,
@@ -78,11 +77,11 @@ pub(crate) fn points_right<F: Forest>(
         ≡ (structure_at (F.trees forest.now) place).payload }
     ensures { IsTrue result ↔ PointsRight (F.trees forest.now) (target kind) (structure_at (F.trees forest.now) place).payload }
 {
-    let Some(tag) = target_tag(kind) else {
+    let Some(wanted) = target_type(kind) else {
         return true;
     };
     match payload {
-        PayloadView::Pointer(name) => names_record(forest, index, name, tag),
+        PayloadView::Pointer(name) => names_record(index, name, wanted),
         _ => true,
     }
 }

@@ -1,14 +1,16 @@
 // Profiles: whether notices refuse a document.
-ghost use Rattle.std.specs.Prelude.{◌≡◌, ◌↔◌, MatchOption, MatchResult};
+ghost use Rattle.std.specs.Prelude.{◌≡◌, ◌↔◌, ℕ, MatchOption, MatchResult};
+ghost use Rattle.ged_tree.specs.Places.{line_at};
 ghost use Rattle.ged_link.specs.Indexes.{IsIndexOf};
+ghost use Rattle.ged_link.specs.LinkFaults.{IsLowest};
 ghost use Rattle.ged_link.specs.Notices.{OneWay};
 ghost use Rattle.ged_schema.specs.declared.context.Context.TheVariants.{File};
-ghost use Rattle.ged_schema.specs.Unlisted.{Unlisted};
+ghost use Rattle.ged_schema.specs.Unlisted.{IsCoverage, Unlisted, UnlistedAt};
 ghost use Rattle.ged_schema.specs.Profiles.{CheckedAs, IsFirstFaultAs, IsFirstNotice};
 
-use crate::checking::check;
+use crate::checking::check_tables;
 use crate::fault::{SchemaAt, SchemaFault};
-use crate::notices::first_unlisted;
+use crate::notices::{Coverage, first_unlisted};
 use ged_link::{Index, first_one_way};
 use ged_tree::Forest;
 
@@ -21,14 +23,28 @@ pub enum Profile {
     Strict,
 }
 
+/// What [`first_unlisted`] answers, without a walk where the tables list each tag.
+fn first_tag<F: Forest>(forest: &F, coverage: Coverage) -> Option<u64>
+    requires { IsCoverage (F.trees forest.now) coverage }
+    ensures { MatchOption result
+        (Unlisted File (F.trees forest.now) → ⊥)
+        (λ line. (place : ℕ) × IsLowest (UnlistedAt (F.trees forest.now)) place × (line ≡ line_at 1 (F.trees forest.now) place)) }
+{
+    match coverage {
+        Coverage::Whole => None,
+        Coverage::Partial => first_unlisted(forest),
+    }
+}
+
 /// The first notice of a document, told as a fault.
-fn first_notice<F: Forest>(forest: &F, index: &Index) -> Option<SchemaAt>
-    requires { IsIndexOf (F.trees forest.now) index.now }
+fn first_notice<F: Forest>(forest: &F, index: &Index, coverage: Coverage) -> Option<SchemaAt>
+    requires index { IsIndexOf (F.trees forest.now) index.now }
+    requires coverage { IsCoverage (F.trees forest.now) coverage }
     ensures { MatchOption result
         ((OneWay (F.trees forest.now) → ⊥) × (Unlisted File (F.trees forest.now) → ⊥))
         (λ at. IsFirstNotice (F.trees forest.now) at) }
 {
-    let (line, fault) = match (first_one_way(forest, index), first_unlisted(forest)) {
+    let (line, fault) = match (first_one_way(forest, index), first_tag(forest, coverage)) {
         (Some(link), Some(tag)) => {
             if link < tag {
                 (link, SchemaFault::OneWayLink)
@@ -43,21 +59,43 @@ fn first_notice<F: Forest>(forest: &F, index: &Index) -> Option<SchemaAt>
     Some(SchemaAt { line, fault })
 }
 
+/// What [`check_as`] answers, and where a document is as the profile asks, whether the tables list each of its standard
+/// tags. Takes no memory.
+///
+/// The tags are looked up once for both. Under [`Profile::Strict`] the answer is never [`Coverage::Partial`]
+/// (FamilySearch GEDCOM 7.0, "Structure Organization" and "Data types").
+pub fn check_coverage<F: Forest>(
+    profile: Profile,
+    forest: &F,
+    index: &Index,
+) -> Result<Coverage, SchemaAt>
+    requires { IsIndexOf (F.trees forest.now) index.now }
+    ensures { MatchResult result
+        (λ coverage. CheckedAs profile (F.trees forest.now) × IsCoverage (F.trees forest.now) coverage)
+        (λ at. IsFirstFaultAs profile (F.trees forest.now) at) }
+{
+    let coverage = check_tables(forest, index)?;
+    match profile {
+        Profile::Lenient => Ok(coverage),
+        Profile::Strict => match first_notice(forest, index, coverage) {
+            Some(at) => Err(at),
+            None => Ok(coverage),
+        },
+    }
+}
+
 /// Whether a document is as the structure tables ask and, under the strict profile, has no notice; or its first fault.
 /// Takes no memory.
 ///
-/// Under [`Profile::Lenient`] it answers what [`check`] answers. Under [`Profile::Strict`] a notice is told where `check`
-/// finds no fault, and then the one at the lowest line (FamilySearch GEDCOM 7.0, "Structure Organization" and "Data types").
+/// Under [`Profile::Lenient`] it answers what [`check`](crate::check) answers. Under [`Profile::Strict`] a notice is told
+/// where `check` finds no fault, and then the one at the lowest line
+/// (FamilySearch GEDCOM 7.0, "Structure Organization" and "Data types").
 pub fn check_as<F: Forest>(profile: Profile, forest: &F, index: &Index) -> Result<(), SchemaAt>
     requires { IsIndexOf (F.trees forest.now) index.now }
     ensures { MatchResult result (λ _. CheckedAs profile (F.trees forest.now)) (λ at. IsFirstFaultAs profile (F.trees forest.now) at) }
 {
-    check(forest, index)?;
-    match profile {
-        Profile::Lenient => Ok(()),
-        Profile::Strict => match first_notice(forest, index) {
-            Some(at) => Err(at),
-            None => Ok(()),
-        },
+    match check_coverage(profile, forest, index) {
+        Ok(_) => Ok(()),
+        Err(at) => Err(at),
     }
 }

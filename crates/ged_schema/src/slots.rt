@@ -1,10 +1,12 @@
 // The number of a tag's row in a context, by one look into a table.
-ghost use Rattle.std.specs.Prelude.{◌≡◌, ◌<◌, ℕ, IfSome, MatchOption, None, Some, true, length, slice_get, slice_index};
-ghost use Rattle.ged_schema.specs.Rows.{Row};
-ghost use Rattle.ged_schema.specs.Tables.{row, rows as rows_of};
+ghost use Rattle.std.specs.Prelude.{◌≡◌, ◌<◌, ◌≤◌, ◌+◌, ◌*◌, ◌%◌, ℕ, IfSome, MatchOption, None, Some, true, length, map, option_map, slice_get};
+ghost use Rattle.std.specs.Option.{option_copied};
+ghost use Rattle.ged_schema.specs.Rows.{Row, as_row};
+ghost use Rattle.ged_schema.specs.Tables.{row, row_of, rows as rows_of};
 ghost use Rattle.ged_schema.specs.Slots.{are_numbered, kept_number, slot_from};
 
 use crate::context::Context;
+use crate::rule::Rule;
 use crate::tables::rows;
 
 /// At the slot of each row's tag, the number of the row in its context; 0 at the slots that no row has.
@@ -71,27 +73,71 @@ pub(crate) fn seed_of(context: Context) -> usize
     }
 }
 
-/// The byte at a place of a tag, or 0 where the tag is shorter.
-fn byte_at(tag: &[u8], place: usize) -> usize
-    ensures small { result < 256 }
-    ensures told { result ≡ slice_index tag.now place }
+/// The slot of a tag by four of its bytes, the first three and the last one. They tell the tags of each context apart.
+#[inline(always)]
+fn slot_at(seed: usize, first: u8, second: u8, third: u8, last: u8) -> usize
+    requires { seed < 512 }
+    ensures small { result < 512 }
+    ensures told { result ≡ (seed + first * 4 + second + third * 32 + last * 4) % 512 }
 {
-    if place < tag.len() {
-        usize::from(tag[place])
-    } else {
-        0
-    }
+    (seed
+        + usize::from(first) * 4
+        + usize::from(second)
+        + usize::from(third) * 32
+        + usize::from(last) * 4)
+        % 512
 }
 
-/// The slot of a tag. Its first three bytes and its last one tell the tags of each context apart.
-fn slot_of(seed: usize, tag: &str) -> usize
+/// The slot of a tag. Nearly all tags have four bytes or more, so they are told from the others at once.
+#[inline(always)]
+fn slot_of(seed: usize, tag: &[u8]) -> usize
     requires { seed < 512 }
     ensures small { result < 512 }
     ensures told { result ≡ slot_from seed tag.now }
 {
-    let bytes = tag.as_bytes();
-    let last = byte_at(bytes, bytes.len().saturating_sub(1));
-    (seed + byte_at(bytes, 0) * 4 + byte_at(bytes, 1) + byte_at(bytes, 2) * 32 + last * 4) % 512
+    if let [first, second, third, .., last] = tag {
+        return slot_at(seed, *first, *second, *third, *last);
+    }
+    match tag {
+        [first, second, third] => slot_at(seed, *first, *second, *third, *third),
+        [first, second] => slot_at(seed, *first, *second, 0, *second),
+        [first] => slot_at(seed, *first, 0, 0, *first),
+        _ => slot_at(seed, 0, 0, 0, 0),
+    }
+}
+
+/// The number of a tag's row among the rows of a context, counted from 0, where the seed is that of the context. A walk
+/// over structures that stand side by side asks for rows and seed once.
+#[inline(always)]
+pub(crate) fn number_among(rules: &[Rule], seed: usize, tag: &str) -> Option<usize>
+    requires small { seed < 512 }
+    requires few { length rules.now ≤ 64 }
+    requires kept { are_numbered (kept_number seed) 0 (map as_row rules.now) ≡ true }
+    ensures row { MatchOption result (row_of (map as_row rules.now) tag.now ≡ None)
+        (λ number. (number < length (map as_row rules.now)) × (slice_get (map as_row rules.now) number ≡ row_of (map as_row rules.now) tag.now)) }
+    ensures small { IfSome result (λ number. number < 64) }
+    ensures only { (number : ℕ) (r : Row) → slice_get (map as_row rules.now) number ≡ Some r → r.tag ≡ tag.now → result ≡ Some number }
+{
+    let number = usize::from(SLOTS[slot_of(seed, tag.as_bytes())]);
+    if number < rules.len() && rules[number].tag == tag {
+        Some(number)
+    } else {
+        None
+    }
+}
+
+/// The row of a tag among the rows of a context, where the seed is that of the context.
+#[inline(always)]
+pub(crate) fn rule_among(rules: &'static [Rule], seed: usize, tag: &str) -> Option<&'static Rule>
+    requires small { seed < 512 }
+    requires few { length rules.now ≤ 64 }
+    requires kept { are_numbered (kept_number seed) 0 (map as_row rules.now) ≡ true }
+    ensures { option_map as_row (option_copied result) ≡ row_of (map as_row rules.now) tag.now }
+{
+    match number_among(rules, seed, tag) {
+        Some(number) => Some(&rules[number]),
+        None => None,
+    }
 }
 
 /// The number of a tag's row among the rows of a context, counted from 0.
@@ -102,11 +148,5 @@ pub(crate) fn row_number(context: Context, tag: &str) -> Option<usize>
     ensures small { IfSome result (λ number. number < 64) }
     ensures only { (number : ℕ) (r : Row) → slice_get (rows_of context) number ≡ Some r → r.tag ≡ tag.now → result ≡ Some number }
 {
-    let rules = rows(context);
-    let number = usize::from(SLOTS[slot_of(seed_of(context), tag)]);
-    if number < rules.len() && rules[number].tag == tag {
-        Some(number)
-    } else {
-        None
-    }
+    number_among(rows(context), seed_of(context), tag)
 }

@@ -1,5 +1,8 @@
 // What is told of whole files: values that the standard and worked examples give.
-use crate::{Profile, SchemaAt, SchemaFault, check, check_as, first_unlisted, unlisted};
+use crate::{
+    Coverage, Profile, SchemaAt, SchemaFault, check, check_as, check_coverage, first_unlisted,
+    unlisted,
+};
 use ged_link::{Notice, NoticeKind, resolve};
 use ged_tree::flatten;
 use std::alloc::{AllocError, Global};
@@ -48,6 +51,17 @@ fn notices_of(alloc: Global, file: &str) -> Option<(Vec<Notice>, Option<u64>)> {
         return None;
     };
     Some((notices, first_unlisted(&flat)))
+}
+
+/// Whether the tables list each standard tag of a file that is accepted under the lenient profile.
+fn coverage_of(alloc: Global, file: &str) -> Option<Coverage> {
+    let Ok(flat) = flatten(alloc, file.as_bytes()) else {
+        return None;
+    };
+    let Ok(index) = resolve(alloc, &flat) else {
+        return None;
+    };
+    check_coverage(Profile::Lenient, &flat, &index).ok()
 }
 
 /// Whole files, and what is answered to them.
@@ -270,6 +284,16 @@ fn tells_unlisted_tags(rt: HostRuntime) -> Result<(), Fail> {
             }
             None => assert!(rt; false, "the file is flattened"),
         }
+        let coverage = if wanted.is_empty() {
+            Coverage::Whole
+        } else {
+            Coverage::Partial
+        };
+        assert_eq!(rt;
+            coverage_of(alloc, file.as_str()),
+            Some(coverage),
+            "{lines}"
+        );
     }
     Ok(())
 }

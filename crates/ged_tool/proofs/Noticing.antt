@@ -7,8 +7,8 @@ use Rattle.ged_link.specs.Notices.{AreRising, AreOneWayNotices, one_way_notice}
 use Rattle.ged_link.specs.declared.notices.Notice.{Notice}
 use Rattle.ged_link.proofs.OneWayLemmas.{one_way_within}
 use Rattle.ged_schema.specs.declared.context.Context.TheVariants.{File}
-use Rattle.ged_schema.specs.Unlisted.{UnlistedAt, AreUnlistedNotices, unlisted_notice}
-use Rattle.ged_schema.proofs.FirstUnlisted.{unlisted_within}
+use Rattle.ged_schema.specs.Unlisted.{Unlisted, UnlistedAt, AreUnlisted, AreUnlistedNotices, unlisted_notice}
+use Rattle.ged_schema.proofs.FirstUnlisted.{unlisted_within, place_has}
 use Rattle.ged_schema.proofs.NoticeLaws.{lower_line, two_lines}
 use Rattle.ged_tool.specs.Merges.{IsMerge, first_left, second_left, from_first, from_second}
 use Rattle.ged_tool.specs.Notices.{lines_told, AreNotices}
@@ -126,3 +126,10 @@ module _ (d : Trees) where
           ],
         );
       }
+
+  -- where no tag is unlisted they are those of the links
+  pub are_links : (links : List Notice) → AreOneWayNotices d links → (Unlisted File d → ⊥) → AreNotices d links
+  are_links links one_way never = are_notices links [] links one_way ([], none_listed, refl) (first_left links)
+    where
+      none_listed : AreUnlisted d []
+      none_listed = record { rising = tt; each = λ p. (λ h. absurd h, λ h. absurd (never (place_has File 0 d p h))) }

@@ -3,23 +3,25 @@ ghost use Rattle.std.specs.Prelude.{◌≡◌, IfOk, IfErr};
 ghost use Rattle.ged_link.specs.Links.{Resolved};
 ghost use Rattle.ged_link.specs.Indexes.{IsIndexOf};
 ghost use Rattle.ged_schema.specs.Checked.{Checked};
+ghost use Rattle.ged_schema.specs.Unlisted.{IsCoverage};
 ghost use Rattle.ged_tool.specs.Profiles.{profile_of};
 ghost use Rattle.ged_tool.specs.Accepted.{IsAccepted, FileFaultAt, IsRefusal};
 
 use crate::faults::{Fault, FileFault};
 use crate::settings::Settings;
 use ged_link::{Index, LinkFault, resolve};
-use ged_schema::{Profile, check_as};
+use ged_schema::{Coverage, Profile, check_coverage};
 use ged_tree::{BuildFault, Document, Flat, document_of, flatten};
 use std::alloc::{AllocError, Global};
 use std::marker::Model;
 
-/// A file that is accepted: its document, whose texts are slices of the file, and the index of its records. Contracts
-/// see the document.
+/// A file that is accepted: its document, whose texts are slices of the file, the index of its records, and whether the
+/// tables list each of its standard tags. Contracts see the document.
 #[derive(Drop)]
 pub struct Accepted<'a> {
     flat: Flat<'a>,
     index: Index,
+    coverage: Coverage,
 }
 
 impl<'a> Model for Accepted<'a> {
@@ -27,6 +29,7 @@ impl<'a> Model for Accepted<'a> {
     ghost use Rattle.ged_tree.specs.TreeCodes.{trees_code};
     ghost use Rattle.ged_link.specs.Indexes.{IsIndexOf};
     ghost use Rattle.ged_schema.specs.Checked.{Checked};
+    ghost use Rattle.ged_schema.specs.Unlisted.{IsCoverage};
 
     ghost Value = { Trees };
 
@@ -34,7 +37,7 @@ impl<'a> Model for Accepted<'a> {
 
     ghost view = { λ a. a.flat };
 
-    ghost invariant = { λ a. IsIndexOf a.flat a.index × Checked a.flat };
+    ghost invariant = { λ a. IsIndexOf a.flat a.index × Checked a.flat × IsCoverage a.flat a.coverage };
 }
 
 impl<'a> Accepted<'a> {
@@ -59,6 +62,13 @@ impl<'a> Accepted<'a> {
         ensures { result.now ≡ self.now }
     {
         &self.flat
+    }
+
+    /// Whether the tables list each standard tag of the document.
+    pub(crate) fn coverage(&self) -> Coverage
+        ensures { IsCoverage self.now result }
+    {
+        self.coverage
     }
 }
 
@@ -89,8 +99,12 @@ pub fn accept_as(alloc: Global, settings: Settings, bytes: &[u8]) -> Result<Acce
         Err(LinkFault::Dangling(line)) => return Err(in_file(line, FileFault::DanglingPointer)),
         Err(LinkFault::Memory(error)) => return Err(Fault::Memory(error)),
     };
-    match check_as(settings.profile(), &flat, &index) {
-        Ok(()) => Ok(Accepted { flat, index }),
+    match check_coverage(settings.profile(), &flat, &index) {
+        Ok(coverage) => Ok(Accepted {
+            flat,
+            index,
+            coverage,
+        }),
         Err(at) => Err(in_file(at.line, at.fault.into())),
     }
 }

@@ -6,7 +6,7 @@ ghost use Rattle.ged_tool.specs.Merges.{IsMerge};
 
 use crate::accepted::Accepted;
 use ged_link::{Notice, NoticeKind, one_way};
-use ged_schema::unlisted;
+use ged_schema::{Coverage, unlisted};
 use itoa::Buffer;
 use std::alloc::{AllocError, Global};
 
@@ -17,8 +17,13 @@ pub fn notices(alloc: Global, accepted: &Accepted<'_>) -> Result<Vec<Notice>, Al
 {
     let flat = accepted.flat();
     let links = one_way(alloc, flat, accepted.index())?;
-    let tags = unlisted(alloc, flat)?;
-    merge(alloc, &links, &tags)
+    match accepted.coverage() {
+        Coverage::Whole => Ok(links),
+        Coverage::Partial => {
+            let tags = unlisted(alloc, flat)?;
+            merge(alloc, &links, &tags)
+        }
+    }
 }
 
 /// The notices of two lists, each in the order of its lines, in the order of all lines.

@@ -2,8 +2,8 @@
 use Rattle.std.proofs.Common.{◌≡◌, ℕ, suc, zero, ◌+◌, ◌<◌, ◌≤◌, List, [], ◌∷◌, length, drop, get_or, refl, sym, subst, ◌∙◌, ap, arith, inl, inr}
 use Rattle.std.proofs.lemmas.Bool.{lt-ltb, le-ltb, cases_lt}
 use Rattle.std.proofs.lemmas.List.{drop-drop, drop-map, drop_more, drop_all, length-drop, length-map}
-use Rattle.ged_tree.specs.declared.flat.FlatStructure.{FlatStructure}
-use Rattle.ged_tree.specs.Rows.{deeper, levels_of, IsClosed}
+use Rattle.ged_tree.specs.declared.kept.KeptStructure.{KeptStructure}
+use Rattle.ged_tree.specs.Rows.{deeper, kept_level, kept_levels, IsClosed}
 use Rattle.ged_tree.specs.Tables.{end_from}
 
 pub deeper_more : (level next : ℕ) (levels : List ℕ) → level < next → deeper level (next ∷ levels) ≡ 1 + deeper level levels
@@ -32,49 +32,49 @@ deeper_jump level next (x ∷ xs) h = elim (cases_lt next x) [
 ]
 
 -- what is closed is closed from a later place on
-pub closed_later : (k : ℕ) (structures : List FlatStructure) → IsClosed structures → IsClosed (drop k structures)
+pub closed_later : (k : ℕ) (structures : List KeptStructure) → IsClosed structures → IsClosed (drop k structures)
 closed_later zero structures h = h
 closed_later (suc k) [] h = tt
 closed_later (suc k) (s ∷ rest) h = closed_later k rest h.1
 
-module _ (items : List FlatStructure) (place level : ℕ) (s d : FlatStructure) (is : s ≡ get_or items place d) (h : place < length items) where
+module _ (items : List KeptStructure) (place level : ℕ) (s d : KeptStructure) (is : s ≡ get_or items place d) (h : place < length items) where
   pub here : drop place items ≡ s ∷ drop (place + 1) items
-  here = drop_more items place d h ∙ ap (λ (x : FlatStructure). x ∷ drop (place + 1) items) (sym is)
+  here = drop_more items place d h ∙ ap (λ (x : KeptStructure). x ∷ drop (place + 1) items) (sym is)
 
-  pub stop_here : s.level ≤ level → end_from level items place ≡ place
-  stop_here e = rw (here, deeper_none level s.level (levels_of (drop (place + 1) items)) e) (omega arith)
+  pub stop_here : kept_level s ≤ level → end_from level items place ≡ place
+  stop_here e = rw (here, deeper_none level (kept_level s) (kept_levels (drop (place + 1) items)) e) (omega arith)
 
-  pub step_here : level < s.level → end_from level items place ≡ end_from level items (place + 1)
-  step_here e = rw (here, deeper_more level s.level (levels_of (drop (place + 1) items)) e) (omega arith)
+  pub step_here : level < kept_level s → end_from level items place ≡ end_from level items (place + 1)
+  step_here e = rw (here, deeper_more level (kept_level s) (kept_levels (drop (place + 1) items)) e) (omega arith)
 
-  pub below_fits : place + 1 + deeper level (levels_of (drop (place + 1) items)) ≤ length items
-  below_fits = omega (arith, h, deeper_fits level (levels_of (drop (place + 1) items)), length-map (drop (place + 1) items) (λ (x : FlatStructure). x.level), length-drop (place + 1) items)
+  pub below_fits : place + 1 + deeper level (kept_levels (drop (place + 1) items)) ≤ length items
+  below_fits = omega (arith, h, deeper_fits level (kept_levels (drop (place + 1) items)), length-map (drop (place + 1) items) kept_level, length-drop (place + 1) items)
 
   module _ (closed : IsClosed (drop place items)) where
     unfolded : IsClosed (s ∷ drop (place + 1) items)
     unfolded = subst IsClosed here closed
 
-    pub size_is : s.size < 4294967295 → s.size ≡ deeper s.level (levels_of (drop (place + 1) items))
+    pub size_is : s.size < 4294967295 → s.size ≡ deeper (kept_level s) (kept_levels (drop (place + 1) items))
     size_is = unfolded.0
 
-    module _ (after : ℕ) (after_is : after ≡ place + 1 + deeper s.level (levels_of (drop (place + 1) items))) where
+    module _ (after : ℕ) (after_is : after ≡ place + 1 + deeper (kept_level s) (kept_levels (drop (place + 1) items))) where
       pub jump_forth : place < after
       jump_forth = omega (arith, after_is)
 
-      past : drop (deeper s.level (levels_of (drop (place + 1) items))) (drop (place + 1) items) ≡ drop after items
-      past = drop-drop (deeper s.level (levels_of (drop (place + 1) items))) (place + 1) items ∙ ap (λ (k : ℕ). drop k items) (sym after_is)
+      past : drop (deeper (kept_level s) (kept_levels (drop (place + 1) items))) (drop (place + 1) items) ≡ drop after items
+      past = drop-drop (deeper (kept_level s) (kept_levels (drop (place + 1) items))) (place + 1) items ∙ ap (λ (k : ℕ). drop k items) (sym after_is)
 
       pub jump_closed : IsClosed (drop after items)
-      jump_closed = subst IsClosed past (closed_later (deeper s.level (levels_of (drop (place + 1) items))) (drop (place + 1) items) unfolded.1)
+      jump_closed = subst IsClosed past (closed_later (deeper (kept_level s) (kept_levels (drop (place + 1) items))) (drop (place + 1) items) unfolded.1)
 
-      pub jump_is : level < s.level → end_from level items place ≡ end_from level items after
+      pub jump_is : level < kept_level s → end_from level items place ≡ end_from level items after
       jump_is e =
           let r = drop (place + 1) items in
-          let k = deeper s.level (levels_of r) in
-          let jumped = deeper_jump level s.level (levels_of r) (omega arith) in
-          let seen : drop k (levels_of r) ≡ levels_of (drop after items) = drop-map (λ (x : FlatStructure). x.level) k r ∙ ap levels_of past in
+          let k = deeper (kept_level s) (kept_levels r) in
+          let jumped = deeper_jump level (kept_level s) (kept_levels r) (omega arith) in
+          let seen : drop k (kept_levels r) ≡ kept_levels (drop after items) = drop-map kept_level k r ∙ ap kept_levels past in
           let sum = rw seen at jumped in
-          rw (here, deeper_more level s.level (levels_of r) e) (omega (arith, after_is, sum))
+          rw (here, deeper_more level (kept_level s) (kept_levels r) e) (omega (arith, after_is, sum))
 
-pub stop_end : (items : List FlatStructure) (place level : ℕ) → length items ≤ place → end_from level items place ≡ place
+pub stop_end : (items : List KeptStructure) (place level : ℕ) → length items ≤ place → end_from level items place ≡ place
 stop_end items place level h = rw (drop_all place items h) (omega arith)

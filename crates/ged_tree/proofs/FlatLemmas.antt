@@ -1,27 +1,30 @@
 -- A flat table lists a document's structures.
-use Rattle.std.proofs.Common.{take, drop, [], ◌∷◌, Some, slice_get, inl, inr, ◌≡◌, ℕ, suc, zero, ◌+◌, ◌-◌, ◌^◌, ◌<◌, ◌≤◌, List, length, get_or, map, sym, subst, ◌∙◌, ap, refl, arith}
-use Rattle.std.specs.Borrow.{Bor}
+use Rattle.std.proofs.Common.{false, take, drop, [], ◌∷◌, Some, slice_get, inl, inr, ◌≡◌, ℕ, suc, zero, ◌+◌, ◌-◌, ◌^◌, ◌<◌, List, length, get_or, sym, subst, ◌∙◌, ap, refl, arith, ◌++◌, decimal, length-append}
 use Rattle.std.specs.Option.{option_map}
 use Rattle.std.specs.List.{AllByRecursion}
-use Rattle.std.proofs.lemmas.List.{drop_more, drop_all, length-map, length-take, length-drop, get_or-take, get_or-drop}
+use Rattle.std.proofs.lemmas.List.{length-map, get_or_default, length-take, length-drop, get_or-take, get_or-drop}
 use Rattle.std.proofs.lemmas.Option.{slice_get-get_or, slice_get-map}
 use Rattle.std.proofs.Math.Nat.{min-le_left, min-le_right}
 use Rattle.ged_line.specs.Bytes.{Bytes}
-use Rattle.ged_line.specs.Lines.{Value, Empty, Void, Pointer, Text}
-use Rattle.std.proofs.lemmas.Bool.{cases_lt}
+use Rattle.ged_line.specs.Lines.{LineParts, LineText, xref_part, Value, Empty, Void, Pointer, Text}
+use Rattle.std.specs.Prelude.{nat_lt}
+use Rattle.std.proofs.lemmas.Bool.{cases_lt, ltb-false}
 use Rattle.ged_tree.specs.Trees.{Trees, none, tree, trees_count, further_lines, line_count, lines_count}
-use Rattle.ged_tree.specs.Places.{structure_at, line_at}
+use Rattle.ged_tree.specs.Places.{structure_at, below_at, place_after, level_at, line_at}
 use Rattle.ged_tree.specs.Views.{payload_of}
 use Rattle.ged_tree.specs.Spelled.{payload_from}
 use Rattle.ged_tree.specs.DocumentLines.{line_value}
 use Rattle.ged_tree.specs.Tables.{own_value}
-use Rattle.ged_tree.specs.Rows.{Row, row_of, rows_from, further_end, flat_trees, IsFlat, IsSpelled, line_shown}
+use Rattle.ged_tree.specs.Rows.{Row, row_of, rows_from, texts_of, places_of, further_before, further_at, flat_trees, IsListed, IsFlat, IsSpelled, line_shown, Shown, shown_from, shown_with, text_at, kept_level, kept_levels, kept_further, HasSlice, deeper}
 use Rattle.ged_tree.specs.declared.payload.PayloadView.{PayloadView}
 use Rattle.ged_tree.specs.declared.payload.PayloadView.TheVariants as views
 use Rattle.ged_tree.specs.declared.payload.Payload.TheVariants.{Text as Texts}
-use Rattle.ged_tree.specs.declared.flat.FlatStructure.{FlatStructure}
+use Rattle.ged_tree.specs.declared.kept.KeptStructure.{KeptStructure}
+use Rattle.ged_tree.specs.declared.kept.TextApart.{TextApart}
+use Rattle.ged_tree.specs.declared.flat.FurtherLine.{FurtherLine}
 use Rattle.ged_tree.proofs.FoundLemmas.{line_first, line_below, line_next, few_of_document}
 use Rattle.ged_tree.proofs.RowLemmas.{length-rows_of, rows_at, row_at}
+use Rattle.ged_tree.proofs.KeptLemmas.{length-shown, levels_behind, shown_here, slice_at}
 
 -- the payload as seen, with its own further lines
 pub view_again : (v : PayloadView) (value : Value) (further : List Bytes) → own_value v ≡ value
@@ -48,36 +51,27 @@ part_at xs start count n h =
     let within : start + n < length xs = omega (arith, h, size, min-le_right count (length (drop start xs)), length-drop start xs) in
     (within, slice_get-get_or _ n [] h ∙ ap Some (get_or-take count (drop start xs) n [] few ∙ get_or-drop start xs n []) ∙ sym (slice_get-get_or xs (start + n) [] within))
 
-mapped : (xs : List (Bor (Bytes))) → length (map (λ (x : Bor (Bytes)). x.now) xs) ≡ length xs
-mapped xs = length-map xs (λ (x : Bor (Bytes)). x.now)
+length-rows_from : (texts : List Bytes) (afters : List ℕ) (place : ℕ) (items : List Shown) → length (rows_from texts afters place items) ≡ length items
+length-rows_from texts afters place [] = refl
+length-rows_from texts afters place (s ∷ rest) = ap suc (length-rows_from texts afters (place + 1) rest)
 
-length-rows_from : (further : List Bytes) (place : ℕ) (items : List FlatStructure) → length (rows_from further place items) ≡ length items
-length-rows_from further place [] = refl
-length-rows_from further place (s ∷ rest) = ap suc (length-rows_from further (place + 1) rest)
-
-rows_from_at : (further : List Bytes) (place : ℕ) (items : List FlatStructure) (i : ℕ) (s : FlatStructure) (d : Row) → i < length items → s ≡ get_or items i s
-    → get_or (rows_from further place items) i d ≡ row_of further (place + i) (further_end (length further) (drop (i + 1) items)) s (drop (i + 1) items)
-rows_from_at further place [] i s d h e = absurd (omega (arith, h))
-rows_from_at further place (x ∷ rest) zero s d h e = (let z : place + 0 ≡ place = omega arith in rw (z, e) refl)
-rows_from_at further place (x ∷ rest) (suc i) s d h e =
+rows_from_at : (texts : List Bytes) (afters : List ℕ) (place : ℕ) (items : List Shown) (i : ℕ) (s : Shown) (d : Row) → i < length items → s ≡ get_or items i s
+    → get_or (rows_from texts afters place items) i d ≡ row_of texts afters (place + i) s (drop (i + 1) items)
+rows_from_at texts afters place [] i s d h e = absurd (omega (arith, h))
+rows_from_at texts afters place (x ∷ rest) zero s d h e = (let z : place + 0 ≡ place = omega arith in rw (z, e) refl)
+rows_from_at texts afters place (x ∷ rest) (suc i) s d h e =
     let z : (place + 1) + i ≡ place + suc i = omega arith in
     let y : suc i + 1 ≡ suc (i + 1) = omega arith in
-    rw (rows_from_at further (place + 1) rest i s d (omega (arith, h)) e, z, y) refl
+    rw (rows_from_at texts afters (place + 1) rest i s d (omega (arith, h)) e, z, y) refl
 
-end_some : (total : ℕ) (xs : List FlatStructure) (i : ℕ) (x : FlatStructure) → i < length xs → x ≡ get_or xs i x → further_end total (drop i xs) ≡ x.further_start
-end_some total xs i x h e = rw (drop_more xs i x h) (ap (λ (s : FlatStructure). s.further_start) (sym e))
-
-end_none : (total : ℕ) (xs : List FlatStructure) (i : ℕ) → length xs ≤ i → further_end total (drop i xs) ≡ total
-end_none total xs i h = rw (drop_all i xs h) refl
-
-pub spelled_at : (xs : List FlatStructure) (i : ℕ) (s : FlatStructure) → i < length xs → s ≡ get_or xs i s → AllByRecursion IsSpelled xs → IsSpelled s
+pub spelled_at : (xs : List Shown) (i : ℕ) (s : Shown) → i < length xs → s ≡ get_or xs i s → AllByRecursion IsSpelled xs → IsSpelled s
 spelled_at [] i s h e a = absurd (omega arith)
 spelled_at (x ∷ xs) zero s h e a = subst IsSpelled (sym e) a.0
 spelled_at (x ∷ xs) (suc i) s h e a = spelled_at xs i s (omega arith) e a.1
 
--- where the further lines of the structure at a place end
-abbrev pub end_at : List FlatStructure → List (Bor (Bytes)) → ℕ → ℕ
-end_at structures further place = further_end (length (map (λ (x : Bor (Bytes)). x.now) further)) (drop (place + 1) structures)
+-- for places that no structure has
+abbrev no_structure : Shown
+no_structure = record { text = []; level = 0; tag_start = 0; tag_length = 0; has_further = false }
 
 -- a structure begins before the lines of its trees end
 line_within : (l : ℕ) (w : Trees) (p : ℕ) → p < trees_count w → line_at l w p < l + lines_count w
@@ -90,25 +84,26 @@ line_within l (tree s b n) p h = elim (cases_lt 0 p) [
   ]
 ]
 
-module _ (structures : List FlatStructure) (further : List (Bor (Bytes))) (flat : IsFlat structures further) where
+module _ (structures : List Shown) (further : List FurtherLine) (flat : IsListed structures further) where
   pub flat_count : length structures ≡ trees_count (flat_trees structures further)
   flat_count =
-      sym (length-rows_from (map (λ (x : Bor (Bytes)). x.now) further) 0 structures)
+      sym (length-rows_from (texts_of further) (places_of further) 0 structures)
       ∙ ap (λ (es : List Row). length es) flat.listed
       ∙ length-rows_of 0 0 1 (flat_trees structures further)
 
-  pub flat_at : (place : ℕ) (s : FlatStructure) → place < length structures → s ≡ get_or structures place s
-      → row_of (map (λ x. x.now) further) place (end_at structures further place) s (drop (place + 1) structures) ≡ row_at 0 0 1 (flat_trees structures further) place
+  pub flat_at : (place : ℕ) (s : Shown) → place < length structures → s ≡ get_or structures place s
+      → row_of (texts_of further) (places_of further) place s (drop (place + 1) structures) ≡ row_at 0 0 1 (flat_trees structures further) place
   flat_at place s h e =
-      let lines = map (λ (x : Bor (Bytes)). x.now) further in
-      let d : Row = row_of lines place 0 s [] in
+      let texts = texts_of further in
+      let afters = places_of further in
+      let d : Row = row_of texts afters place s [] in
       let z : 0 + place ≡ place = omega arith in
-      ap (λ (p : ℕ). row_of lines p (end_at structures further place) s (drop (place + 1) structures)) (sym z)
-      ∙ sym (rows_from_at lines 0 structures place s d h e)
+      ap (λ (p : ℕ). row_of texts afters p s (drop (place + 1) structures)) (sym z)
+      ∙ sym (rows_from_at texts afters 0 structures place s d h e)
       ∙ ap (λ (es : List Row). get_or es place d) flat.listed
       ∙ rows_at 0 0 1 (flat_trees structures further) place d (omega (arith, flat_count))
 
-  pub flat_spelled : (place : ℕ) (s : FlatStructure) → place < length structures → s ≡ get_or structures place s → IsSpelled s
+  pub flat_spelled : (place : ℕ) (s : Shown) → place < length structures → s ≡ get_or structures place s → IsSpelled s
   flat_spelled place s h e = spelled_at structures place s h e flat.spelled
 
   -- a structure's line is one of the document's
@@ -117,25 +112,105 @@ module _ (structures : List FlatStructure) (further : List (Bor (Bytes))) (flat 
       let w = flat_trees structures further in
       omega (arith, line_within 1 w place (omega (arith, h, flat_count)), (few_of_document w flat.document).1)
 
-  pub flat_further : (place n : ℕ) (s : FlatStructure) → place < length structures → s ≡ get_or structures place s → n < length (further_lines (structure_at (flat_trees structures further) place).payload)
-      → (s.further_start + n < length further) × (slice_get (further_lines (structure_at (flat_trees structures further) place).payload) n ≡ option_map (λ x. x.now) (slice_get further (s.further_start + n)))
+  pub flat_further : (place n : ℕ) → place < length structures → n < length (further_lines (structure_at (flat_trees structures further) place).payload)
+      → (further_before place (places_of further) + n < length further) × (slice_get (further_lines (structure_at (flat_trees structures further) place).payload) n ≡ option_map (λ line. line.text.now) (slice_get further (further_before place (places_of further) + n)))
   unfolding structure_at
-  flat_further place n s h e k =
-      let lines = map (λ (x : Bor (Bytes)). x.now) further in
-      let count = end_at structures further place - s.further_start in
-      let part = take count (drop s.further_start lines) in
-      let same : further_lines (payload_from (line_shown s).value part) ≡ further_lines (structure_at (flat_trees structures further) place).payload = ap (λ (x : Row). further_lines x.structure.payload) (flat_at place s h e) in
+  flat_further place n h k =
+      let texts = texts_of further in
+      let afters = places_of further in
+      let start = further_before place afters in
+      let count = further_at place afters in
+      let s = get_or structures place no_structure in
+      let is : s ≡ get_or structures place s = get_or_default structures place no_structure s h in
+      let part = take count (drop start texts) in
+      let same : further_lines (payload_from (line_shown s).value part) ≡ further_lines (structure_at (flat_trees structures further) place).payload = ap (λ (x : Row). further_lines x.structure.payload) (flat_at place s h is) in
       let inside : n < length (further_lines (payload_from (line_shown s).value part)) = rw (← same) at k in
       let kept : further_lines (payload_from (line_shown s).value part) ≡ part = further_kept (line_shown s).value part n inside in
-      let at = part_at lines s.further_start count n (rw kept at inside) in
-      (omega (arith, at.0, mapped further), ap (λ (xs : List (Bytes)). slice_get xs n) (sym same ∙ kept) ∙ at.1 ∙ slice_get-map (λ (x : Bor (Bytes)). x.now) further (s.further_start + n))
+      let at = part_at texts start count n (rw kept at inside) in
+      (omega (arith, at.0, length-map further (λ (line : FurtherLine). line.text.now)), ap (λ (xs : List (Bytes)). slice_get xs n) (sym same ∙ kept) ∙ at.1 ∙ slice_get-map (λ (line : FurtherLine). line.text.now) further (start + n))
 
-  pub flat_count_at : (place : ℕ) (s : FlatStructure) → place < length structures → s ≡ get_or structures place s → end_at structures further place - s.further_start ≡ length (further_lines (structure_at (flat_trees structures further) place).payload)
+  pub flat_count_at : (place : ℕ) → place < length structures → further_at place (places_of further) ≡ length (further_lines (structure_at (flat_trees structures further) place).payload)
   unfolding structure_at
-  flat_count_at place s h e = ap (λ (x : Row). x.further) (flat_at place s h e)
+  flat_count_at place h =
+      let s = get_or structures place no_structure in
+      ap (λ (x : Row). x.further) (flat_at place s h (get_or_default structures place no_structure s h))
 
-  pub end_found : (place : ℕ) (x : FlatStructure) → place + 1 < length structures → x ≡ get_or structures (place + 1) x → end_at structures further place ≡ x.further_start
-  end_found place x h e = end_some (length (map (λ (x : Bor (Bytes)). x.now) further)) structures (place + 1) x h e
+  pub flat_alone : (place : ℕ) (s : Shown) → place < length structures → s ≡ get_or structures place s → s.has_further ≡ false → length (further_lines (structure_at (flat_trees structures further) place).payload) ≡ 0
+  unfolding structure_at
+  flat_alone place s h e alone =
+      let told : s.has_further ≡ nat_lt 0 (length (further_lines (structure_at (flat_trees structures further) place).payload)) = ap (λ (x : Row). x.goes_on) (flat_at place s h e) in
+      let few = ltb-false 0 (length (further_lines (structure_at (flat_trees structures further) place).payload)) (sym told ∙ alone) in
+      omega (arith, few)
 
-  pub end_last : (place : ℕ) → length structures ≤ place + 1 → end_at structures further place ≡ length further
-  end_last place h = end_none (length (map (λ (x : Bor (Bytes)). x.now) further)) structures (place + 1) h ∙ mapped further
+  pub flat_number : (place : ℕ) → place < length structures → place + further_before place (places_of further) + 1 ≡ line_at 1 (flat_trees structures further) place
+  flat_number place h =
+      let s = get_or structures place no_structure in
+      ap (λ (x : Row). x.line) (flat_at place s h (get_or_default structures place no_structure s h))
+
+-- a line has a text
+some_text : (line : LineParts) (text : Bytes) → LineText line text → ¬ (text ≡ [])
+some_text line text t e =
+    let size = ap (λ (bs : Bytes). length bs) (sym e ∙ t.spelled) in
+    omega (arith, size, length-append (decimal line.level) (32 ∷ (xref_part line.xref ++ (line.tag ++ t.value_part))))
+
+-- the structure at a place shows its parts
+pub record ShowsAt (w : Trees) (place : ℕ) (s : Shown) : Type 0 where
+  pub tag : (line_shown s).tag ≡ (structure_at w place).tag
+  pub xref : (line_shown s).xref ≡ (structure_at w place).xref
+  pub payload : (v : PayloadView) → own_value v ≡ (line_shown s).value → payload_of v (further_lines (structure_at w place).payload) ≡ (structure_at w place).payload
+  pub spelled : IsSpelled s
+
+-- a structure as it is kept
+module _ (file : Bytes) (apart : List TextApart) (structures : List KeptStructure) (further : List FurtherLine) (flat : IsFlat file apart structures further) where
+  abbrev all : List Shown
+  all = shown_from file apart 0 structures
+
+  size : length all ≡ length structures
+  size = length-shown file apart 0 structures
+
+  pub kept_count : length structures ≡ trees_count (flat_trees all further)
+  kept_count = sym size ∙ flat_count all further flat.lists
+
+  module _ (place : ℕ) (s : KeptStructure) (h : place < length structures) (is : s ≡ get_or structures place s) where
+    abbrev here : Shown
+    here = shown_with (text_at file apart place s) s
+
+    within : place < length all
+    within = omega (arith, h, size)
+
+    stands : here ≡ get_or all place here
+    stands = sym (shown_here file apart structures place s here h is)
+
+    pub kept_row : row_of (texts_of further) (places_of further) place here (drop (place + 1) all) ≡ row_at 0 0 1 (flat_trees all further) place
+    kept_row = flat_at all further flat.lists place here within stands
+
+    pub kept_spelled : IsSpelled here
+    kept_spelled = flat_spelled all further flat.lists place here within stands
+
+    pub kept_slice : HasSlice file s
+    kept_slice = slice_at file structures place s h is flat.slices
+
+    pub kept_text : ¬ (text_at file apart place s ≡ [])
+    kept_text = some_text (line_shown here) (text_at file apart place s) kept_spelled.0
+
+    pub kept_alone : kept_further s ≡ false → length (further_lines (structure_at (flat_trees all further) place).payload) ≡ 0
+    kept_alone alone = flat_alone all further flat.lists place here within stands alone
+
+    pub kept_level_is : kept_level s ≡ level_at 0 (flat_trees all further) place
+    kept_level_is = ap (λ (x : Row). x.level) kept_row
+
+    pub kept_after : place + (1 + deeper (kept_level s) (kept_levels (drop (place + 1) structures))) ≡ place_after (flat_trees all further) place
+    unfolding below_at place_after
+    kept_after =
+        let told = ap (λ (x : Row). x.after) kept_row in
+        let same = ap (λ (ls : List ℕ). deeper (kept_level s) ls) (levels_behind file apart (place + 1) 0 structures) in
+        omega (arith, told, same)
+
+    pub kept_shows : (text : Bytes) → text ≡ text_at file apart place s → ShowsAt (flat_trees all further) place (shown_with text s)
+    unfolding structure_at
+    kept_shows text e = subst (λ (bs : Bytes). ShowsAt (flat_trees all further) place (shown_with bs s)) (sym e) (record {
+      tag = ap (λ (x : Row). x.structure.tag) kept_row;
+      xref = ap (λ (x : Row). x.structure.xref) kept_row;
+      payload = λ v same. rw (← (ap (λ (x : Row). x.structure.payload) kept_row)) (view_again v (line_shown here).value _ same);
+      spelled = kept_spelled;
+    })

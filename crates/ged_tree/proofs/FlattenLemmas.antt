@@ -1,11 +1,16 @@
 -- Reading a file into a table.
-use Rattle.std.proofs.Common.{◌≡◌, ◌≢◌, ℕ, ◌+◌, ◌<◌, ◌≤◌, List, [], ◌∷◌, ◌++◌, length, inl, inr, refl, subst, ap, arith, length-append}
+use Rattle.std.proofs.Common.{◌≡◌, ◌≢◌, ℕ, ◌+◌, ◌-◌, ◌<◌, ◌≤◌, take, drop, sym, ◌∙◌, append_assoc, List, [], ◌∷◌, ◌++◌, length, inl, inr, refl, subst, ap, arith, length-append}
+use Rattle.std.specs.Str.{IsUtf8, IsCharBoundary}
+use Rattle.std.proofs.lemmas.List.{take_at, drop_at}
+use Rattle.std.proofs.lemmas.Str.{IsCharBoundary-at_seam, IsCharBoundary-from_take, IsCharBoundary-from_rest}
 use Rattle.ged_line.specs.Bytes.{Bytes}
 use Rattle.ged_line.specs.Lines.{LineParts, LineText}
 use Rattle.ged_line.specs.Faults.{IsFaultOf}
-use Rattle.ged_line.specs.Pieces.{AreCutInto, ArePiecesOf, IsEnd, IsBehindMark}
+use Rattle.ged_line.specs.Pieces.{AreCutInto, ArePiecesOf, IsEnd, IsBehindMark, pieces_of}
+use Rattle.ged_line.proofs.Cutting.{are_cut}
+use Rattle.ged_line.proofs.LineLaws.{line_plain}
 use Rattle.ged_line.specs.declared.fault.LineFault.{LineFault}
-use Rattle.ged_line.proofs.FileLaws.{HaveReadFile, HaveReadFile-start, HaveReadFile-more, HaveReadFile-end, length-AreTexts}
+use Rattle.ged_line.proofs.FileLaws.{HaveRead, HaveRead-start, HaveRead-more, HaveReadFile, HaveReadFile-start, HaveReadFile-more, HaveReadFile-end, length-AreTexts}
 use Rattle.ged_line.specs.Files.{FileText}
 use Rattle.ged_tree.specs.TreeFaults.{FirstFault, Pass, no_lines, past_last}
 use Rattle.ged_tree.specs.TreeFaults.{at_line as at_line_of}
@@ -13,7 +18,7 @@ use Rattle.ged_tree.specs.FileFaults.{ComesAfter, FirstFaultIn, at_piece, at_tex
 use Rattle.ged_tree.specs.Building.{TellsFile}
 use Rattle.ged_tree.specs.declared.fault.TreeFault.{TreeFault}
 use Rattle.ged_tree.proofs.FirstFaults.{no_pass}
-use Rattle.ged_tree.specs.Tables.{HoldsLines, TellsLine}
+use Rattle.ged_tree.specs.Tables.{HoldsLines, IsSliceAt, TellsLine}
 use Rattle.ged_tree.specs.declared.fault.TreeFault.TheVariants.{Line}
 use Rattle.ged_tree.specs.declared.fault.BuildFault.{BuildFault}
 use Rattle.ged_tree.specs.declared.fault.BuildFault.TheVariants.{At, Memory}
@@ -49,12 +54,16 @@ behind_fits : (file bytes : Bytes) → IsBehindMark file bytes → length bytes 
 behind_fits file bytes (inl e) = let q = ap (λ (bs : Bytes). length bs) e in omega (arith, q)
 behind_fits file bytes (inr (e, n)) = let q = ap (λ (bs : Bytes). length bs) e in omega (arith, q)
 
--- a file has no more lines than bytes
-lines_fit : (file : Bytes) (lines : List LineParts) (left : List Bytes) → HaveReadFile file lines left → length lines + length left ≤ length file
-lines_fit file lines left (bytes, m, (before, c, a)) =
-    let cut = pieces_fit (before ++ left) bytes c in
+-- a text has no more lines than bytes
+lines_fit_in : (text : Bytes) (lines : List LineParts) (left : List Bytes) → HaveRead text lines left → length lines + length left ≤ length text
+lines_fit_in text lines left (before, c, a) =
+    let cut = pieces_fit (before ++ left) text c in
     let own = length-AreTexts lines before a in
-    omega (arith, cut, own, length-append before left, behind_fits file bytes m)
+    omega (arith, cut, own, length-append before left)
+
+-- nor has a file
+lines_fit : (file : Bytes) (lines : List LineParts) (left : List Bytes) → HaveReadFile file lines left → length lines + length left ≤ length file
+lines_fit file lines left (text, m, h) = omega (arith, lines_fit_in text lines left h, behind_fits file text m)
 
 pub count_fits : (file : Bytes) (table : TableBuilder) (left : List Bytes) → HasTaken file table left → table.count + length left ≤ length file
 count_fits file table left t = omega (arith, lines_fit file t.lines left t.read, t.holds.counted)
@@ -103,3 +112,58 @@ unended file lines line fault text f pass =
 -- every piece is a line
 pub read_all : (file : Bytes) (table : TableBuilder) (left : List Bytes) (t : HasTaken file table left) → left ≡ [] → FileText t.lines file
 read_all file table left t e = HaveReadFile-end file t.lines left e t.read
+
+-- the same of a text behind a mark, of which this is left
+pub record HasTakenIn (text : Bytes) (table : TableBuilder) (rest : Bytes) : Type 0 where
+  pub lines : List LineParts
+  pub read : HaveRead text lines (pieces_of rest)
+  pub holds : HoldsLines table lines
+  pub file : table.file.now ≡ text
+  pub front : Bytes
+  pub whole : text ≡ front ++ rest
+
+abbrev pub taken_in : (text : Bytes) (table : TableBuilder) (rest : Bytes) → HasTakenIn text table rest → (file : Bytes) → IsBehindMark file text → HasTaken file table (pieces_of rest)
+taken_in text table rest t file m = record { lines = t.lines; read = (text, m, t.read); holds = t.holds }
+
+pub begun_in : (text : Bytes) (table : TableBuilder) → HoldsLines table [] → table.file.now ≡ text → HasTakenIn text table text
+begun_in text table h e = record { lines = []; read = HaveRead-start text (pieces_of text) (are_cut text); holds = h; file = e; front = []; whole = refl }
+
+pub count_fits_in : (text : Bytes) (table : TableBuilder) (rest : Bytes) → HasTakenIn text table rest → table.count + length (pieces_of rest) ≤ length text
+count_fits_in text table rest t = omega (arith, lines_fit_in text t.lines (pieces_of rest) t.read, t.holds.counted)
+
+pub lines_few_in : (text : Bytes) (table : TableBuilder) (rest : Bytes) (t : HasTakenIn text table rest) → length t.lines ≤ length text
+lines_few_in text table rest t = omega (arith, lines_fit_in text t.lines (pieces_of rest) t.read)
+
+-- a line at the front of what is left is a slice of the whole
+module _ (text : Bytes) (table : TableBuilder) (rest piece end after : Bytes) (line : LineParts) (t : HasTakenIn text table rest) (parts : rest ≡ piece ++ (end ++ after)) (spelled : LineText line piece) where
+  start : ℕ
+  start = length text - length rest
+
+  begins : start ≡ length t.front
+  unfolding start
+  begins = (let size = ap (λ (bs : Bytes). length bs) t.whole in omega (arith, size, length-append t.front rest))
+
+  pub slice_of_rest : IsUtf8 rest → IsSliceAt table.file.now (length text - length rest) piece
+  unfolding start
+  slice_of_rest u =
+      let behind : drop start text ≡ rest = ap (λ (bs : Bytes). drop start bs) t.whole ∙ drop_at t.front rest start (sym begins) in
+      let here : take (length piece) rest ≡ piece = ap (λ (bs : Bytes). take (length piece) bs) parts ∙ take_at piece (end ++ after) (length piece) refl in
+      let fits : length piece ≤ length rest = (let size = ap (λ (bs : Bytes). length bs) parts in omega (arith, size, length-append piece (end ++ after))) in
+      let within : start ≤ length text = omega arith in
+      let plain : IsUtf8 (take (length piece) rest) = subst IsUtf8 (sym here) (line_plain line piece spelled).0 in
+      let cut : IsCharBoundary rest (length piece) = IsCharBoundary-from_take rest (length piece) u fits plain in
+      rw t.file (record {
+        begins = subst (λ (n : ℕ). IsCharBoundary text n) (sym begins) (IsCharBoundary-at_seam text t.front rest t.whole u);
+        ends = IsCharBoundary-from_rest text start (length piece) within (subst (λ (bs : Bytes). IsCharBoundary bs (length piece)) (sym behind) cut);
+        text_is = ap (λ (bs : Bytes). take (length piece) bs) behind ∙ here;
+      })
+
+  pub taken_more_in : (new : TableBuilder) → pieces_of rest ≡ piece ∷ pieces_of after → new.file.now ≡ table.file.now → HoldsLines new (t.lines ++ line ∷ []) → HasTakenIn text new after
+  taken_more_in new e f h = record {
+    lines = t.lines ++ line ∷ [];
+    read = HaveRead-more text t.lines (t.lines ++ line ∷ []) (pieces_of rest) (pieces_of after) piece line e refl spelled t.read;
+    holds = h;
+    file = f ∙ t.file;
+    front = t.front ++ (piece ++ end);
+    whole = t.whole ∙ ap (λ (bs : Bytes). t.front ++ bs) (parts ∙ sym (append_assoc piece end after)) ∙ sym (append_assoc t.front (piece ++ end) after);
+  }

@@ -5,6 +5,9 @@ pub mod SpelledLemmas
 pub mod RowLemmas
 pub mod TagLemmas
 pub mod PartLemmas
+pub mod FurtherLemmas
+pub mod ApartLemmas
+pub mod KeptLemmas
 pub mod FlatLemmas
 pub mod EntryLemmas
 pub mod LineLemmas
@@ -25,6 +28,7 @@ pub mod BuildLemmas
 pub mod CloseLemmas
 pub mod CopyLemmas
 pub mod FlattenLemmas
+pub mod PushLemmas
 pub mod TakeLemmas
 pub mod FaultLemmas
 pub mod WholeFiles

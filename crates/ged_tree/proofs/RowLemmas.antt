@@ -1,5 +1,6 @@
 -- The rows of trees, and the trees of rows.
 use Rattle.std.proofs.Common.{◌≡◌, ℕ, suc, zero, ◌+◌, ◌-◌, ◌<◌, List, [], ◌∷◌, ◌++◌, length, get_or, ◌∙◌, ap, refl, arith, inl, inr, sub-one, length-append, append_assoc, append-nil}
+use Rattle.std.specs.Prelude.{nat_lt}
 use Rattle.std.proofs.lemmas.Bool.{cases_lt}
 use Rattle.std.proofs.lemmas.Bool.Decides.{nat_tests}
 use Rattle.std.proofs.lemmas.List.{get_or_append_left, get_or-append_right}
@@ -28,6 +29,7 @@ row_at l k i w p = record {
   after = k + (p + 1 + trees_count (below_first (trees_from w p)));
   line = line_at i w p;
   further = length (further_lines (first_structure (trees_from w p)).payload);
+  goes_on = nat_lt 0 (length (further_lines (first_structure (trees_from w p)).payload));
   structure = first_structure (trees_from w p);
 }
 
@@ -36,7 +38,7 @@ rows_at l k i none p d h = absurd (omega arith)
 rows_at l k i (tree s b n) p d h =
     let below = rows_of (l + 1) (k + 1) (i + line_count s.payload) b in
     let next = rows_of l (k + (1 + trees_count b)) (i + (line_count s.payload + lines_count b)) n in
-    let here : Row = record { level = l; after = k + (1 + trees_count b); line = i; further = length (further_lines s.payload); structure = s } in
+    let here : Row = record { level = l; after = k + (1 + trees_count b); line = i; further = length (further_lines s.payload); goes_on = nat_lt 0 (length (further_lines s.payload)); structure = s } in
     let size : length below ≡ trees_count b = length-rows_of (l + 1) (k + 1) (i + line_count s.payload) b in
     elim (cases_lt 0 p) [
       | inr first ↦ (let e : p ≡ 0 = omega arith in rw e refl)

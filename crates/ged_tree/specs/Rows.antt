@@ -1,7 +1,8 @@
 -- The rows of a flat table, one for each structure; only the table's own functions cite this.
-use Rattle.std.specs.Prelude.{◌≡◌, ℕ, ◌+◌, ◌-◌, ◌<◌, ◌==◌, nat_lt, if◌then◌else◌, true, List, [], ◌∷◌, ◌++◌, length, map, take, drop, decimal}
-use Rattle.std.specs.Borrow.{Bor}
+use Rattle.std.specs.Prelude.{◌≡◌, ℕ, ◌+◌, ◌-◌, ◌%◌, ◌<◌, ◌==◌, nat_lt, nat_le, if◌then◌else◌, Bool, true, List, [], ◌∷◌, ◌++◌, length, map, take, drop, decimal}
 use Rattle.std.specs.List.{AllByRecursion}
+use Rattle.std.specs.List.Sorted.{IsNonDecreasingBy}
+use Rattle.std.specs.Str.{IsCharBoundary}
 use Rattle.ged_line.specs.Bytes.{Bytes}
 use Rattle.ged_line.specs.Lines.{LineParts, LineText, xref_part}
 use Rattle.ged_tree.specs.Trees.{Structure, Trees, none, tree, trees_count, further_lines, line_count, lines_count}
@@ -9,13 +10,18 @@ use Rattle.ged_tree.specs.Documents.{is_document}
 use Rattle.ged_tree.specs.Runs.{leading}
 use Rattle.ged_tree.specs.Spelled.{shown_line, payload_from}
 use Rattle.ged_tree.specs.declared.flat.FlatStructure.{FlatStructure}
+use Rattle.ged_tree.specs.declared.flat.FurtherLine.{FurtherLine}
+use Rattle.ged_tree.specs.declared.kept.KeptStructure.{KeptStructure}
+use Rattle.ged_tree.specs.declared.kept.TextApart.{TextApart}
 
--- a structure, its level, the first place past all below it, its line, and how many further lines its payload has
+-- a structure, its level, the first place past all below it, its line, how many further lines its payload has, and
+-- whether it has some
 pub record Row : Type 0 where
   pub level : ℕ
   pub after : ℕ
   pub line : ℕ
   pub further : ℕ
+  pub goes_on : Bool
   pub structure : Structure
 
 -- the rows of trees whose first structure stands at this level, place and line
@@ -27,6 +33,7 @@ rows_of level place line (tree s below next) =
       after = place + (1 + trees_count below);
       line = line;
       further = length (further_lines s.payload);
+      goes_on = nat_lt 0 (length (further_lines s.payload));
       structure = s;
     }
     ∷ (rows_of (level + 1) (place + 1) (line + line_count s.payload) below
@@ -47,70 +54,130 @@ trees_of_rows place (r ∷ rs) =
     (leading (trees_of_rows (place + 1) rs) (r.after - (place + 1)))
     (trailing (trees_of_rows (place + 1) rs) (r.after - (place + 1)))
 
+-- what a table shows of a structure: the whole line on which it begins, its level, where its tag begins in the line, how
+-- many bytes the tag has, or 0 where that is not kept, and whether its payload has lines past the first
+pub record Shown : Type 0 where
+  pub text : Bytes
+  pub level : ℕ
+  pub tag_start : ℕ
+  pub tag_length : ℕ
+  pub has_further : Bool
+
+-- the level of a structure, and whether its payload has lines past the first, in one mark
+abbrev pub kept_level : KeptStructure → ℕ
+kept_level s = s.mark % 128
+
+abbrev pub kept_further : KeptStructure → Bool
+kept_further s = nat_lt 127 s.mark
+
+-- the text of the structure at a place among those kept apart; there is none where it is empty
+abbrev pub text_apart : List TextApart → ℕ → Bytes
+text_apart [] place = []
+text_apart (text ∷ texts) place = if text.place == place then text.text.now else text_apart texts place
+
+-- the text of a structure at a place: a slice of the file, or one kept apart
+abbrev pub text_at : Bytes → List TextApart → ℕ → KeptStructure → Bytes
+text_at file apart place s = if s.length == 255 then text_apart apart place else take s.length (drop s.start file)
+
+-- a structure with this text
+abbrev pub shown_with : Bytes → KeptStructure → Shown
+shown_with text s = record { text = text; level = kept_level s; tag_start = s.tag_start; tag_length = s.tag_length; has_further = kept_further s }
+
+abbrev pub shown_of : FlatStructure → Shown
+shown_of s = shown_with s.text.now s.kept
+
+-- structures, the first of which stands at this place
+abbrev pub shown_from : Bytes → List TextApart → ℕ → List KeptStructure → List Shown
+shown_from file apart place [] = []
+shown_from file apart place (s ∷ rest) = shown_with (text_at file apart place s) s ∷ shown_from file apart (place + 1) rest
+
+-- the file may be cut at both ends of a structure's slice
+abbrev pub HasSlice : Bytes → KeptStructure → Type 0
+HasSlice file s = s.length < 255 → IsCharBoundary file s.start × IsCharBoundary file (s.start + s.length)
+
 -- the line that a structure's text shows
-abbrev pub line_shown : FlatStructure → LineParts
-line_shown s = shown_line s.level s.text.now
+abbrev pub line_shown : Shown → LineParts
+line_shown s = shown_line s.level s.text
 
 -- Where a structure keeps the length of its tag, it keeps where the tag begins in its text too: behind the level, a space
 -- and a cross-reference identifier.
-abbrev pub HasTagKept : FlatStructure → Type 0
+abbrev pub HasTagKept : Shown → Type 0
 HasTagKept s = 0 < s.tag_length
     → (s.tag_start ≡ length (decimal s.level) + 1 + length (xref_part (line_shown s).xref)) × (s.tag_length ≡ length (line_shown s).tag)
 
 -- the text spells the line that it shows, and the tag stands where it is kept
-abbrev pub IsSpelled : FlatStructure → Type 0
-IsSpelled s = LineText (line_shown s) s.text.now × HasTagKept s
+abbrev pub IsSpelled : Shown → Type 0
+IsSpelled s = LineText (line_shown s) s.text × HasTagKept s
 
--- where a structure's further lines end among those of a table, which has so many: where those of the next structure
--- begin, or at the last
-abbrev pub further_end : ℕ → List FlatStructure → ℕ
-further_end total [] = total
-further_end total (next ∷ rest) = next.further_start
+-- the texts of further lines, and the places past the structures whose they are
+abbrev pub texts_of : List FurtherLine → List Bytes
+texts_of further = map (λ line. line.text.now) further
+
+abbrev pub places_of : List FurtherLine → List ℕ
+places_of further = map (λ line. line.after) further
+
+-- how many further lines stand before the structure at a place, where each has the place past its structure's
+abbrev pub further_before : ℕ → List ℕ → ℕ
+further_before place [] = 0
+further_before place (after ∷ afters) = if nat_le after place then 1 + further_before place afters else 0
+
+-- how many further lines the structure at a place has
+abbrev pub further_at : ℕ → List ℕ → ℕ
+further_at place afters = further_before (place + 1) afters - further_before place afters
 
 -- how many of the levels at the front are greater
 abbrev pub deeper : ℕ → List ℕ → ℕ
 deeper level [] = 0
 deeper level (next ∷ levels) = if nat_lt level next then 1 + deeper level levels else 0
 
-abbrev pub levels_of : List FlatStructure → List ℕ
+abbrev pub levels_of : List Shown → List ℕ
 levels_of structures = map (λ s. s.level) structures
 
--- the size that each structure keeps is how many stand below it, unless it is the greatest that it can keep
-abbrev pub IsClosed : List FlatStructure → Type 0
-IsClosed [] = Unit {0}
-IsClosed (s ∷ rest) = (s.size < 4294967295 → s.size ≡ deeper s.level (levels_of rest)) × IsClosed rest
+abbrev pub kept_levels : List KeptStructure → List ℕ
+kept_levels structures = map kept_level structures
 
--- the row that a structure of a table stands for, at this place and before these others, where its further lines end
--- there among the table's
-abbrev pub row_of : List Bytes → ℕ → ℕ → FlatStructure → List FlatStructure → Row
-row_of further place end s rest = record {
+-- the size that each structure keeps is how many stand below it, unless it is the greatest that it can keep
+abbrev pub IsClosed : List KeptStructure → Type 0
+IsClosed [] = Unit {0}
+IsClosed (s ∷ rest) = (s.size < 4294967295 → s.size ≡ deeper (kept_level s) (kept_levels rest)) × IsClosed rest
+
+-- the row that a structure of a table stands for, at this place and before these others
+abbrev pub row_of : List Bytes → List ℕ → ℕ → Shown → List Shown → Row
+row_of texts afters place s rest = record {
   level = s.level;
   after = place + (1 + deeper s.level (levels_of rest));
-  line = place + s.further_start + 1;
-  further = end - s.further_start;
+  line = place + further_before place afters + 1;
+  further = further_at place afters;
+  goes_on = s.has_further;
   structure = record {
     xref = (line_shown s).xref;
     tag = (line_shown s).tag;
-    payload = payload_from (line_shown s).value (take (end - s.further_start) (drop s.further_start further));
+    payload = payload_from (line_shown s).value (take (further_at place afters) (drop (further_before place afters) texts));
   };
 }
 
 -- the rows of structures, the first of which stands at this place
-abbrev pub rows_from : List Bytes → ℕ → List FlatStructure → List Row
-rows_from further place [] = []
-rows_from further place (s ∷ rest) =
-    row_of further place (further_end (length further) rest) s rest ∷ rows_from further (place + 1) rest
+abbrev pub rows_from : List Bytes → List ℕ → ℕ → List Shown → List Row
+rows_from texts afters place [] = []
+rows_from texts afters place (s ∷ rest) = row_of texts afters place s rest ∷ rows_from texts afters (place + 1) rest
 
-abbrev pub flat_rows : List FlatStructure → List (Bor Bytes) → List Row
-flat_rows structures further = rows_from (map (λ line. line.now) further) 0 structures
+abbrev pub flat_rows : List Shown → List FurtherLine → List Row
+flat_rows structures further = rows_from (texts_of further) (places_of further) 0 structures
 
 -- the trees that a table lists
-abbrev pub flat_trees : List FlatStructure → List (Bor Bytes) → Trees
+abbrev pub flat_trees : List Shown → List FurtherLine → Trees
 flat_trees structures further = trees_of_rows 0 (flat_rows structures further)
 
--- the table lists the structures of a document, from level 0, place 0 and line 1 on
-pub record IsFlat (structures : List FlatStructure) (further : List (Bor Bytes)) : Type 0 where
+-- a table lists the structures of a document, from level 0, place 0 and line 1 on
+pub record IsListed (structures : List Shown) (further : List FurtherLine) : Type 0 where
   pub listed : flat_rows structures further ≡ rows_of 0 0 1 (flat_trees structures further)
   pub document : is_document (flat_trees structures further) ≡ true
   pub spelled : AllByRecursion IsSpelled structures
+  pub in_order : IsNonDecreasingBy (λ line. line.after) further
+
+-- the structures that a table keeps are those of a document
+pub record IsFlat (file : Bytes) (apart : List TextApart) (structures : List KeptStructure) (further : List FurtherLine) : Type 0 where
+  pub lists : IsListed (shown_from file apart 0 structures) further
   pub closed : IsClosed structures
+  pub slices : AllByRecursion (HasSlice file) structures
+  pub apart_in_order : IsNonDecreasingBy (λ text. text.place) apart

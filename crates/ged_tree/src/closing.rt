@@ -1,46 +1,45 @@
 // The structures of a table and how many stand below each.
 ghost use Rattle.std.specs.Prelude.{◌≡◌, ◌≤◌, ◌<◌, ◌+◌, map, drop, length, slice_index_or};
-ghost use Rattle.std.specs.List.{AllByRecursion};
-ghost use Rattle.ged_tree.specs.Rows.{IsSpelled, IsClosed};
-ghost use Rattle.ged_tree.specs.Tables.{own_line, end_from};
-ghost use Rattle.ged_tree.specs.declared.flat.FlatStructure.{FlatStructure};
+ghost use Rattle.ged_tree.specs.Rows.{IsClosed, kept_level};
+ghost use Rattle.ged_tree.specs.Tables.{end_from, unsized};
+ghost use Rattle.ged_tree.specs.declared.kept.KeptStructure.{KeptStructure};
 
-use crate::flat::FlatStructure;
+use crate::kept::KeptStructure;
 
 /// The first place from a place on whose level is not greater, found by the levels alone.
 #[cold]
-fn end_of_deeper(structures: &[FlatStructure<'_>], place: usize, level: u8) -> usize
+fn end_of_deeper(structures: &[KeptStructure], place: usize, level: u8) -> usize
     requires { place ≤ length structures.now }
     ensures { result ≡ end_from level structures.now place }
 {
     let mut next = place;
-    while next < structures.len() && structures[next].level > level {
+    while next < structures.len() && structures[next].level() > level {
         next += 1;
     }
     next
 }
 
 /// The first place past a structure and all below it, where the structures from it on keep their sizes.
-pub(crate) fn after_in(structures: &[FlatStructure<'_>], place: usize) -> usize
+pub(crate) fn after_in(structures: &[KeptStructure], place: usize) -> usize
     requires within { place < length structures.now }
     requires closed { IsClosed (drop place structures.now) }
-    ensures { (d : FlatStructure) → result ≡ end_from (slice_index_or structures.now place d).level structures.now (place + 1) }
+    ensures { (d : KeptStructure) → result ≡ end_from (kept_level (slice_index_or structures.now place d)) structures.now (place + 1) }
 {
     let structure = structures[place];
     if structure.size < u32::MAX {
         return place + 1 + structure.size as usize;
     }
-    end_of_deeper(structures, place + 1, structure.level)
+    end_of_deeper(structures, place + 1, structure.level())
 }
 
 /// The first place from a place on whose level is not greater, where the structures from it on keep their sizes.
-fn next_place(structures: &[FlatStructure<'_>], place: usize, level: u8) -> usize
+fn next_place(structures: &[KeptStructure], place: usize, level: u8) -> usize
     requires within { place ≤ length structures.now }
     requires closed { IsClosed (drop place structures.now) }
     ensures { result ≡ end_from level structures.now place }
 {
     let mut next = place;
-    while next < structures.len() && structures[next].level > level {
+    while next < structures.len() && structures[next].level() > level {
         next = after_in(structures, next);
     }
     next
@@ -58,16 +57,15 @@ fn kept_size(size: usize) -> u32
 }
 
 /// Gives each structure its size.
-pub(crate) fn close(structures: &mut Vec<FlatStructure<'_>>)
-    ensures rows { map own_line structures.new.items ≡ map own_line structures.old.items }
+pub(crate) fn close(structures: &mut Vec<KeptStructure>)
+    ensures others { map unsized structures.new.items ≡ map unsized structures.old.items }
     ensures closed { IsClosed structures.new.items }
-    ensures spelled { AllByRecursion IsSpelled structures.old.items → AllByRecursion IsSpelled structures.new.items }
 {
     let mut place = structures.len();
     while place > 0 {
         place -= 1;
         let mut structure = structures[place];
-        let after = next_place(structures.as_slice(), place + 1, structure.level);
+        let after = next_place(structures.as_slice(), place + 1, structure.level());
         structure.size = kept_size(after - place - 1);
         structures[place] = structure;
     }

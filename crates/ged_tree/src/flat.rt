@@ -1,43 +1,46 @@
 // A document as a table of slices of its file.
-ghost use Rattle.std.specs.Prelude.{◌≡◌, ◌≤◌, ◌<◌, ◌+◌, ◌^◌, Some, true, length, decimal, option_map, slice_get, slice_index};
+ghost use Rattle.std.specs.Prelude.{◌≡◌, ◌≤◌, ◌<◌, ◌+◌, ◌^◌, Some, true, length, decimal, nat_le, option_map, slice_get, slice_index};
 ghost use Rattle.ged_line.specs.Lines.{Value, IsValuePart, is_value};
 ghost use Rattle.ged_tree.specs.Trees.{trees_count, further_lines};
 ghost use Rattle.ged_tree.specs.Documents.{is_document};
 ghost use Rattle.ged_tree.specs.Places.{structure_at, place_after, level_at, line_at};
 ghost use Rattle.ged_tree.specs.Views.{payload_of};
-ghost use Rattle.ged_tree.specs.Rows.{flat_trees, IsFlat, IsSpelled, line_shown};
+ghost use Rattle.ged_tree.specs.Rows.{flat_trees, IsFlat, IsSpelled, line_shown, shown_of, shown_from, places_of};
+ghost use Rattle.ged_tree.specs.Rows.{further_before as tests_before};
+ghost use Rattle.std.specs.List.Sorted.{IsNonDecreasingBy};
 ghost use Rattle.ged_tree.specs.Spelled.{shown_value};
 ghost use Rattle.ged_tree.specs.Tables.{own_value};
 ghost use Rattle.ged_tree.specs.declared.payload.PayloadView.{PayloadView};
 
 use crate::closing::after_in;
 use crate::forest::Forest;
+use crate::kept::{KeptStructure, TextApart, text_of};
 use crate::payload::PayloadView;
 use ged_line::{LineView, ValueView, view_text};
 use std::marker::Model;
 
-/// A structure of a table. Its payload's further lines stand together among those of the table, up to where the next
-/// structure's begin.
+/// A structure of a table, with its text at hand.
 #[derive(Clone, Copy)]
 pub(crate) struct FlatStructure<'a> {
     /// The whole line on which it begins.
     pub(crate) text: &'a str,
-    pub(crate) further_start: usize,
-    /// How many structures stand below it, or `u32::MAX` where that many or more do.
-    pub(crate) size: u32,
-    pub(crate) level: u8,
-    /// Where its tag begins in the text, in bytes.
-    pub(crate) tag_start: u8,
-    /// How many bytes its tag has, or 0 where either number is too large to be kept.
-    pub(crate) tag_length: u8,
+    pub(crate) kept: KeptStructure,
+}
+
+/// A line of a payload past the first.
+#[derive(Clone, Copy)]
+pub(crate) struct FurtherLine<'a> {
+    /// The place past the structure whose payload has it.
+    pub(crate) after: usize,
+    pub(crate) text: &'a str,
 }
 
 impl<'a> FlatStructure<'a> {
     /// The line that its text shows, read once more.
     #[cold]
     fn line(&self) -> LineView<'a>
-        requires { IsSpelled self.now }
-        ensures { result ≡ line_shown self.now }
+        requires { IsSpelled (shown_of self.now) }
+        ensures { result ≡ line_shown (shown_of self.now) }
     {
         match view_text(self.text) {
             Ok(line) => line,
@@ -45,41 +48,72 @@ impl<'a> FlatStructure<'a> {
         }
     }
 
-    fn tag(&self) -> &'a str
-        requires { IsSpelled self.now }
-        ensures { result.now ≡ (line_shown self.now).tag }
+    /// What [`FlatStructure::tag`] answers, from the line. A function of its own, so that the frequent way has no room for a
+    /// whole line to clear; so are the next two.
+    #[cold]
+    #[inline(never)]
+    fn tag_of_line(&self) -> &'a str
+        requires { IsSpelled (shown_of self.now) }
+        ensures { result.now ≡ (line_shown (shown_of self.now)).tag }
     {
-        if self.tag_length == 0 {
-            return self.line().tag();
+        self.line().tag()
+    }
+
+    #[cold]
+    #[inline(never)]
+    fn xref_of_line(&self) -> Option<&'a str>
+        requires { IsSpelled (shown_of self.now) }
+        ensures { option_map (λ name. name.now) result ≡ (line_shown (shown_of self.now)).xref }
+    {
+        self.line().xref()
+    }
+
+    #[cold]
+    #[inline(never)]
+    fn payload_of_line(&self) -> PayloadView<'a>
+        requires { IsSpelled (shown_of self.now) }
+        ensures { own_value result ≡ (line_shown (shown_of self.now)).value }
+    {
+        payload_of_line(&self.line())
+    }
+
+    #[inline(always)]
+    fn tag(&self) -> &'a str
+        requires { IsSpelled (shown_of self.now) }
+        ensures { result.now ≡ (line_shown (shown_of self.now)).tag }
+    {
+        if self.kept.tag_length == 0 {
+            return self.tag_of_line();
         }
-        let start = self.tag_start as usize;
-        let end = start + self.tag_length as usize;
+        let start = self.kept.tag_start as usize;
+        let end = start + self.kept.tag_length as usize;
         &self.text[start..end]
     }
 
     fn xref(&self) -> Option<&'a str>
-        requires { IsSpelled self.now }
-        ensures { option_map (λ name. name.now) result ≡ (line_shown self.now).xref }
+        requires { IsSpelled (shown_of self.now) }
+        ensures { option_map (λ name. name.now) result ≡ (line_shown (shown_of self.now)).xref }
     {
-        if self.tag_length == 0 {
-            return self.line().xref();
+        if self.kept.tag_length == 0 {
+            return self.xref_of_line();
         }
-        let first = digits_of_level(self.level) + 1;
-        let start = self.tag_start as usize;
+        let first = digits_of_level(self.kept.level()) + 1;
+        let start = self.kept.tag_start as usize;
         if start == first {
             return None;
         }
         Some(&self.text[first + 1..start - 2])
     }
 
+    #[inline(always)]
     fn payload(&self) -> PayloadView<'a>
-        requires { IsSpelled self.now }
-        ensures { own_value result ≡ (line_shown self.now).value }
+        requires { IsSpelled (shown_of self.now) }
+        ensures { own_value result ≡ (line_shown (shown_of self.now)).value }
     {
-        if self.tag_length == 0 {
-            return payload_of_line(&self.line());
+        if self.kept.tag_length == 0 {
+            return self.payload_of_line();
         }
-        let end = self.tag_start as usize + self.tag_length as usize;
+        let end = self.kept.tag_start as usize + self.kept.tag_length as usize;
         payload_behind_tag(&self.text[end..])
     }
 }
@@ -94,6 +128,7 @@ pub(crate) fn digits_of_level(level: u8) -> usize
 }
 
 /// The payload that begins behind a tag, with the space before it.
+#[inline(always)]
 fn payload_behind_tag(part: &str) -> PayloadView<'_>
     requires { (value : Value) × (is_value value ≡ true) × IsValuePart value part.now }
     ensures { own_value result ≡ shown_value part.now }
@@ -136,36 +171,58 @@ fn payload_of_line<'a>(line: &LineView<'a>) -> PayloadView<'a>
     }
 }
 
+/// How many further lines stand before the structure at a place.
+fn further_before(further: &[FurtherLine<'_>], place: usize) -> usize
+    requires { IsNonDecreasingBy (λ line. line.after) further.now }
+    ensures { result ≡ tests_before place (places_of further.now) }
+{
+    further.partition_point(
+        |line: &FurtherLine<'_>| -> bool
+            ensures { result ≡ nat_le line.now.after place }
+        { line.after <= place },
+    )
+}
+
 /// A document as a vector of its structures, in the order of the file, and a vector of the further lines of their
 /// payloads. All texts are slices of the file. Contracts see it as they see a [`crate::Document`].
 #[derive(Drop)]
 pub struct Flat<'a> {
-    structures: Vec<FlatStructure<'a>>,
-    further: Vec<&'a str>,
+    file: &'a str,
+    structures: Vec<KeptStructure>,
+    /// The texts of structures that keep no slice of the file, in order of their places.
+    apart: Vec<TextApart<'a>>,
+    further: Vec<FurtherLine<'a>>,
 }
 
 impl<'a> Model for Flat<'a> {
     ghost use Rattle.ged_tree.specs.Trees.{Trees};
     ghost use Rattle.ged_tree.specs.TreeCodes.{trees_code};
-    ghost use Rattle.ged_tree.specs.Rows.{flat_trees, IsFlat};
+    ghost use Rattle.ged_tree.specs.Rows.{flat_trees, shown_from, IsFlat};
 
     ghost Value = { Trees };
 
     ghost coded = { trees_code };
 
-    ghost view = { λ f. flat_trees f.structures.items f.further.items };
+    ghost view = { λ f. flat_trees (shown_from f.file.now f.apart.items 0 f.structures.items) f.further.items };
 
-    ghost invariant = { λ f. IsFlat f.structures.items f.further.items };
+    ghost invariant = { λ f. IsFlat f.file.now f.apart.items f.structures.items f.further.items };
 }
 
 impl<'a> Flat<'a> {
     /// The document of a table that lists one.
-    pub(crate) fn of_table(structures: Vec<FlatStructure<'a>>, further: Vec<&'a str>) -> Flat<'a>
-        requires { IsFlat structures.items further.items }
-        ensures { result ≡ flat_trees structures.entry.items further.entry.items }
+    pub(crate) fn of_table(
+        file: &'a str,
+        structures: Vec<KeptStructure>,
+        apart: Vec<TextApart<'a>>,
+        further: Vec<FurtherLine<'a>>,
+    ) -> Flat<'a>
+        requires { IsFlat file.now apart.items structures.items further.items }
+        ensures { result ≡ flat_trees (shown_from file.now apart.entry.items 0 structures.items) further.entry.items }
     {
         Flat {
+            file,
             structures,
+            apart,
             further,
         }
     }
@@ -177,19 +234,26 @@ impl<'a> Flat<'a> {
         self.structures.len()
     }
 
+    fn level_at(&self, place: usize) -> u8
+        requires { place < trees_count self.now }
+        ensures { result ≡ level_at 0 self.now place }
+    {
+        self.structures[place].level()
+    }
+
     /// The structure at a place.
+    #[inline(always)]
     fn at(&self, place: usize) -> FlatStructure<'a>
         requires { place < trees_count self.now }
-        ensures level { result.level ≡ level_at 0 self.now place }
-        ensures line { place + result.further_start + 1 ≡ line_at 1 self.now place }
-        ensures small { line_at 1 self.now place < 2 ^ 63 }
-        ensures tag { (line_shown result).tag ≡ (structure_at self.now place).tag }
-        ensures xref { (line_shown result).xref ≡ (structure_at self.now place).xref }
-        ensures payload { (v : PayloadView) → own_value v ≡ (line_shown result).value
+        ensures tag { (line_shown (shown_of result)).tag ≡ (structure_at self.now place).tag }
+        ensures xref { (line_shown (shown_of result)).xref ≡ (structure_at self.now place).xref }
+        ensures payload { (v : PayloadView) → own_value v ≡ (line_shown (shown_of result)).value
             → payload_of v (further_lines (structure_at self.now place).payload) ≡ (structure_at self.now place).payload }
-        ensures spelled { IsSpelled result }
+        ensures spelled { IsSpelled (shown_of result) }
     {
-        self.structures[place]
+        let kept = self.structures[place];
+        let text = text_of(self.file, self.apart.as_slice(), place, &kept);
+        FlatStructure { text, kept }
     }
 
     fn after_at(&self, place: usize) -> usize
@@ -199,18 +263,24 @@ impl<'a> Flat<'a> {
         after_in(self.structures.as_slice(), place)
     }
 
+    fn line_at(&self, place: usize) -> u64
+        requires { place < trees_count self.now }
+        ensures { result ≡ line_at 1 self.now place }
+    {
+        let before = further_before(self.further.as_slice(), place);
+        (place + before) as u64 + 1
+    }
+
     /// How many further lines the payload at a place has.
     fn further_count(&self, place: usize) -> usize
         requires { place < trees_count self.now }
         ensures { result ≡ length (further_lines (structure_at self.now place).payload) }
     {
-        let start = self.structures[place].further_start;
-        let next = place + 1;
-        let end = if next < self.structures.len() {
-            self.structures[next].further_start
-        } else {
-            self.further.len()
-        };
+        if !self.structures[place].has_further() {
+            return 0;
+        }
+        let start = further_before(self.further.as_slice(), place);
+        let end = further_before(self.further.as_slice(), place + 1);
         end.saturating_sub(start)
     }
 
@@ -220,7 +290,8 @@ impl<'a> Flat<'a> {
         requires further { number < length (further_lines (structure_at self.now place).payload) }
         ensures { slice_get (further_lines (structure_at self.now place).payload) number ≡ Some result.now }
     {
-        self.further[self.structures[place].further_start + number]
+        let start = further_before(self.further.as_slice(), place);
+        self.further[start + number].text
     }
 }
 
@@ -232,7 +303,7 @@ impl<'a> Forest for Flat<'a> {
     }
 
     fn level(&self, place: usize) -> u8 {
-        self.at(place).level
+        self.level_at(place)
     }
 
     fn after(&self, place: usize) -> usize {
@@ -240,9 +311,10 @@ impl<'a> Forest for Flat<'a> {
     }
 
     fn line(&self, place: usize) -> u64 {
-        (place + self.at(place).further_start) as u64 + 1
+        self.line_at(place)
     }
 
+    #[inline(always)]
     fn tag(&self, place: usize) -> &str {
         self.at(place).tag()
     }
@@ -251,6 +323,7 @@ impl<'a> Forest for Flat<'a> {
         self.at(place).xref()
     }
 
+    #[inline(always)]
     fn payload(&self, place: usize) -> PayloadView<'_> {
         self.at(place).payload()
     }

@@ -54,6 +54,7 @@ impl Judge {
     /// Takes one more line. Where a fault stands at it, answers the lowest, from `LevelJump` to `AfterTrailer`, and is
     /// unchanged. Takes no memory (FamilySearch GEDCOM 7.0, "Lines" and "Structures").
     #[tactic(auto, using(crate::proofs::JudgeLemmas::judging))]
+    #[inline(always)]
     pub fn line(&mut self, line: &LineView<'_>) -> Result<(), TreeFault>
         ensures takes { IfOk result (λ _. (lines : List LineParts) → StandsFor self.old lines
             → (fault_after lines line.now ≡ None) × StandsFor self.new (lines ++ line.now ∷ [])) }
@@ -80,6 +81,7 @@ impl Judge {
     }
 
     // The lowest fault that stands at the line.
+    #[inline(always)]
     fn fault(&self, line: &LineView<'_>) -> Option<TreeFault>
         ensures { (lines : List LineParts) → StandsFor self.now lines → result ≡ fault_after lines line.now }
     {
@@ -96,6 +98,7 @@ impl Judge {
     }
 
     // The lowest of the faults of HEAD and TRLR that stands at the line.
+    #[inline(always)]
     fn fault_of_ends(&self, line: &LineView<'_>) -> Option<TreeFault>
         ensures { (lines : List LineParts) → StandsFor self.now lines → result ≡ find (stands lines line.now) end_faults }
     {

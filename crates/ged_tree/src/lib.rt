@@ -16,6 +16,7 @@ mod flattening;
 mod forest;
 mod found;
 mod judge;
+mod kept;
 mod laws;
 mod node;
 mod paths;

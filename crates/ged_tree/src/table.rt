@@ -1,16 +1,15 @@
 // The table of a document's structures, made line by line.
-ghost use Rattle.std.specs.Prelude.{◌≡◌, ◌≤◌, ◌<◌, ◌+◌, ◌^◌, ◌++◌, ◌∷◌, [], List, MatchResult, IfOk, length, decimal};
-ghost use Rattle.std.specs.List.{AllByRecursion};
+ghost use Rattle.std.specs.Prelude.{◌≡◌, ◌≤◌, ◌<◌, ◌+◌, ◌^◌, ◌++◌, ◌∷◌, [], List, MatchResult, IfOk, IfSome, length, decimal};
 ghost use Rattle.ged_line.specs.Lines.{LineParts, LineText, xref_part};
-ghost use Rattle.ged_tree.specs.Rows.{line_shown, IsSpelled};
 ghost use Rattle.ged_tree.specs.DocumentLines.{HasLines};
 ghost use Rattle.ged_tree.specs.TreeFaults.{FirstFault};
-ghost use Rattle.ged_tree.specs.Tables.{line_text, HoldsLines, IsPut, TellsLine};
+ghost use Rattle.ged_tree.specs.Tables.{line_text, HoldsLines, HasStructure, IsPut, IsSliceAt, Shows, TellsFurther, TellsLine};
 
 use crate::closing::close;
 use crate::fault::{BuildFault, TreeAt, TreeFault};
-use crate::flat::{Flat, FlatStructure, digits_of_level};
+use crate::flat::{Flat, FurtherLine, digits_of_level};
 use crate::judge::{Judge, is_cont, is_trailer};
+use crate::kept::{APART, KeptStructure, TextApart, kept_slice, mark_with_further};
 use ged_line::{LineView, SpelledLine, ValueView};
 use std::alloc::{AllocError, Global};
 
@@ -51,23 +50,37 @@ fn kept_tag(start: usize, length: usize) -> (u8, u8)
     }
 }
 
-/// The structure that begins on a line, before its table is closed.
-fn structure_of_line<'a>(spelled: &SpelledLine<'a>, further_start: usize) -> FlatStructure<'a>
+/// The structure that begins on a line, before its table is closed, by where its text is kept.
+#[inline(always)]
+fn structure_of_line(spelled: &SpelledLine<'_>, start: u32, length: u8) -> KeptStructure
     requires { LineText spelled.now.line spelled.now.text.now }
-    ensures line { line_shown result ≡ spelled.now.line }
-    ensures spelled { IsSpelled result }
-    ensures start { result.further_start ≡ further_start }
+    ensures line { Shows spelled.now.line spelled.now.text.now result }
+    ensures start { result.start ≡ start }
+    ensures length { result.length ≡ length }
 {
     let line = &spelled.line;
     let (tag_start, tag_length) = kept_tag(start_of_tag(line), line.tag().len());
-    FlatStructure {
-        text: spelled.text,
-        further_start,
+    KeptStructure {
+        start,
         size: 0,
-        level: line.level(),
+        length,
+        mark: line.level(),
         tag_start,
         tag_length,
     }
+}
+
+/// Has the last structure tell that its payload goes on.
+fn tell_further(structures: &mut Vec<KeptStructure>)
+    ensures { TellsFurther structures.old.items structures.new.items }
+{
+    let count = structures.len();
+    if count == 0 {
+        return;
+    }
+    let mut structure = structures[count - 1];
+    structure.mark = mark_with_further(structure.mark);
+    structures[count - 1] = structure;
 }
 
 /// A table that takes lines, and the judge of the next one.
@@ -76,29 +89,43 @@ pub(crate) struct TableBuilder<'a> {
     judge: Judge,
     /// How many lines were taken.
     pub(crate) count: u64,
-    structures: Vec<FlatStructure<'a>>,
-    further: Vec<&'a str>,
+    /// The text in which lines are told by where they begin.
+    pub(crate) file: &'a str,
+    structures: Vec<KeptStructure>,
+    apart: Vec<TextApart<'a>>,
+    further: Vec<FurtherLine<'a>>,
 }
 
 impl<'a> TableBuilder<'a> {
-    pub(crate) fn new(alloc: Global) -> TableBuilder<'a>
-        ensures { HoldsLines result [] }
+    pub(crate) fn new(alloc: Global, file: &'a str) -> TableBuilder<'a>
+        ensures lines { HoldsLines result [] }
+        ensures file { result.file.now ≡ file.now }
     {
         TableBuilder {
             judge: Judge::new(),
             count: 0,
+            file,
             structures: Vec::new(alloc),
+            apart: Vec::new(alloc),
             further: Vec::new(alloc),
         }
     }
 
-    /// Takes one more line, or answers the lowest fault that stands at it.
-    pub(crate) fn take(&mut self, spelled: &SpelledLine<'a>) -> Result<(), BuildFault>
+    /// Takes one more line, or answers the lowest fault that stands at it. `start` tells where in the builder's file the
+    /// line begins, in bytes; without it the line's text is kept apart.
+    #[inline(always)]
+    pub(crate) fn take(
+        &mut self,
+        spelled: &SpelledLine<'a>,
+        start: Option<usize>,
+    ) -> Result<(), BuildFault>
         requires few { self.now.count < 2 ^ 63 }
         requires text { LineText spelled.now.line spelled.now.text.now }
-        ensures { (lines : List LineParts) → HoldsLines self.old lines → MatchResult result
+        requires slice { IfSome start (λ at. IsSliceAt self.now.file.now at spelled.now.text.now) }
+        ensures lines { (lines : List LineParts) → HoldsLines self.old lines → MatchResult result
             (λ _. HoldsLines self.new (lines ++ spelled.now.line ∷ []))
             (λ fault. TellsLine fault lines spelled.now.line) }
+        ensures file { IfOk result (λ _. self.new.file.now ≡ self.old.file.now) }
     {
         let line = &spelled.line;
         // That its parts are a line's is what `level` tells.
@@ -108,15 +135,17 @@ impl<'a> TableBuilder<'a> {
             let line = self.count;
             return Err(BuildFault::At(TreeAt { line, fault }));
         }
-        match self.push(spelled) {
+        match self.push(spelled, start) {
             Ok(()) => Ok(()),
             Err(error) => Err(BuildFault::Memory(error)),
         }
     }
 
     /// Adds the structure or the further line of the last line that was taken; TRLR adds none.
-    fn push(&mut self, spelled: &SpelledLine<'a>) -> Result<(), AllocError>
-        requires { LineText spelled.now.line spelled.now.text.now }
+    #[inline(always)]
+    fn push(&mut self, spelled: &SpelledLine<'a>, start: Option<usize>) -> Result<(), AllocError>
+        requires text { LineText spelled.now.line spelled.now.text.now }
+        requires slice { IfSome start (λ at. IsSliceAt self.now.file.now at spelled.now.text.now) }
         ensures { IfOk result (λ _. IsPut spelled.now.line self.old self.new) }
     {
         let line = &spelled.line;
@@ -124,11 +153,44 @@ impl<'a> TableBuilder<'a> {
             return Ok(());
         }
         if is_cont(line) {
-            self.further.push(text_of_line(line))?;
+            let after = self.structures.len();
+            let text = text_of_line(line);
+            self.further.push(FurtherLine { after, text })?;
+            tell_further(&mut self.structures);
             return Ok(());
         }
-        let start = self.further.len();
-        self.structures.push(structure_of_line(spelled, start))?;
+        self.push_structure(spelled, start)
+    }
+
+    /// Adds the structure that begins on a line.
+    #[inline(always)]
+    fn push_structure(
+        &mut self,
+        spelled: &SpelledLine<'a>,
+        start: Option<usize>,
+    ) -> Result<(), AllocError>
+        requires text { LineText spelled.now.line spelled.now.text.now }
+        requires slice { IfSome start (λ at. IsSliceAt self.now.file.now at spelled.now.text.now) }
+        ensures { IfOk result (λ _. HasStructure spelled.now.line self.old self.new) }
+    {
+        let Some((start, length)) = kept_slice(start, spelled.text.len()) else {
+            return self.push_apart(spelled.text, structure_of_line(spelled, 0, APART));
+        };
+        self.structures
+            .push(structure_of_line(spelled, start, length))?;
+        Ok(())
+    }
+
+    /// Adds a structure whose text is kept apart. That it is not handed a whole line lets the line stay in registers.
+    #[cold]
+    fn push_apart(&mut self, text: &'a str, structure: KeptStructure) -> Result<(), AllocError>
+        requires { structure.length ≡ 255 }
+        ensures { (line : LineParts) → Shows line text.now structure
+            → IfOk result (λ _. HasStructure line self.old self.new) }
+    {
+        let place = self.structures.len();
+        self.apart.push(TextApart { place, text })?;
+        self.structures.push(structure)?;
         Ok(())
     }
 
@@ -152,6 +214,6 @@ impl<'a> TableBuilder<'a> {
             });
         }
         close(&mut self.structures);
-        Ok(Flat::of_table(self.structures, self.further))
+        Ok(Flat::of_table(self.file, self.structures, self.apart, self.further))
     }
 }

@@ -83,7 +83,7 @@ fn tells_structures_by_their_places(rt: HostRuntime) -> Result<(), Fail> {
 #[test]
 fn tells_the_first_fault(rt: HostRuntime) -> Result<(), Fail> {
     let alloc = rt.alloc();
-    let cases: [(&[u8], u64, TreeFault); 21] = [
+    let cases: [(&[u8], u64, TreeFault); 23] = [
         (b"", 1, TreeFault::NoHeader),
         (b"\xEF\xBB\xBF", 1, TreeFault::NoHeader),
         (b"\n", 1, TreeFault::Line(LineFault::EmptyLine)),
@@ -165,6 +165,16 @@ fn tells_the_first_fault(rt: HostRuntime) -> Result<(), Fail> {
             TreeFault::LevelJump,
         ),
         (b"0 TRLR\n", 1, TreeFault::NoHeader),
+        (
+            b"\xEF\xBB\xBF0 HEAD\n1 NOTE first\n2 CONT second\n0 TRLR\n\xFF",
+            5,
+            TreeFault::Line(LineFault::NotUtf8),
+        ),
+        (
+            b"0 HEAD\n1 NOTE first\n3 CONT second\n0 TRLR\n\xFF\n",
+            3,
+            TreeFault::LevelJump,
+        ),
     ];
     for (number, (bytes, line, fault)) in cases.into_iter().enumerate() {
         let told = TreeAt { line, fault };
@@ -309,5 +319,62 @@ fn tells_identifiers_and_tags_of_any_length(rt: HostRuntime) -> Result<(), Fail>
         assert!(rt; flat.xref(4).is_none());
         assert_eq!(rt; flat.payload(4), PayloadView::Pointer(name.as_str()));
     }
+    Ok(())
+}
+
+#[test]
+fn tells_lines_of_any_length(rt: HostRuntime) -> Result<(), Fail> {
+    let alloc = rt.alloc();
+    for length in [253, 254, 255, 256, 300, 70_000] {
+        let mut text = String::new(alloc);
+        for _ in "0 @X@ NOTE ".len()..length {
+            text.push('a')?;
+        }
+        let file = format!(in alloc;
+            "0 HEAD\n1 GEDC\n2 VERS 7.0\n0 @X@ NOTE {text}\n1 _A {text}\n1 _B b\n0 TRLR\n"
+        )?;
+        let Ok(flat) = table_of(alloc, file.as_bytes())? else {
+            assert!(rt; false, "the file has a table");
+            return Ok(());
+        };
+        let size = flat.size();
+        assert_eq!(rt; size, 6);
+        assert_eq!(rt; flat.tag(3), "NOTE");
+        assert_eq!(rt; flat.xref(3), Some("X"));
+        assert_eq!(rt; flat.payload(3), PayloadView::Text(text.as_str()));
+        assert_eq!(rt; flat.tag(4), "_A");
+        assert!(rt; flat.xref(4).is_none());
+        assert_eq!(rt; flat.payload(4), PayloadView::Text(text.as_str()));
+        assert_eq!(rt; flat.payload(5), PayloadView::Text("b"));
+    }
+    Ok(())
+}
+
+#[test]
+fn tells_levels_beside_further_lines(rt: HostRuntime) -> Result<(), Fail> {
+    let alloc = rt.alloc();
+    let mut bytes = Vec::new(alloc);
+    bytes.extend_from_slice(b"0 HEAD\n1 GEDC\n2 VERS 7.0\n0 _A\n1 _A\n")?;
+    for level in 2..99u8 {
+        if level >= 10 {
+            bytes.push(b'0' + level / 10)?;
+        }
+        bytes.push(b'0' + level % 10)?;
+        bytes.extend_from_slice(b" _A a\n")?;
+    }
+    bytes.extend_from_slice(b"99 CONT b\n0 TRLR\n")?;
+    let Ok(flat) = table_of(alloc, &bytes)? else {
+        assert!(rt; false, "the file has a table");
+        return Ok(());
+    };
+    let size = flat.size();
+    assert_eq!(rt; size, 102);
+    assert_eq!(rt; flat.level(100), 97);
+    assert_eq!(rt; flat.further(100), 0);
+    assert_eq!(rt; flat.level(101), 98);
+    let count = flat.further(101);
+    assert_eq!(rt; count, 1);
+    assert_eq!(rt; flat.payload(101), PayloadView::Text("a"));
+    assert_eq!(rt; flat.further_line(101, 0), "b");
     Ok(())
 }

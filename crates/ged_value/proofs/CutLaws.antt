@@ -1,5 +1,5 @@
 -- A text that is cut at a character, and the parts put together again.
-use Rattle.std.proofs.Common.{◌≡◌, ◌≢◌, ℕ, suc, ◌<◌, Bool, true, false, cond, [], ◌∷◌, ◌++◌, length, get_or, Option, Some, None, refl, sym, ap, subst, ◌∙◌, arith, append-nil}
+use Rattle.std.proofs.Common.{◌≡◌, ◌≢◌, ℕ, zero, suc, ◌<◌, Bool, true, false, cond, [], ◌∷◌, ◌++◌, length, get_or, take, drop, Option, Some, None, refl, sym, ap, subst, ◌∙◌, arith, append-nil}
 use Rattle.std.specs.Prelude.{◌==◌}
 use Rattle.std.specs.List.{list_all, list_any}
 use Rattle.std.proofs.lemmas.Bool.{ne_eqb, or_from, or_parts, and_parts, false≢true, false_from_ne_true}
@@ -40,6 +40,13 @@ joined_at false c b bs parts e h = ap (λ x. b ∷ x) h
 pub cut_joined : (c : ℕ) (text : Bytes) → text ≡ (cut_at c text).0 ++ marked c (cut_at c text).1
 cut_joined c [] = refl
 cut_joined c (b ∷ bs) = joined_at (b == c) c b bs (cut_at c bs) (Decides-eqb b c).0 (cut_joined c bs)
+
+-- a text is cut at the first place of the character
+pub cut_place : (c : ℕ) (text : Bytes) (i : ℕ) → i < length text → get_or text i 0 ≡ c → ((k : ℕ) → k < i → get_or text k 0 ≢ c) → cut_at c text ≡ (take i text, Some (drop (suc i) text))
+cut_place c [] i within here before = absurd (omega arith)
+cut_place c (b ∷ bs) zero within here before = rw ((Decides-eqb b c).1 here) refl
+cut_place c (b ∷ bs) (suc i) within here before =
+    rw (ne_eqb b c (before 0 (omega arith)), cut_place c bs i (omega arith) here (λ k l. before (suc k) (omega arith))) refl
 
 -- what `split_once` says of a text
 pub cut_there : (c : ℕ) (text front back : Bytes) → text ≡ front ++ (c ∷ back) → ((i : ℕ) → i < length front → get_or front i 0 ≢ c) → cut_at c text ≡ (front, Some back)

@@ -26,10 +26,10 @@ exact_found e (d ∷ m ∷ y ∷ []) h =
 exact_found e (d ∷ m ∷ y ∷ w ∷ ws) h = absurd cc
 
 -- the same parts as a date of the Gregorian calendar
-abbrev date_of : ExactParts → DateParts
+abbrev pub date_of : ExactParts → DateParts
 date_of e = record { calendar = gregorian; day = Some e.day; month = Some e.month; year = e.year; epoch = None }
 
-is_date_of : (e : ExactParts) → is_exact e ≡ true → is_date (date_of e) ≡ true
+pub is_date_of : (e : ExactParts) → is_exact e ≡ true → is_date (date_of e) ≡ true
 is_date_of e h =
     let month = both (is_month gregorian e.month) (is_day gregorian e.month e.day && is_integer e.year) h in
     let day = both (is_day gregorian e.month e.day) (is_integer e.year) month.1 in

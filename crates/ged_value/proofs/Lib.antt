@@ -21,3 +21,4 @@ pub mod TimeLaws
 pub mod NameLaws
 pub mod RestrictionLaws
 pub mod ZeroKinds
+pub mod QuickLaws

@@ -15,6 +15,7 @@ pub mod Left
 pub mod WordReading
 pub mod DateReading
 pub mod ValueReading
+pub mod Quick
 pub mod AgeReading
 pub mod Exact
 pub mod ExactReading

@@ -1,11 +1,18 @@
 // The kinds of payloads.
 ghost use Rattle.std.specs.Prelude.{◌≡◌, ◌↔◌, IsTrue};
+ghost use Rattle.ged_value.specs.Exact.{ExactParts, ExactText};
+ghost use Rattle.ged_value.specs.Times.{TimeParts, TimeText};
+ghost use Rattle.ged_value.specs.Values.{ValueParts, PeriodParts, DateValueText, PeriodText};
+ghost use Rattle.ged_value.specs.Ages.{AgeParts, AgeText};
+ghost use Rattle.ged_value.specs.Names.{NameParts, NameText};
 ghost use Rattle.ged_value.specs.Kinds.{IsVersion, FitsLine, Fits, kind_word, takes_lines as tests_lines, takes_links as tests_links};
 
 use crate::age::read_age;
 use crate::enumerations::{is_name_type, is_of_any_set, is_pedigree, is_sex, is_status};
 use crate::exact::read_exact_date;
 use crate::name::read_name;
+use crate::quick::{is_plain_exact, is_plain_value};
+use crate::quick_time::is_plain_time;
 use crate::restrictions::are_restrictions;
 use crate::time::read_time;
 use crate::value::{read_date, read_period};
@@ -122,6 +129,75 @@ fn is_version(text: &str) -> bool
     }
 }
 
+/// Whether [`read_date`] reads the text. Each reader is called apart from [`fits`], which needs no room for what is read.
+#[inline(never)]
+fn reads_date(text: &str) -> bool
+    ensures { IsTrue result ↔ ((value : ValueParts) × DateValueText value text.now) }
+{
+    read_date(text).is_some()
+}
+
+/// Whether [`read_period`] reads the text.
+#[inline(never)]
+fn reads_period(text: &str) -> bool
+    ensures { IsTrue result ↔ ((period : PeriodParts) × PeriodText period text.now) }
+{
+    read_period(text).is_some()
+}
+
+/// Whether [`read_exact_date`] reads the text.
+#[inline(never)]
+fn reads_exact_date(text: &str) -> bool
+    ensures { IsTrue result ↔ ((date : ExactParts) × ExactText date text.now) }
+{
+    read_exact_date(text).is_some()
+}
+
+/// Whether [`read_time`] reads the text.
+#[inline(never)]
+fn reads_time(text: &str) -> bool
+    ensures { IsTrue result ↔ ((time : TimeParts) × TimeText time text.now) }
+{
+    read_time(text).is_some()
+}
+
+/// Whether [`read_age`] reads the text.
+#[inline(never)]
+fn reads_age(text: &str) -> bool
+    ensures { IsTrue result ↔ ((age : AgeParts) × AgeText age text.now) }
+{
+    read_age(text).is_some()
+}
+
+/// Whether [`read_name`] reads the text.
+#[inline(never)]
+fn reads_name(text: &str) -> bool
+    ensures { IsTrue result ↔ ((name : NameParts) × NameText name text.now) }
+{
+    read_name(text).is_some()
+}
+
+/// Whether a text is a date value. Most pass the quick test.
+fn is_date_value(text: &str) -> bool
+    ensures { IsTrue result ↔ ((value : ValueParts) × DateValueText value text.now) }
+{
+    is_plain_value(text) || reads_date(text)
+}
+
+/// Whether a text is an exact date. Most pass the quick test.
+fn is_exact_date(text: &str) -> bool
+    ensures { IsTrue result ↔ ((date : ExactParts) × ExactText date text.now) }
+{
+    is_plain_exact(text) || reads_exact_date(text)
+}
+
+/// Whether a text is a time. Most pass the quick test.
+fn is_time(text: &str) -> bool
+    ensures { IsTrue result ↔ ((time : TimeParts) × TimeText time text.now) }
+{
+    is_plain_time(text) || reads_time(text)
+}
+
 fn takes_lines(kind: Kind) -> bool
     ensures { result ≡ tests_lines kind }
 {
@@ -152,12 +228,12 @@ fn fits_line(kind: Kind, text: &str) -> bool
         Kind::EventFlag => text.is_empty() || text == "Y",
         Kind::Integer => is_integer(text),
         Kind::Version => is_version(text),
-        Kind::DateValue => read_date(text).is_some(),
-        Kind::DatePeriod => read_period(text).is_some(),
-        Kind::DateExact => read_exact_date(text).is_some(),
-        Kind::Time => read_time(text).is_some(),
-        Kind::Age => read_age(text).is_some(),
-        Kind::Name => read_name(text).is_some(),
+        Kind::DateValue => is_date_value(text),
+        Kind::DatePeriod => reads_period(text),
+        Kind::DateExact => is_exact_date(text),
+        Kind::Time => is_time(text),
+        Kind::Age => reads_age(text),
+        Kind::Name => reads_name(text),
         Kind::EnumAny => is_of_any_set(text),
         Kind::SexEnum => is_sex(text) || is_extension_tag(text),
         Kind::PediEnum => is_pedigree(text) || is_extension_tag(text),

@@ -13,6 +13,8 @@ mod exact;
 mod kind;
 mod laws;
 mod name;
+mod quick;
+mod quick_time;
 mod restrictions;
 mod split;
 mod time;
@@ -37,5 +39,7 @@ mod tests;
 mod tests_kinds;
 #[cfg(test)]
 mod tests_months;
+#[cfg(test)]
+mod tests_quick;
 #[cfg(test)]
 mod tests_zeros;

@@ -48,11 +48,11 @@ fn is_name_part(text: &str) -> bool
 fn name_at(text: &str) -> Option<PersonName<'_>>
     ensures { option_map name_parts result ≡ reads_name text.now }
 {
-    let (before, others) = cut_at(text, '/');
+    let (before, others) = cut_at(text, b'/');
     let Some(others) = others else {
         return is_name_part(before).then_some(PersonName::Plain(before));
     };
-    let (surname, after) = cut_at(others, '/');
+    let (surname, after) = cut_at(others, b'/');
     let after = after?;
     let is_name = is_name_part(before) && is_name_part(surname) && is_name_part(after);
     is_name.then_some(PersonName::Parts {

@@ -69,7 +69,7 @@ fn second_at(text: Option<&str>) -> (Option<&str>, Option<&str>)
 {
     match text {
         Some(text) => {
-            let (second, fraction) = cut_at(text, '.');
+            let (second, fraction) = cut_at(text, b'.');
             (Some(second), fraction)
         }
         None => (None, None),
@@ -80,8 +80,8 @@ fn second_at(text: Option<&str>) -> (Option<&str>, Option<&str>)
 fn clock_at(text: &str, utc: bool) -> Option<Time<'_>>
     ensures { option_map time_parts result ≡ reads_clock utc text.now }
 {
-    let (hour, others) = cut_at(text, ':');
-    let (minute, others) = cut_at(others?, ':');
+    let (hour, others) = cut_at(text, b':');
+    let (minute, others) = cut_at(others?, b':');
     let (second, fraction) = second_at(others);
     let time = Time {
         hour,
@@ -99,7 +99,7 @@ fn clock_at(text: &str, utc: bool) -> Option<Time<'_>>
 pub fn read_time(text: &str) -> Option<Time<'_>>
     ensures { Reads result time_parts (λ time. TimeText time text.now) }
 {
-    let (clock, zone) = cut_at(text, 'Z');
+    let (clock, zone) = cut_at(text, b'Z');
     match zone {
         None => clock_at(clock, false),
         Some("") => clock_at(clock, true),

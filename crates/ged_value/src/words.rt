@@ -1,5 +1,5 @@
 // Tests on the words of a payload.
-ghost use Rattle.std.specs.Prelude.{◌≡◌, min, IsTrue};
+ghost use Rattle.std.specs.Prelude.{◌≡◌, ◌∷◌, [], if◌then◌else◌, min, IsTrue};
 ghost use Rattle.std.specs.List.{list_all};
 ghost use Rattle.std.specs.Char.{is_ascii_digit};
 ghost use Rattle.ged_value.specs.Words.{is_integer, is_tag_character, is_standard_tag, is_extension_tag, number};
@@ -65,4 +65,15 @@ pub(crate) fn small_number(digits: &str) -> u16
         };
     }
     value
+}
+
+/// The number that two digits spell, or `None` where one is no digit.
+pub(crate) fn two_digits(ten: u8, one: u8) -> Option<u8>
+    ensures { result ≡ (if is_integer (ten ∷ one ∷ []) then Some (number (ten ∷ one ∷ [])) else None) }
+{
+    if ten.is_ascii_digit() && one.is_ascii_digit() {
+        Some((ten - b'0') * 10 + (one - b'0'))
+    } else {
+        None
+    }
 }

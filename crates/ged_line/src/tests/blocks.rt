@@ -1,5 +1,7 @@
 // Files of several blocks. What is told of each line stands beside it where the file is made.
-use crate::{LineAt, LineFault, RespellFault, respell_lines, view_lines};
+use crate::{
+    LineAt, LineFault, RespellFault, first_line, respell_lines, text_behind_mark, view_lines,
+};
 use std::alloc::{AllocError, Global};
 use std::test::Fail;
 
@@ -198,6 +200,54 @@ fn respells_a_second_block_that_is_not_text(rt: HostRuntime) -> Result<(), Fail>
             assert_eq!(rt; at, LineAt { line: 3001, fault });
         }
         _ => assert!(rt; false, "the line is no text"),
+    }
+    Ok(())
+}
+
+#[test]
+fn takes_the_first_line_of_a_text(rt: HostRuntime) -> Result<(), Fail> {
+    for (text, told, behind) in [
+        ("0 HEAD", Ok(("HEAD", "0 HEAD")), ""),
+        ("0 HEAD\r\n1 NOTE x\n", Ok(("HEAD", "0 HEAD")), "1 NOTE x\n"),
+        (
+            "1 NOTE \u{1F333}\r\r",
+            Ok(("NOTE", "1 NOTE \u{1F333}")),
+            "\r",
+        ),
+        ("\n0 HEAD", Err(LineFault::EmptyLine), "0 HEAD"),
+        (
+            "1 NOTE \0\n2 CONT",
+            Err(LineFault::BannedCharacter),
+            "2 CONT",
+        ),
+    ] {
+        match first_line(text) {
+            Some((line, after)) => {
+                assert_eq!(rt;
+                    line.map(|spelled| (spelled.line.tag(), spelled.text)),
+                    told
+                );
+                assert_eq!(rt; after, behind);
+            }
+            None => assert!(rt; false, "{text:?}"),
+        }
+    }
+    assert!(rt; first_line("").is_none());
+    Ok(())
+}
+
+#[test]
+fn takes_the_text_behind_a_mark(rt: HostRuntime) -> Result<(), Fail> {
+    for (file, text) in [
+        (b"".as_slice(), Some("")),
+        (b"\xEF\xBB\xBF", Some("")),
+        (b"\xEF\xBB\xBF0 HEAD\n", Some("0 HEAD\n")),
+        (b"0 HEAD\n1 NOTE \xC3\xA9", Some("0 HEAD\n1 NOTE \u{E9}")),
+        (b"\xEF\xBB\xBF\xEF\xBB\xBF", Some("\u{FEFF}")),
+        (b"\xEF\xBB", None),
+        (b"0 HEAD\n1 NOTE \xC3", None),
+    ] {
+        assert_eq!(rt; text_behind_mark(file), text, "{file:?}");
     }
     Ok(())
 }

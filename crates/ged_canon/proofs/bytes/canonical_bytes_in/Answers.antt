@@ -57,7 +57,7 @@ returns-clause-normal_form g c =
     let numbering : IsNumbering names c.args.index.now c.as_slice-numbers.result.now =
     (d, c.requires.index, subst (λ (ns : List ℕ). AreNumbersOf d names ns) (sym c.as_slice-numbers.ensures.value) c.in_ok-counted.ensures) in
     let named = sorted_named edition d names c.requires.index.resolved (names_listed edition d xs listed) in
-    let told = file_spelled edition d xs c.in_ok-text.text.items c.write_records.new.out.items c.write_known.new.out.items listed c.in_ok-text.ensures (c.in_ok-write_records.ensures names numbering named) c.in_ok-write_known.ensures in
+    let told = file_spelled edition d xs c.in_ok-text.text.items c.write_records.new.out.items c.write_parts.new.out.items listed c.in_ok-text.ensures (c.in_ok-write_records.ensures names numbering named) c.in_ok-write_parts.ensures.ok in
     (canon edition d, canon_is_normal_form edition d c.document_siblings.ensures.document c.requires.index.resolved c.requires.checked, told)
 
 pub returns-clause-only : goal.returns-clause-only
@@ -70,5 +70,5 @@ returns-clause-only g c = λ e form.
     let numbering : IsNumbering names c.args.index.now c.as_slice-numbers.result.now =
     (d, c.requires.index, subst (λ (ns : List ℕ). AreNumbersOf d names ns) (sym c.as_slice-numbers.ensures.value) c.in_ok-counted.ensures) in
     let named = sorted_named edition d names c.requires.index.resolved (names_listed edition d xs listed) in
-    let told = file_spelled edition d xs c.in_ok-text.text.items c.write_records.new.out.items c.write_known.new.out.items listed c.in_ok-text.ensures (c.in_ok-write_records.ensures names numbering named) c.in_ok-write_known.ensures in
-    only_form edition d e c.write_known.new.out.items told form
+    let told = file_spelled edition d xs c.in_ok-text.text.items c.write_records.new.out.items c.write_parts.new.out.items listed c.in_ok-text.ensures (c.in_ok-write_records.ensures names numbering named) c.in_ok-write_parts.ensures.ok in
+    only_form edition d e c.write_parts.new.out.items told form

@@ -17,7 +17,7 @@ returns-then-number-eq0 g c = λ names h named.
     let d = g.F.Forest.trees c.args.forest.now in
     let unnamed = no_number d names named (structure_at d c.args.sibling.place).xref (sym (c.own_number-number.ensures names h) ∙ c.if-number-eq0.true) in
     subst (λ (bytes : Bytes). OnOk c.write_tree.result (c.write_tree.new.out.items ≡ c.args.out.now.items ++ bytes))
-    (record_spelled c.args.plan.now.edition names d c.args.sibling None unnamed) (c.write_tree.ensures names h)
+    (record_spelled c.args.plan.now.edition names d c.args.sibling None unnamed) (c.write_tree.ensures.lines names h)
 
 pub write_tree-requires-2-clause-stands : goal.write_tree-requires-2-clause-stands
 write_tree-requires-2-clause-stands g c =
@@ -34,4 +34,4 @@ returns g c = λ names h named.
     let shown = own_identifier d names named (structure_at d c.args.sibling.place).xref c.own_number-number.result (c.own_number-number.ensures names h) some
     ∙ ap Some (sym (c.as_str.ensures.value ∙ c.in_ok-put_identifier.ensures)) in
     subst (λ (bytes : Bytes). OnOk c.write_tree-2.result (c.write_tree-2.new.out.items ≡ c.args.out.now.items ++ bytes))
-    (record_spelled c.args.plan.now.edition names d c.args.sibling (Some c.as_str.result.now) shown) (c.write_tree-2.ensures names h)
+    (record_spelled c.args.plan.now.edition names d c.args.sibling (Some c.as_str.result.now) shown) (c.write_tree-2.ensures.lines names h)

@@ -1,7 +1,8 @@
-use Rattle.std.proofs.Common.{◌-◌, ◌≤◌, ◌↔◌, ◌∷◌}
-use Rattle.ged_tree.specs.Places.{structure_at}
+use Rattle.std.proofs.Common.{◌-◌, ◌↔◌, ◌∷◌}
 use Rattle.ged_tree.specs.Runs.{trees_between, IsRun}
 use Rattle.ged_canon.specs.Normal.{InOrder, tags}
+use denote.Shadow.{shadow}
+use denote.Text.{Utf8}
 use Rattle.ged_canon.proofs.normal.are_in_order.Given as goal
 
 -- the structures left, behind the one before them, are in order exactly where all are
@@ -10,8 +11,8 @@ invariant-loop-after g l =
     let trees = g.F.Forest.trees l.forest in
     record {
       run : IsRun trees l.place l.end;
-      ahead : l.before ≤ l.place;
-      same : InOrder ((structure_at trees l.before).tag ∷ tags (trees_between trees l.place l.end)) ↔ InOrder (tags (trees_between trees l.start l.end));
+      utf8 : shadow (Utf8 l.before);
+      same : InOrder (l.before ∷ tags (trees_between trees l.place l.end)) ↔ InOrder (tags (trees_between trees l.start l.end));
     }
 
 abbrev pub decreases-loop-after : goal.decreases-loop-after

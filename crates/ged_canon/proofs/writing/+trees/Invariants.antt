@@ -1,4 +1,4 @@
-use Rattle.std.proofs.Common.{◌≡◌, ◌<◌, ◌+◌, ◌-◌, ◌*◌, ◌++◌, true, List, drop}
+use Rattle.std.proofs.Common.{◌≡◌, ◌<◌, ◌+◌, ◌-◌, ◌*◌, ◌++◌, true, List, length, take, drop}
 use Rattle.std.specs.List.{AllByRecursion}
 use Rattle.ged_line.specs.Bytes.{Bytes}
 use Rattle.ged_line.specs.Spelling.{spelled_lines}
@@ -28,6 +28,7 @@ invariant-write_run-loop-after g l =
     let left = each_sorted l.plan.edition l.context (trees_between d l.place l.end) in
     record {
       run : IsRun d l.place l.end;
+      kept : l.scratch.siblings.items ≡ l.fn.scratch.siblings.items;
       stand : are_at l.level left ≡ true;
       told : (names : List Bytes) → IsNumbering names l.plan.index.now l.plan.numbers.now →
           l.out.items ++ spelled_lines (lines_of l.level (renamed (number_of 1 names) left))
@@ -38,15 +39,19 @@ abbrev pub decreases-write_run-loop-after : goal.decreases-write_run-loop-after
 decreases-write_run-loop-after g l = l.end - l.place
 
 -- what is written, and what is left of the siblings, are the whole
-abbrev pub invariant-write_sorted-loop-sibling : goal.invariant-write_sorted-loop-sibling
-invariant-write_sorted-loop-sibling g l =
+abbrev pub invariant-write_sorted-loop-number : goal.invariant-write_sorted-loop-number
+invariant-write_sorted-loop-number g l =
     let d = g.F.Forest.trees l.forest in
-    let listed = drop l.sibling-index l.sibling-items in
+    let listed = drop l.number l.scratch.siblings.items in
     let left = sibling_trees (λ name. true) l.plan.edition l.context d listed in
     record {
+      kept : take l.base l.scratch.siblings.items ≡ l.fn.scratch.siblings.items;
       within : AllByRecursion (λ each. each.place < trees_count d) listed;
       stand : are_at l.level left ≡ true;
       told : (names : List Bytes) → IsNumbering names l.plan.index.now l.plan.numbers.now →
           l.out.items ++ spelled_lines (lines_of l.level (renamed (number_of 1 names) left))
           ≡ l.fn.out.items ++ spelled_lines (lines_of l.level (renamed (number_of 1 names) (sorted l.plan.edition l.context (trees_between d l.start l.end))));
     }
+
+abbrev pub decreases-write_sorted-loop-number : goal.decreases-write_sorted-loop-number
+decreases-write_sorted-loop-number g l = length l.scratch.siblings.items - l.number

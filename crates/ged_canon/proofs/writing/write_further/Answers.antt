@@ -11,8 +11,8 @@ use Rattle.ged_canon.proofs.writing.write_further.Goals as goal
 pub loop-number-init : goal.loop-number-init
 loop-number-init g c = sym (append-nil c.args.out.now.items)
 
-pub write_known-requires : goal.write_known-requires
-write_known-requires g c =
+pub write_parts-requires : goal.write_parts-requires
+write_parts-requires g c =
     let further = further_lines (structure_at (g.F.Forest.trees c.args.forest.now) c.args.place).payload in
     let within : c.loop-number.number < length further = omega (arith, c.loop-number-test.true, c.further-number-end.ensures) in
     let some : 0 < length further = omega (arith, within) in
@@ -23,7 +23,7 @@ pub loop-number-preserved : goal.loop-number-preserved
 loop-number-preserved g c =
     let further = further_lines (structure_at (g.F.Forest.trees c.args.forest.now) c.args.place).payload in
     let within : c.loop-number.number < length further = omega (arith, c.loop-number-test.true, c.further-number-end.ensures) in
-    further_more c.args.out.now.items c.loop-number.out.items c.write_known.new.out.items (c.args.level + 1) further c.loop-number.number c.further_line.result.now _ within c.further_line.ensures c.text_value-value.ensures c.loop-number.invariant c.in_ok-write_known.ensures
+    further_more c.args.out.now.items c.loop-number.out.items c.write_parts.new.out.items (c.args.level + 1) further c.loop-number.number c.further_line.result.now _ within c.further_line.ensures c.text_value-value.ensures c.loop-number.invariant c.in_ok-write_parts.ensures.ok
 
 pub returns : goal.returns
 returns g c =

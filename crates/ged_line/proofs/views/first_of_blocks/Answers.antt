@@ -14,16 +14,16 @@ returns-in_default c =
       c.spelled_line.ensures,
     )
 
-pub returns-in_default-first_of_text : goal.returns-in_default-first_of_text
-returns-in_default-first_of_text c =
-    no_pieces c.args.bytes.now c.split_block.result.0.now c.split_block.ensures.some (rw c.in-Ok.ensures.0 at c.in_default-first_of_text.ensures.line)
+pub returns-in_default-first_line : goal.returns-in_default-first_line
+returns-in_default-first_line c =
+    no_pieces c.args.bytes.now c.split_block.result.0.now c.split_block.ensures.some (rw c.in-Ok.ensures.0 at c.in_default-first_line.ensures.line)
 
 pub returns : goal.returns
 returns c =
     let block = c.split_block.result.0.now in
-    let after = pieces_of c.in-Some-first_of_text.text.now in
+    let after = pieces_of c.in-Some-first_line.text.now in
     let rest = pieces_of c.split_block.result.1.now in
-    let first = c.in-Some-first_of_text.ensures.line in (
+    let first = c.in-Some-first_line.ensures.line in (
       first.0,
       first_of_block c.args.bytes.now block first.0 after rest c.split_block.ensures.pieces (ap pieces_of (sym c.in-Ok.ensures.0) ∙ first.1)
           ∙ ap (λ ps. first.0 ∷ (after ++ ps)) (sym (none_before c.cut_pieces.result rest c.cut_pieces.ensures)),

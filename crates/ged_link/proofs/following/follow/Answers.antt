@@ -23,17 +23,17 @@ returns-in_default g c =
       fault = tt;
     }
 
-pub returns-in_default-find_record-clause-fault : goal.returns-in_default-find_record-clause-fault
-returns-in_default-find_record-clause-fault g c =
+pub returns-in_default-find-clause-fault : goal.returns-in_default-find-clause-fault
+returns-in_default-find-clause-fault g c =
     let w = g.F.Forest.trees c.args.forest.now in
     let here : (structure_at w c.args.place).payload ≡ Pointer c.in-Pointer.name.now = sym c.in-Pointer.ensures in
-    let missing : number_in c.args.records.now c.in-Pointer.name.now ≡ None = ap (option_map (λ (r : RecordPlace). r.number)) (sym c.find_record.ensures ∙ c.in_default-find_record.is) in
+    let missing : number_in c.args.records.now c.in-Pointer.name.now ≡ None = ap (option_map (λ (r : RecordPlace). r.number)) (sym c.find.ensures ∙ c.in_default-find.is) in
     (c.requires.distinct, (c.args.place, first_dangling w c.args.place c.requires.within c.args.records.now c.in-Pointer.name.now c.requires.records here missing c.requires.used.found, c.line.ensures))
 
 pub index_mut-requires : goal.index_mut-requires
 index_mut-requires g c =
     let w = g.F.Forest.trees c.args.forest.now in
-    let named : number_in c.args.records.now c.in-Pointer.name.now ≡ Some c.in-Some.found.number = ap (option_map (λ (r : RecordPlace). r.number)) (sym c.find_record.ensures ∙ c.in-Some.is) in
+    let named : number_in c.args.records.now c.in-Pointer.name.now ≡ Some c.in-Some.found.number = ap (option_map (λ (r : RecordPlace). r.number)) (sym c.find.ensures ∙ c.in-Some.is) in
     omega (arith, number_inside w c.args.records.now c.in-Pointer.name.now c.in-Some.found.number c.requires.records named, c.requires.used.long)
 
 pub returns-clause-used : goal.returns-clause-used
@@ -44,7 +44,7 @@ returns-clause-used g c =
     let used = c.args.used.now.items in
     let number = c.in-Some.found.number in
     let here : (structure_at w c.args.place).payload ≡ Pointer name = sym c.in-Pointer.ensures in
-    let named : number_in records name ≡ Some number = ap (option_map (λ (r : RecordPlace). r.number)) (sym c.find_record.ensures ∙ c.in-Some.is) in
+    let named : number_in records name ≡ Some number = ap (option_map (λ (r : RecordPlace). r.number)) (sym c.find.ensures ∙ c.in-Some.is) in
     let inside : number < length used = omega (arith, number_inside w records name number c.requires.records named, c.requires.used.long) in
     record {
       long = length-set used number true ∙ c.requires.used.long;

@@ -1,15 +1,17 @@
 use Rattle.std.proofs.Common.{◌≡◌, ◌+◌, Some, inr, sym, ap, ◌∙◌, refl, arith, subst}
 use Rattle.std.specs.Option.{option_copied}
-use Rattle.std.specs.HashMap.{get_by_text}
+use Rattle.ged_line.specs.Bytes.{Bytes}
 use Rattle.ged_tree.specs.Places.{structure_at}
 use Rattle.ged_tree.specs.Documents.{are_at}
 use Rattle.ged_tree.specs.Runs.{IsStep}
 use Rattle.ged_link.specs.Links.{identifiers}
-use Rattle.ged_link.specs.Indexes.{RecordMap}
+use Rattle.ged_link.specs.declared.names.Names.{Names}
+use Rattle.ged_link.specs.RecordTypes.{IsTypeOf}
+use Rattle.ged_link.specs.Indexes.{found_in}
 use Rattle.ged_link.specs.Resolving.{AreRecordsBefore}
-use Rattle.ged_link.proofs.RecordLemmas.{whole_end, empty_none, records_start, records_level, records_kept, records_more, level_next, left_after, number_within, records_all, records_count, none_repeated_all, first_repeated, none_of_false}
+use Rattle.ged_link.proofs.RecordLemmas.{whole_end, records_start, records_level, records_kept, records_more, level_next, left_after, number_within, records_all, records_count, none_repeated_all, first_repeated, none_of_new, some_of_old}
 use Rattle.ged_link.proofs.resolving.find_records.Goals as goal
-use Rattle.ged_link.proofs.resolving.find_records.Goals.{in-Some-xref+else-contains_key+in-Ok, in_default-xref}
+use Rattle.ged_link.proofs.resolving.find_records.Goals.{in-Some-xref+in-Ok-true, in_default-xref}
 
 pub loop-after-init : goal.loop-after-init
 loop-after-init g c =
@@ -25,16 +27,16 @@ loop-after-init g c =
       left = ap identifiers (sym is);
       few = omega arith;
       fits = omega arith;
-      found = records_start w document c.first_record-place.result c.end_of_all-end.result whole run is c.new-records.result (empty_none c.new-records.result c.new-records.ensures.empty);
+      found = records_start w document c.first_record-place.result c.end_of_all-end.result whole run is c.new-records.result c.new-records.ensures;
     }
 
-pub returns-then-contains_key-clause-fault : goal.returns-then-contains_key-clause-fault
-returns-then-contains_key-clause-fault g c =
+pub returns-in-Ok-false-clause-fault : goal.returns-in-Ok-false-clause-fault
+returns-in-Ok-false-clause-fault g c =
     let w = g.F.Forest.trees c.args.forest.now in
     let p = c.loop-after.place in
     let name = c.in-Some-xref.name.now in
     let here : (structure_at w p).xref ≡ Some name = sym c.xref.ensures ∙ ap option_copied c.in-Some-xref.is in
-    inr (p, first_repeated w p c.loop-after.number c.loop-after.records name c.loop-after.invariant.found (sym c.contains_key.ensures ∙ c.if-contains_key.true) (c.in-Some.ensures.within, here), c.line.ensures)
+    inr (p, first_repeated w p c.loop-after.number c.loop-after.records name c.loop-after.invariant.found (some_of_old (found_in c.loop-after.records name) (sym c.in-Ok-false.ensures.is_new ∙ c.in-Ok-false.field-0-test)) (c.in-Some.ensures.within, here), c.line.ensures)
 
 pub loop-after-preserved : goal.loop-after-preserved
 loop-after-preserved g c =
@@ -47,14 +49,14 @@ loop-after-preserved g c =
     let level = c.loop-after.invariant.level in
     let left = c.loop-after.invariant.left in
     let found : AreRecordsBefore w a (k + 1) c.match-xref.records = elim c.match-xref.branch [
-      | in-Some-xref+else-contains_key+in-Ok v ↦ (
+      | in-Some-xref+in-Ok-true v ↦ (
           let name = v.in-Some-xref.name.now in
           let here : (structure_at w p).xref ≡ Some name = sym c.xref.ensures ∙ ap option_copied v.in-Some-xref.is in
-          let new : RecordMap = v.insert_name.new.records in
-          let more = records_more w p e a k step level left c.loop-after.records new name (record { number = k; place = p }) refl refl here
-          (none_of_false (get_by_text c.loop-after.records name) (sym v.contains_key.ensures ∙ v.if-contains_key.false)) v.in-Ok.ensures c.loop-after.invariant.found in
-          subst (λ (records : RecordMap). AreRecordsBefore w a (k + 1) records) (sym v.records-is) more)
-      | in_default-xref v ↦ subst (λ (records : RecordMap). AreRecordsBefore w a (k + 1) records) (sym v.records-is)
+          let new : Names = v.insert.new.self in
+          let more = records_more w p e a k step level left c.loop-after.records new name (record { number = k; place = p; record_type = v.type_of.result }) refl refl (subst (λ (tag : Bytes). IsTypeOf v.type_of.result tag) v.tag.ensures v.type_of.ensures) here
+          (none_of_new (found_in c.loop-after.records name) (sym v.in-Ok-true.ensures.is_new ∙ v.in-Ok-true.field-0-test)) v.in-Ok-true.ensures.added c.loop-after.invariant.found in
+          subst (λ (records : Names). AreRecordsBefore w a (k + 1) records) (sym v.records-is) more)
+      | in_default-xref v ↦ subst (λ (records : Names). AreRecordsBefore w a (k + 1) records) (sym v.records-is)
           (records_kept w p e a k step level left c.loop-after.records (sym c.xref.ensures ∙ ap option_copied v.in_default-xref.is) c.loop-after.invariant.found)
     ] in
     record {

@@ -3,6 +3,7 @@ use Rattle.ged_tree.specs.Runs.{trees_between, IsRun}
 use Rattle.ged_schema.specs.Tables.{rows}
 use Rattle.ged_schema.specs.Checked.{AreChecked}
 use Rattle.ged_schema.proofs.Marking.{AreMarked, AreOnce}
+use Rattle.ged_schema.proofs.Noting.{IsNoted}
 use Rattle.ged_schema.proofs.passing.+all_pass.Given as goal
 
 abbrev pub decreases-all_pass : goal.decreases-all_pass
@@ -18,6 +19,7 @@ invariant-loop-after g l =
       once : AreOnce l.marks;
       marked : AreMarked (rows l.context) l.marks (trees_between trees l.place l.end) (trees_between trees l.start l.end);
       checked : AreChecked trees l.context (trees_between trees l.place l.end) → AreChecked trees l.context (trees_between trees l.start l.end);
+      noted : IsNoted l.context l.noted (trees_between trees l.place l.end) l.fn.noted (trees_between trees l.start l.end);
     }
 
 abbrev pub decreases-loop-after : goal.decreases-loop-after

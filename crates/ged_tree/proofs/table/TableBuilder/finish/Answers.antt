@@ -17,10 +17,10 @@ of_table-requires c =
     let lines = c.requires.lines.0 in
     let holds = c.requires.lines.1 in
     let end : has_trailer lines ≡ true = sym (c.has_ended.ensures lines holds.judged) ∙ c.if-not-has_ended.false in
-    (finished c.args.self lines c.close.new.structures.items holds end c.requires.lines.2 c.close.ensures.rows c.close.ensures.closed (c.close.ensures.spelled holds.spelled)).lists.flat
+    (finished c.args.self lines c.close.new.structures.items holds end c.requires.lines.2 c.close.ensures.others c.close.ensures.closed).flat
 
 pub returns : goal.returns
 returns c = λ lines holds few.
     let end : has_trailer lines ≡ true = sym (c.has_ended.ensures lines holds.judged) ∙ c.if-not-has_ended.false in
-    let done = finished c.args.self lines c.close.new.structures.items holds end few c.close.ensures.rows c.close.ensures.closed (c.close.ensures.spelled holds.spelled) in
+    let done = finished c.args.self lines c.close.new.structures.items holds end few c.close.ensures.others c.close.ensures.closed in
     rw (c.of_table.ensures, done.lists.seen) done.has

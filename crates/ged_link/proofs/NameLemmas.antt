@@ -1,0 +1,108 @@
+-- No two short names have one number, so a record that is added by its number is added by its name.
+use Rattle.std.proofs.Common.{◌≡◌, ℕ, ◌+◌, ◌*◌, ◌<◌, ◌≤◌, Bool, true, false, cond, nat_eq, nat_lt, [], ◌∷◌, Option, Some, None, refl, sym, ap, ◌∙◌, arith, rules}
+use Rattle.std.specs.Bool.{if◌then◌else◌, Decides}
+use Rattle.std.specs.List.{list_all}
+use Rattle.std.specs.Str.{bytes_eq}
+use Rattle.std.specs.HashMap.{get, get_by_text}
+use Rattle.std.proofs.lemmas.Slice.Eq.{bytes_eq-Decides}
+use Rattle.std.proofs.lemmas.Bool.Decides.{nat_tests}
+use Rattle.ged_line.specs.Bytes.{Bytes}
+use Rattle.ged_link.specs.declared.index.RecordPlace.{RecordPlace}
+use Rattle.ged_link.specs.declared.names.Names.{Names}
+use Rattle.ged_link.specs.NameNumbers.{name_number, is_up_to, short_number}
+use Rattle.ged_link.specs.Indexes.{found_by}
+use Rattle.ged_link.specs.Resolving.{AddsName}
+use Rattle.ged_link.proofs.LinkLemmas.{both}
+
+abbrev are_bytes : Bytes → Bool
+are_bytes name = list_all (λ b. nat_lt b 256) name
+
+below : (b : ℕ) → nat_lt b 256 ≡ true → b < 256
+below b e = grind (arith, nat_tests)
+
+positive : (name : Bytes) → 1 ≤ name_number name
+positive [] = omega arith
+positive (b ∷ bs) = let h = positive bs in omega (arith, h)
+
+digit_same : (a b m n : ℕ) → a < 256 → b < 256 → a + 256 * m ≡ b + 256 * n → (a ≡ b) × (m ≡ n)
+digit_same a b m n h k e = (omega (arith, h, k, e), omega (arith, h, k, e))
+
+number_same : (a b : Bytes) → are_bytes a ≡ true → are_bytes b ≡ true → name_number a ≡ name_number b → a ≡ b
+number_same [] [] h k e = refl
+number_same [] (b ∷ bs) h k e = let p = positive bs in absurd (omega (arith, p, e))
+number_same (a ∷ xs) [] h k e = let p = positive xs in absurd (omega (arith, p, e))
+number_same (a ∷ xs) (b ∷ bs) h k e =
+    let hs = both _ _ h in
+    let ks = both _ _ k in
+    let same = digit_same a b (name_number xs) (name_number bs) (below a hs.0) (below b ks.0) e in
+    let first = same.0 in
+    let rest = number_same xs bs hs.1 ks.1 same.1 in
+    cc
+
+-- what is known of a name that has a number
+numbered : (name : Bytes) (number : ℕ) → short_number name ≡ Some number → (are_bytes name ≡ true) × (number ≡ name_number name)
+numbered name number e = go (is_up_to 7 name) refl e
+  where
+    go : (short : Bool) → is_up_to 7 name ≡ short → cond short (Some (name_number name)) None ≡ Some number → (are_bytes name ≡ true) × (number ≡ name_number name)
+    go true h k = ((both _ _ h).1, cc)
+    go false h k = cc
+
+one_name : (a b : Bytes) (m n : ℕ) → short_number a ≡ Some m → short_number b ≡ Some n → m ≡ n → a ≡ b
+one_name a b m n h k e =
+    let x = numbered a m h in
+    let y = numbered b n k in
+    number_same a b x.0 y.0 (sym x.1 ∙ e ∙ y.1)
+
+one_number : (a b : Bytes) (m n : ℕ) → short_number a ≡ Some m → short_number b ≡ Some n → a ≡ b → m ≡ n
+one_number a b m n h k e = some_same m n (sym h ∙ ap short_number e ∙ k)
+  where
+    some_same : (m n : ℕ) → Some m ≡ Some n → m ≡ n
+    some_same m n e = cc
+
+-- the test of two numbers is the test of their names
+same_tests : (m n : ℕ) (a b : Bytes) → (m ≡ n → a ≡ b) → (a ≡ b → m ≡ n) → nat_eq m n ≡ bytes_eq a b
+same_tests m n a b there back = go (nat_eq m n) (bytes_eq a b) refl (bytes_eq-Decides a b)
+  where
+    equal : nat_eq m n ≡ true → m ≡ n
+    equal e = grind (arith, nat_tests)
+
+    apart : nat_eq m n ≡ false → m ≡ n → ⊥
+    apart e k = grind (arith, nat_tests)
+
+    go : (x y : Bool) → nat_eq m n ≡ x → Decides y (a ≡ b) → x ≡ y
+    go true true e d = refl
+    go false false e d = refl
+    go true false e d = absurd (let f = there (equal e) in search rules)
+    go false true e d = let f : a ≡ b = search rules in absurd (apart e (back f))
+
+module _ (old new : Names) (name : Bytes) (found : RecordPlace) where
+  -- by its number
+  pub added_short : (number : ℕ) → short_number name ≡ Some number → ((n : ℕ) → get nat_eq new.short n ≡ cond (nat_eq number n) (Some found) (get nat_eq old.short n)) → new.long ≡ old.long → AddsName old new name found
+  added_short number is updates kept other = go (short_number other) refl
+    where
+      go : (o : Option ℕ) → short_number other ≡ o → found_by new other o ≡ (if bytes_eq name other then Some found else found_by old other o)
+      go (Some n) other_is =
+          updates n ∙ ap (λ (same : Bool). cond same (Some found) (get nat_eq old.short n)) (same_tests number n name other (one_name name other number n is other_is) (one_number name other number n is other_is))
+      go None other_is = not_here (bytes_eq name other) (bytes_eq-Decides name other)
+        where
+          none_some : (o : Option ℕ) → o ≡ Some number → o ≡ None → ⊥
+          none_some o h k = absurd (let f : None ≡ Some number = sym k ∙ h in cc)
+
+          not_here : (same : Bool) → Decides same (name ≡ other) → get_by_text new.long other ≡ (if same then Some found else get_by_text old.long other)
+          not_here false d = ap (λ records. get_by_text records other) kept
+          not_here true d = let f : name ≡ other = search rules in absurd (none_some (short_number other) (sym (ap short_number f) ∙ is) other_is)
+
+  -- as a text
+  pub added_long : short_number name ≡ None → ((n : Bytes) → get_by_text new.long n ≡ (if bytes_eq name n then Some found else get_by_text old.long n)) → new.short ≡ old.short → AddsName old new name found
+  added_long is updates kept other = go (short_number other) refl
+    where
+      go : (o : Option ℕ) → short_number other ≡ o → found_by new other o ≡ (if bytes_eq name other then Some found else found_by old other o)
+      go None other_is = updates other
+      go (Some n) other_is = not_here (bytes_eq name other) (bytes_eq-Decides name other)
+        where
+          none_some : (o : Option ℕ) → o ≡ None → o ≡ Some n → ⊥
+          none_some o h k = absurd (let f : None ≡ Some n = sym h ∙ k in cc)
+
+          not_here : (same : Bool) → Decides same (name ≡ other) → get nat_eq new.short n ≡ (if same then Some found else get nat_eq old.short n)
+          not_here false d = ap (λ records. get nat_eq records n) kept
+          not_here true d = let f : name ≡ other = search rules in absurd (none_some (short_number other) (sym (ap short_number f) ∙ is) other_is)
