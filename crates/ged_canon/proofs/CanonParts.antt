@@ -39,7 +39,7 @@ sorted_distinct edition d names r e = subst AreDistinct (sym e) (resolved_sorted
 pub as_numbering : (d : Trees) (index : Index) (seen records : List RecordNode) (shown numbers : List ℕ) → seen ≡ records → shown ≡ numbers → IsIndexOf d index
     → AreNumbersOf d (xrefs (record_trees seen)) numbers → IsNumbering (xrefs (record_trees records)) index shown
 as_numbering d index seen records shown numbers e f is are =
-    (d, is, subst (λ (ns : List ℕ). AreNumbersOf d (xrefs (record_trees records)) ns) (sym f) (subst (λ (rs : List RecordNode). AreNumbersOf d (xrefs (record_trees rs)) numbers) e are))
+    (d, (is, subst (λ (ns : List ℕ). AreNumbersOf d (xrefs (record_trees records)) ns) (sym f) (subst (λ (rs : List RecordNode). AreNumbersOf d (xrefs (record_trees rs)) numbers) e are)))
 
 pub numbered_parts : (edition : Edition) (d : Trees) (head new_head : Tree) (records new_records : List RecordNode) → document_trees head records ≡ sorted_document edition (used_document d)
     → new_head ≡ renamed_tree (number_of 1 (xrefs (record_trees records))) head

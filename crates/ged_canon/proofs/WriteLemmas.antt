@@ -1,8 +1,8 @@
 -- Lines that are written from a document, and the lines of its canonical form.
 use Rattle.std.proofs.Common.{◌≡◌, ℕ, ◌+◌, ◌<◌, ◌≤◌, true, ◌&&◌, List, [], ◌∷◌, ◌++◌, Option, Some, None, length, take, get_or, slice_get, refl, sym, ap, ◌∙◌, append_assoc, arith, codes}
-use Rattle.std.specs.Prelude.{nat_le, not, ◌==◌}
+use Rattle.std.specs.Prelude.{false, nat_le, not, ◌==◌}
 use Rattle.std.specs.List.{list_all}
-use Rattle.std.proofs.lemmas.Bool.{and_parts, and_from, leb-true, le-leb, ltb-true, true≢false, true_from_ne_false}
+use Rattle.std.proofs.lemmas.Bool.{and_parts, and_from, or_parts, leb-true, le-leb, ltb-true, true≢false, true_from_ne_false}
 use Rattle.std.proofs.lemmas.Bool.Decides.{nat_tests}
 use Rattle.std.proofs.lemmas.List.{take_more}
 use Rattle.std.proofs.lemmas.List.Folds.{list_all_at}
@@ -17,13 +17,16 @@ use Rattle.ged_tree.specs.declared.payload.Payload.TheVariants.{Void, Pointer, T
 use Rattle.ged_tree.specs.Trees.{Structure, further_lines}
 use Rattle.ged_tree.specs.Documents.{is_payload_at, is_structure_at}
 use Rattle.ged_tree.specs.DocumentLines.{line_value, first_value, continued}
+use Rattle.ged_tree.specs.Views.{is_pointer}
 use Rattle.ged_tree.specs.Walks.{HasLinesAt}
 use Rattle.ged_tree.proofs.LineTests.{structure_is}
 use Rattle.ged_schema.specs.Rows.{Row}
 use Rattle.ged_canon.specs.declared.edition.Edition.{Edition}
-use Rattle.ged_canon.specs.Steps.{renamed_payload, with_identifier}
-use Rattle.ged_canon.specs.Working.{brief, brief_line}
-use Rattle.ged_canon.proofs.Brief.{brief_same, brief_anyway}
+use Rattle.ged_canon.specs.declared.edition.Edition.TheVariants.{First, Second}
+use Rattle.ged_canon.specs.Steps.{is_dated, is_numeric, renamed_payload, with_identifier}
+use Rattle.ged_canon.specs.Normal.{IsBriefPayload}
+use Rattle.ged_canon.specs.Working.{is_second, may_shorten, brief, brief_line}
+use Rattle.ged_canon.proofs.Brief.{brief_same, brief_payload_same, brief_anyway}
 
 -- Bytes.
 
@@ -56,6 +59,44 @@ module _ (edition : Edition) where
     pub brief_many : (line : Bytes) (further : List Bytes) → Text (line ∷ further) ≡ p → 0 < length further → brief edition r p ≡ Text (line ∷ further)
     brief_many line [] e some = absurd (omega (arith, some))
     brief_many line (next ∷ lines) e some = ap (brief edition r) (sym e)
+
+-- where the edition leaves nothing out, a payload is its own
+pub unshortened : (edition : Edition) (r : Option Row) (p : Payload) → may_shorten edition r ≡ false → brief edition r p ≡ p
+unshortened edition r p h = brief_payload_same edition r p (nothing p)
+  where
+    nothing : (q : Payload) → IsBriefPayload edition r q
+    nothing Void = tt
+    nothing (Pointer name) = tt
+    nothing (Text []) = tt
+    nothing (Text (line ∷ [])) =
+        let parts = or_parts (is_dated r) (is_second edition && is_numeric r) h in
+        record {
+          no_calendar = λ e. absurd (true≢false (sym e ∙ parts.0));
+          no_leading_zero = λ second numeric. absurd (true≢false (sym (and_from (is_second edition) (is_numeric r) (ap is_second second) numeric) ∙ parts.1));
+        }
+    nothing (Text (line ∷ next ∷ lines)) = tt
+
+pub no_row_kept : (edition : Edition) (p : Payload) → brief edition None p ≡ p
+no_row_kept First p = unshortened First None p refl
+no_row_kept Second p = unshortened Second None p refl
+
+-- a pointer is not shortened
+pub pointer_kept : (edition : Edition) (r : Option Row) (p : Payload) → is_pointer p ≡ true → brief edition r p ≡ p
+pointer_kept edition r Void h = refl
+pointer_kept edition r (Pointer name) h = refl
+pointer_kept edition r (Text lines) h = absurd (true≢false (sym h))
+
+-- any other payload has no name that is renamed
+pub value_kept : (new : Bytes → Bytes) (p : Payload) → is_pointer p ≡ false → renamed_payload new p ≡ p
+value_kept new Void h = refl
+value_kept new (Pointer name) h = absurd (true≢false h)
+value_kept new (Text lines) h = refl
+
+-- Pieces of a line.
+
+-- a line that is appended in three pieces
+pub in_pieces : (out front rest end : Bytes) → ((out ++ front) ++ rest) ++ end ≡ out ++ ((front ++ rest) ++ end)
+in_pieces out front rest end = ap (λ x. x ++ end) (append_assoc out front rest) ∙ append_assoc out (front ++ rest) end
 
 pub further_kept : (new : Bytes → Bytes) (edition : Edition) (r : Option Row) (p : Payload) → further_lines (renamed_payload new (brief edition r p)) ≡ further_lines p
 further_kept new edition r Void = refl

@@ -15,7 +15,8 @@ use Rattle.ged_tree.specs.Places.{structure_at, below_at}
 use Rattle.ged_tree.specs.Runs.{trees_between, IsRun, IsStep}
 use Rattle.ged_tree.specs.Walks.{HasLinesAt}
 use Rattle.ged_schema.specs.declared.context.Context.{Context}
-use Rattle.ged_schema.specs.Tables.{row, context_below}
+use Rattle.ged_schema.specs.Rows.{Row}
+use Rattle.ged_schema.specs.Tables.{row, below_row, context_below}
 use Rattle.ged_canon.specs.declared.edition.Edition.{Edition}
 use Rattle.ged_canon.specs.declared.siblings.Sibling.{Sibling}
 use Rattle.ged_canon.specs.Steps.{with_identifier, renamed}
@@ -42,6 +43,13 @@ written_below out middle own below written =
     ap (λ x. x ++ spelled_lines below) written
     ∙ append_assoc out (spelled_lines own) (spelled_lines below)
     ∙ ap (λ x. out ++ x) (sym (spelled_append own below))
+
+-- the lines of a structure and of what stands below it, by equal rows
+pub tree_lines : (new : Bytes → Bytes) (edition : Edition) (xref : Option Bytes) (d : Trees) (sibling : Sibling) (level : ℕ) (r q : Option Row) → r ≡ q
+    → spelled_lines (structure_lines level (renamed_sibling new edition r xref d sibling) ++ lines_of (level + 1) (renamed new (sorted edition (below_row r) (below_at d sibling.place))))
+    ≡ spelled_lines (structure_lines level (renamed_sibling new edition q xref d sibling) ++ lines_of (level + 1) (renamed new (sorted edition (below_row q) (below_at d sibling.place))))
+tree_lines new edition xref d sibling level r q e =
+    ap (λ x. spelled_lines (structure_lines level (renamed_sibling new edition x xref d sibling) ++ lines_of (level + 1) (renamed new (sorted edition (below_row x) (below_at d sibling.place))))) e
 
 -- where nothing is left, all is written
 pub written_all : (whole out : Bytes) (rest : List LineParts) → rest ≡ [] → out ++ spelled_lines rest ≡ whole → out ≡ whole

@@ -1,7 +1,7 @@
 -- The trees of structures that are listed by their places, as they are written; only private functions cite this.
-use Rattle.std.specs.Prelude.{Bool, List, [], ◌∷◌}
+use Rattle.std.specs.Prelude.{◌≡◌, ◌<◌, Bool, List, [], ◌∷◌}
 use Rattle.ged_line.specs.Bytes.{Bytes}
-use Rattle.ged_tree.specs.Trees.{Structure, Trees, none, tree}
+use Rattle.ged_tree.specs.Trees.{Structure, Trees, none, tree, trees_count}
 use Rattle.ged_tree.specs.Places.{structure_at, below_at}
 use Rattle.ged_schema.specs.declared.context.Context.{Context}
 use Rattle.ged_schema.specs.Tables.{context_below}
@@ -9,6 +9,10 @@ use Rattle.ged_canon.specs.declared.edition.Edition.{Edition}
 use Rattle.ged_canon.specs.declared.siblings.Sibling.{Sibling}
 use Rattle.ged_link.specs.Links.{with_xref}
 use Rattle.ged_canon.specs.Working.{is_named, used_xref, used_structure, brief_structure, sorted}
+
+-- a sibling stands at a place of the document, and has the tag of the structure there
+abbrev pub StandsIn : Trees → Sibling → Type 0
+StandsIn d sibling = (sibling.place < trees_count d) × (sibling.tag.now ≡ (structure_at d sibling.place).tag)
 
 -- the structure of a document at a sibling's place, with the sibling's tag
 abbrev pub sibling_structure : Trees → Sibling → Structure

@@ -68,6 +68,10 @@ trimmed_words edition r words = if is_second edition && is_numeric r then map tr
 abbrev pub brief_words : Edition → Option Row → List Bytes → List Bytes
 brief_words edition r words = trimmed_words edition r (kept_words r words)
 
+-- whether the edition leaves something out in payloads at a place with this row
+abbrev pub may_shorten : Edition → Option Row → Bool
+may_shorten edition r = is_dated r || (is_second edition && is_numeric r)
+
 abbrev pub brief_line : Edition → Option Row → Bytes → Bytes
 brief_line edition r line = joined (brief_words edition r (words_of line))
 
@@ -148,9 +152,13 @@ pub record AreNumbersOf (d : Trees) (names : List Bytes) (numbers : List ℕ) : 
   pub known : (name : Bytes) → IsAmong name names → (number : ℕ) × IsRecordNumber d number name
   pub each : (number : ℕ) (name : Bytes) → IsRecordNumber d number name → slice_index_or numbers number 0 ≡ number_among 1 names name
 
+-- so are they for a document that has this index
+abbrev pub IsNumberingOf : Trees → List Bytes → Index → List ℕ → Type 0
+IsNumberingOf d names index numbers = IsIndexOf d index × AreNumbersOf d names numbers
+
 -- so are they for the document of an index
 abbrev pub IsNumbering : List Bytes → Index → List ℕ → Type 0
-IsNumbering names index numbers = (d : Trees) × IsIndexOf d index × AreNumbersOf d names numbers
+IsNumbering names index numbers = (d : Trees) × IsNumberingOf d names index numbers
 
 -- a tree with new names in its pointers
 abbrev pub renamed_tree : (Bytes → Bytes) → Tree → Tree

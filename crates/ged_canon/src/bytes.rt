@@ -13,23 +13,24 @@ ghost use Rattle.ged_canon.specs.declared.edition.Edition.{Edition as AnyEdition
 ghost use Rattle.ged_canon.specs.declared.edition.Edition.TheVariants.{First};
 ghost use Rattle.ged_canon.specs.Normal.{IsNormalForm};
 ghost use Rattle.ged_canon.specs.CanonText.{CanonText};
-ghost use Rattle.ged_canon.specs.Working.{is_named, used_document, sorted_document, IsNumbering};
-ghost use Rattle.ged_canon.specs.Siblings.{sibling_trees};
+ghost use Rattle.ged_canon.specs.Working.{is_named, used_document, sorted_document, IsNumberingOf};
+ghost use Rattle.ged_canon.specs.Siblings.{StandsIn, sibling_trees};
 ghost use Rattle.ged_canon.specs.CanonBytes.{AreNamed, number_at, spelled_siblings};
 
 use crate::edition::Edition;
-use crate::new_names::new_number;
+use crate::new_names::new_number_with;
+use crate::own_lines::put_identifier;
 use crate::siblings::{Sibling, numbers_in_order, push_sorted};
-use crate::writing::{Plan, Scratch, put_identifier, write_tree};
+use crate::writing::{Plan, Scratch, write_tree};
 use ged_line::{ValueView, write_parts};
-use ged_link::Index;
-use ged_schema::Context;
+use ged_link::{Index, PointerCursor, RecordCursor};
+use ged_schema::{Context, ContextRows};
 use ged_tree::{Forest, end_of_all, next_in_run};
 use std::alloc::{AllocError, Global};
 
 /// HEAD, and behind it the records in the order of their tags.
 fn document_siblings<F: Forest>(alloc: Global, forest: &F) -> Result<Vec<Sibling<'_>>, AllocError>
-    ensures within { IfOk result (λ made. AllByRecursion (λ each. each.place < trees_count (F.trees forest.now)) made.items) }
+    ensures within { IfOk result (λ made. AllByRecursion (StandsIn (F.trees forest.now)) made.items) }
     ensures count { IfOk result (λ made. length (identifiers (records_of (F.trees forest.now))) ≤ length made.items) }
     ensures trees { (edition : AnyEdition) → IfOk result (λ made. sibling_trees (is_named (F.trees forest.now)) edition File (F.trees forest.now) made.items
         ≡ sorted_document edition (used_document (F.trees forest.now))) }
@@ -49,12 +50,17 @@ fn document_siblings<F: Forest>(alloc: Global, forest: &F) -> Result<Vec<Sibling
 }
 
 /// The new number of the record at a place, or 0 where it gets none.
-fn own_number<F: Forest>(forest: &F, plan: &Plan<'_>, place: usize) -> usize
+fn own_number<F: Forest>(
+    forest: &F,
+    plan: &Plan<'_>,
+    place: usize,
+    records: &mut RecordCursor,
+) -> usize
     requires { place < trees_count (F.trees forest.now) }
-    ensures { (names : List Bytes) → IsNumbering names plan.now.index.now plan.now.numbers.now → result ≡ number_at names (structure_at (F.trees forest.now) place).xref }
+    ensures { (names : List Bytes) → IsNumberingOf (F.trees forest.now) names plan.now.index.now plan.now.numbers.now → result ≡ number_at names (structure_at (F.trees forest.now) place).xref }
 {
     match forest.xref(place) {
-        Some(name) => new_number(plan.index, plan.numbers, name),
+        Some(name) => new_number_with(plan.index, plan.numbers, place, name, &mut *records),
         None => 0,
     }
 }
@@ -69,26 +75,21 @@ fn write_record<'a, F: Forest>(
     out: &mut Vec<u8>,
 ) -> Result<(), AllocError>
     requires document { is_document (F.trees forest.now) ≡ true }
-    requires within { sibling.place < trees_count (F.trees forest.now) }
+    requires within { StandsIn (F.trees forest.now) sibling }
     requires stands { are_at 0 (sibling_trees (is_named (F.trees forest.now)) plan.now.edition File (F.trees forest.now) (sibling ∷ [])) ≡ true }
-    ensures { (names : List Bytes) → IsNumbering names plan.now.index.now plan.now.numbers.now → AreNamed (F.trees forest.now) names →
+    ensures { (names : List Bytes) → IsNumberingOf (F.trees forest.now) names plan.now.index.now plan.now.numbers.now → AreNamed (F.trees forest.now) names →
         OnOk result (out.new.items ≡ out.old.items ++ spelled_siblings plan.now.edition names (F.trees forest.now) (sibling.entry ∷ [])) }
 {
-    let number = own_number(forest, plan, sibling.place);
+    let rows = ContextRows::of(Context::File);
+    let rule = rows.row(sibling.tag);
+    let end = forest.after(sibling.place);
+    let number = own_number(forest, plan, sibling.place, &mut scratch.records);
     if number == 0 {
-        return write_tree(forest, plan, Context::File, 0, None, sibling, scratch, out);
+        return write_tree(forest, plan, rule, 0, None, sibling, end, scratch, out);
     }
     put_identifier(number, name)?;
-    write_tree(
-        forest,
-        plan,
-        Context::File,
-        0,
-        Some(name.as_str()),
-        sibling,
-        scratch,
-        out,
-    )
+    let xref = Some(name.as_str());
+    write_tree(forest, plan, rule, 0, xref, sibling, end, scratch, out)
 }
 
 /// Appends the lines of HEAD and the records, and of what stands below them.
@@ -99,14 +100,15 @@ fn write_records<F: Forest>(
     out: &mut Vec<u8>,
 ) -> Result<(), AllocError>
     requires document { is_document (F.trees forest.now) ≡ true }
-    requires within { AllByRecursion (λ each. each.place < trees_count (F.trees forest.now)) siblings.now }
+    requires within { AllByRecursion (StandsIn (F.trees forest.now)) siblings.now }
     requires stand { are_at 0 (sibling_trees (is_named (F.trees forest.now)) plan.now.edition File (F.trees forest.now) siblings.now) ≡ true }
-    ensures { (names : List Bytes) → IsNumbering names plan.now.index.now plan.now.numbers.now → AreNamed (F.trees forest.now) names →
+    ensures { (names : List Bytes) → IsNumberingOf (F.trees forest.now) names plan.now.index.now plan.now.numbers.now → AreNamed (F.trees forest.now) names →
         OnOk result (out.new.items ≡ out.old.items ++ spelled_siblings plan.now.edition names (F.trees forest.now) siblings.now) }
 {
     let mut name = String::new(plan.alloc);
     let mut scratch = Scratch {
-        name: String::new(plan.alloc),
+        pointers: PointerCursor::new(),
+        records: RecordCursor::new(),
         siblings: Vec::new(plan.alloc),
     };
     for each in siblings {

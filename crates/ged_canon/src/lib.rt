@@ -8,6 +8,7 @@ mod laws;
 mod new_names;
 mod normal;
 mod numbers;
+mod own_lines;
 mod placing;
 mod siblings;
 mod spelling;

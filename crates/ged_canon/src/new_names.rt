@@ -2,15 +2,18 @@
 ghost use Rattle.std.specs.Prelude.{◌≡◌, List, IfOk, length};
 ghost use Rattle.ged_line.specs.Bytes.{Bytes};
 ghost use Rattle.ged_tree.specs.Trees.{Trees, trees_of, records_of};
+ghost use Rattle.ged_tree.specs.declared.payload.Payload.TheVariants.{Pointer as PointerPayload};
+ghost use Rattle.ged_tree.specs.Places.{structure_at};
 ghost use Rattle.ged_tree.specs.Records.{record_trees};
 ghost use Rattle.ged_link.specs.Links.{identifiers, xrefs, AreDistinct, IsAmong};
+ghost use Rattle.ged_link.specs.LinkFaults.{HasXref};
 ghost use Rattle.ged_link.specs.Indexes.{IsIndexOf};
 ghost use Rattle.ged_canon.specs.Steps.{renamed, renamed_payload as gives_payload};
-ghost use Rattle.ged_canon.specs.Working.{number_among, number_of, AreNumbersOf, IsNumbering, renamed_tree, renamed_record as gives_record};
+ghost use Rattle.ged_canon.specs.Working.{number_among, number_of, AreNumbersOf, IsNumberingOf, IsNumbering, renamed_tree, renamed_record as gives_record};
 
 use crate::numbers::new_identifier;
 use ged_line::Xref;
-use ged_link::Index;
+use ged_link::{Index, PointerCursor, RecordCursor};
 use ged_tree::{Document, Node, Payload, RecordNode};
 use std::alloc::{AllocError, Global};
 
@@ -46,6 +49,43 @@ pub(crate) fn new_number(index: &Index, numbers: &[usize], name: &str) -> usize
 {
     match index.record_named(name) {
         Some(place) => numbers.get(place).copied().unwrap_or(0),
+        None => 0,
+    }
+}
+
+/// What [`new_number`] answers for the pointer at a place, whose name is handed in. Pointers that are asked for in the order of
+/// their places are found at once.
+#[inline(always)]
+pub(crate) fn new_number_at(
+    index: &Index,
+    numbers: &[usize],
+    place: usize,
+    name: &str,
+    pointers: &mut PointerCursor,
+) -> usize
+    ensures { (d : Trees) (names : List Bytes) → IsNumberingOf d names index.now numbers.now → (structure_at d place).payload ≡ PointerPayload name.now →
+        result ≡ number_among 1 names name.now }
+{
+    match index.record_at(place, name, &mut *pointers) {
+        Some(number) => numbers.get(number).copied().unwrap_or(0),
+        None => 0,
+    }
+}
+
+/// What [`new_number`] answers for the identifier of the record at a place, whose name is handed in. Records that are asked for
+/// in the order of their places are found at once.
+#[inline(always)]
+pub(crate) fn new_number_with(
+    index: &Index,
+    numbers: &[usize],
+    place: usize,
+    name: &str,
+    records: &mut RecordCursor,
+) -> usize
+    ensures { (d : Trees) (names : List Bytes) → IsNumberingOf d names index.now numbers.now → HasXref d place name.now → result ≡ number_among 1 names name.now }
+{
+    match index.record_with(place, name, &mut *records) {
+        Some(number) => numbers.get(number).copied().unwrap_or(0),
         None => 0,
     }
 }

@@ -18,7 +18,12 @@ use ged_tree::{Forest, PayloadView, end_of_all, next_in_run};
 use std::cmp::Ordering;
 
 /// Whether nothing can be left out in the payload of the structure at a place, which has this rule.
-fn is_brief_at<F: Forest>(forest: &F, edition: Edition, rule: &Rule, place: usize) -> bool
+pub(crate) fn is_brief_at<F: Forest>(
+    forest: &F,
+    edition: Edition,
+    rule: &Rule,
+    place: usize,
+) -> bool
     requires { place < trees_count (F.trees forest.now) }
     ensures { IsTrue result ↔ IsBriefPayload edition (Some (as_row rule.now)) (structure_at (F.trees forest.now) place).payload }
 {
@@ -36,6 +41,9 @@ pub(crate) fn are_in_order<F: Forest>(forest: &F, start: usize, end: usize) -> b
     let Some(mut place) = next_in_run(forest, start, end) else {
         return true;
     };
+    if place >= end {
+        return true;
+    }
     let mut before = forest.tag(start);
     while let Some(after) = next_in_run(forest, place, end) {
         let tag = forest.tag(place);

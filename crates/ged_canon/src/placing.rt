@@ -66,6 +66,7 @@ fn brief_payload(
     }
 }
 
+#[inline(always)]
 pub(crate) fn context_below(rule: Option<&Rule>) -> Context
     ensures { result ≡ below_row (option_map as_row (option_copied rule.entry)) }
 {

@@ -2,6 +2,7 @@
 ghost use Rattle.std.specs.Prelude.{◌≡◌, ◌<◌, ◌≤◌, Bool, true, IfOk, OnOk, length, take, drop};
 ghost use Rattle.std.specs.List.{AllByRecursion};
 ghost use Rattle.std.specs.List.Sorted.{IsPermutation};
+ghost use Rattle.std.specs.Str.{bytes_eq};
 ghost use Rattle.ged_line.specs.Bytes.{Bytes};
 ghost use Rattle.ged_line.specs.Names.{tag_order as order_of_tags};
 ghost use Rattle.ged_tree.specs.Trees.{Trees, trees_count, records_of};
@@ -12,9 +13,9 @@ ghost use Rattle.ged_canon.specs.declared.edition.Edition.{Edition as AnyEdition
 ghost use Rattle.ged_link.specs.Links.{identifiers, xrefs, IsAmong, AreDistinct};
 ghost use Rattle.ged_link.specs.Indexes.{IsIndexOf};
 ghost use Rattle.ged_canon.specs.Working.{grouped, sorted, each_sorted, used_trees, AreNumbersOf};
-ghost use Rattle.ged_canon.specs.Siblings.{sibling_trees, sibling_names};
+ghost use Rattle.ged_canon.specs.Siblings.{StandsIn, sibling_trees, sibling_names};
 
-use ged_link::Index;
+use ged_link::{Index, RecordCursor};
 use ged_tree::{Forest, next_in_run};
 use std::alloc::{AllocError, Global};
 use std::cmp::Ordering;
@@ -24,6 +25,19 @@ use std::cmp::Ordering;
 pub(crate) struct Sibling<'a> {
     pub(crate) tag: &'a str,
     pub(crate) place: usize,
+}
+
+/// Whether two tags are the same. Most have four bytes, which are compared at once.
+#[inline(always)]
+fn is_same(tag: &str, other: &str) -> bool
+    ensures { result ≡ bytes_eq tag.now other.now }
+{
+    match (tag.as_bytes(), other.as_bytes()) {
+        ([a, b, c, d], [e, f, g, h]) => {
+            u32::from_le_bytes([*a, *b, *c, *d]) == u32::from_le_bytes([*e, *f, *g, *h])
+        }
+        _ => tag == other,
+    }
 }
 
 /// The order of tags, for any texts, from the texts whole.
@@ -38,17 +52,54 @@ fn whole_order(tag: &str, other: &str) -> Ordering
     }
 }
 
-/// The order of tags, for any texts. Most tags differ in their first byte, and no other byte is then read, unless one of the
-/// tags may be GEDC.
-#[inline]
+/// The order of tags, for any texts. Most tags that begin with the same byte differ in their second one.
+#[inline(never)]
+fn order_of_alike(tag: &str, other: &str) -> Ordering
+    ensures { result ≡ order_of_tags tag.now other.now }
+{
+    match (tag.as_bytes(), other.as_bytes()) {
+        ([first, a, ..], [second, b, ..]) if first == second && *first != b'G' && a != b => {
+            a.cmp(b)
+        }
+        _ => whole_order(tag, other),
+    }
+}
+
+/// The order of tags, for any texts. Most tags that are not the same differ in their first byte, and no other byte is then
+/// read, unless one of the tags may be GEDC.
+#[inline(always)]
 pub(crate) fn order(tag: &str, other: &str) -> Ordering
     ensures { result ≡ order_of_tags tag.now other.now }
 {
+    if is_same(tag, other) {
+        return Ordering::Equal;
+    }
     match (tag.as_bytes(), other.as_bytes()) {
         ([first, ..], [second, ..]) if first != second && *first != b'G' && *second != b'G' => {
             first.cmp(second)
         }
-        _ => whole_order(tag, other),
+        _ => order_of_alike(tag, other),
+    }
+}
+
+/// The same tag, that of a structure at a level. Those of most records are answered from one place each, so that a sort of many
+/// records does not go through the whole file once more to compare them.
+#[inline(always)]
+fn shared_tag(level: u8, tag: &str) -> &str
+    ensures { result.now ≡ tag.now }
+{
+    if level > 0 {
+        return tag;
+    }
+    match tag {
+        "INDI" => "INDI",
+        "FAM" => "FAM",
+        "SOUR" => "SOUR",
+        "OBJE" => "OBJE",
+        "REPO" => "REPO",
+        "SNOTE" => "SNOTE",
+        "SUBM" => "SUBM",
+        _ => tag,
     }
 }
 
@@ -61,7 +112,7 @@ fn push_siblings<'a, F: Forest>(
 ) -> Result<(), AllocError>
     requires { IsRun (F.trees forest.now) start end }
     ensures kept { OnOk result (take (length siblings.old.items) siblings.new.items ≡ siblings.old.items) }
-    ensures within { OnOk result (AllByRecursion (λ each. each.place < trees_count (F.trees forest.now)) (drop (length siblings.old.items) siblings.new.items)) }
+    ensures within { OnOk result (AllByRecursion (StandsIn (F.trees forest.now)) (drop (length siblings.old.items) siblings.new.items)) }
     ensures count { OnOk result (length (drop (length siblings.old.items) siblings.new.items) ≡ length (identifiers (trees_between (F.trees forest.now) start end))) }
     ensures trees { (used : Bytes → Bool) (edition : AnyEdition) (context : AnyContext) →
         OnOk result (sibling_trees used edition context (F.trees forest.now) (drop (length siblings.old.items) siblings.new.items) ≡ each_sorted edition context (used_trees used (trees_between (F.trees forest.now) start end))) }
@@ -69,7 +120,7 @@ fn push_siblings<'a, F: Forest>(
     let mut place = start;
     while let Some(after) = next_in_run(forest, place, end) {
         siblings.push(Sibling {
-            tag: forest.tag(place),
+            tag: shared_tag(forest.level(place), forest.tag(place)),
             place,
         })?;
         place = after;
@@ -98,7 +149,7 @@ pub(crate) fn push_sorted<'a, F: Forest>(
 ) -> Result<(), AllocError>
     requires { IsRun (F.trees forest.now) start end }
     ensures kept { OnOk result (take (length siblings.old.items) siblings.new.items ≡ siblings.old.items) }
-    ensures within { OnOk result (AllByRecursion (λ each. each.place < trees_count (F.trees forest.now)) (drop (length siblings.old.items) siblings.new.items)) }
+    ensures within { OnOk result (AllByRecursion (StandsIn (F.trees forest.now)) (drop (length siblings.old.items) siblings.new.items)) }
     ensures count { OnOk result (length (drop (length siblings.old.items) siblings.new.items) ≡ length (identifiers (trees_between (F.trees forest.now) start end))) }
     ensures trees { (used : Bytes → Bool) (edition : AnyEdition) (context : AnyContext) →
         OnOk result (sibling_trees used edition context (F.trees forest.now) (drop (length siblings.old.items) siblings.new.items) ≡ sorted edition context (used_trees used (trees_between (F.trees forest.now) start end))) }
@@ -119,7 +170,7 @@ pub(crate) fn numbers_in_order<F: Forest>(
 ) -> Result<Vec<usize>, AllocError>
     requires index { IsIndexOf (F.trees forest.now) index.now }
     requires document { is_document (F.trees forest.now) ≡ true }
-    requires within { AllByRecursion (λ each. each.place < trees_count (F.trees forest.now)) records.now }
+    requires within { AllByRecursion (StandsIn (F.trees forest.now)) records.now }
     requires count { length (identifiers (records_of (F.trees forest.now))) ≤ length records.now }
     requires known { (name : Bytes) → IsAmong name (sibling_names (F.trees forest.now) records.now) → IsAmong name (xrefs (records_of (F.trees forest.now))) }
     requires distinct { AreDistinct (sibling_names (F.trees forest.now) records.now) }
@@ -127,9 +178,10 @@ pub(crate) fn numbers_in_order<F: Forest>(
 {
     let mut numbers = vec![in alloc; 0; records.len()]?;
     let mut number = 0;
+    let mut cursor = RecordCursor::new();
     for each in records {
         if let Some(name) = forest.xref(each.place) {
-            if let Some(place) = index.record_named(name) {
+            if let Some(place) = index.record_with(each.place, name, &mut cursor) {
                 if index.is_used(place) {
                     number += 1;
                     numbers[place] = number;

@@ -10,19 +10,21 @@ ghost use Rattle.ged_value.specs.ZeroKinds.{has_integers as tests_integers};
 ghost use Rattle.ged_schema.specs.Rows.{as_row};
 ghost use Rattle.ged_canon.specs.Steps.{has_calendar as tests_calendar};
 ghost use Rattle.ged_canon.specs.Normal.{IsBrief};
-ghost use Rattle.ged_canon.specs.Working.{is_second, is_brief_word as tests_word, brief_line as spells_brief};
+ghost use Rattle.ged_canon.specs.Working.{is_second, may_shorten, is_brief_word as tests_word, brief_line as spells_brief};
 
 use crate::edition::Edition;
 use ged_schema::Rule;
 use ged_value::{Kind, trim_zeros};
 use std::alloc::{AllocError, Global};
 
+#[inline(always)]
 fn has_calendar(kind: Kind) -> bool
     ensures { result ≡ tests_calendar kind }
 {
     matches!(kind, Kind::DateValue | Kind::DatePeriod)
 }
 
+#[inline(always)]
 fn has_integers(kind: Kind) -> bool
     ensures { result ≡ tests_integers kind }
 {
@@ -63,6 +65,7 @@ fn are_brief_words(line: &str, without_calendar: bool, without_zeros: bool) -> b
     true
 }
 
+#[inline(always)]
 fn leaves_zeros_out(edition: Edition, kind: Kind) -> bool
     ensures { result ≡ (is_second edition && tests_integers kind) }
 {
@@ -70,6 +73,14 @@ fn leaves_zeros_out(edition: Edition, kind: Kind) -> bool
         Edition::First => false,
         Edition::Second => has_integers(kind),
     }
+}
+
+/// Whether there are payloads at a place with this rule in which something can be left out.
+#[inline(always)]
+pub(crate) fn may_be_shortened(edition: Edition, rule: &Rule) -> bool
+    ensures { result ≡ may_shorten edition (Some (as_row rule.now)) }
+{
+    has_calendar(rule.kind) || leaves_zeros_out(edition, rule.kind)
 }
 
 /// Whether nothing can be left out in a line of a payload at a place with this rule.

@@ -35,7 +35,7 @@ pub use spelled::SpelledLine;
 pub use text::Text;
 pub use view::{LineView, ValueView};
 pub use views::{LineViews, first_line, text_behind_mark, view_lines};
-pub use write::{write_line, write_lines, write_parts, write_view};
+pub use write::{write_head, write_line, write_lines, write_parts, write_view};
 
 #[cfg(test)]
 mod tests;

@@ -2,7 +2,7 @@
 use crate::{
     Line, LineAt, LineFault, LineValue, LineView, ParseFault, RespellFault, Tag, Text, ValueView,
     Xref, is_plain, parse_line, read_lines, respell_lines, split_pieces, tag_order, view_line,
-    write_line, write_lines, write_parts, write_view,
+    write_head, write_line, write_lines, write_parts, write_view,
 };
 use std::alloc::{AllocError, Global};
 use std::cmp::Ordering;
@@ -249,7 +249,8 @@ fn writes_the_parts_of_lines(rt: HostRuntime) -> Result<(), Fail> {
     write_parts(1, None, "FAMS", ValueView::Pointer("F1"), &mut out)?;
     write_parts(1, None, "FAMC", ValueView::Void, &mut out)?;
     write_parts(12, None, "NOTE", ValueView::Text(text), &mut out)?;
-    let wanted = b"0 @I1@ INDI\n1 FAMS @F1@\n1 FAMC @VOID@\n12 NOTE @@me\n";
+    write_head(0, Some("I2"), &mut out)?;
+    let wanted = b"0 @I1@ INDI\n1 FAMS @F1@\n1 FAMC @VOID@\n12 NOTE @@me\n0 @I2@ ";
     assert_eq!(rt; out.as_slice(), wanted.as_slice());
     Ok(())
 }

@@ -11,7 +11,22 @@ use crate::view::{LineView, ValueView};
 use itoa::Buffer;
 use std::alloc::{AllocError, Global};
 
+/// Appends the two digits of a level, and a space.
+#[cold]
+#[inline(never)]
+fn append_deep_level(level: u8, out: &mut Vec<u8>) -> Result<(), AllocError>
+    requires { level ≤ 99 }
+    ensures ok { OnOk result (out.new.items ≡ out.old.items ++ (decimal level ++ space ∷ [])) }
+    ensures kept { (more : Bytes) × (out.new.items ≡ out.old.items ++ more) }
+{
+    let mut buffer = Buffer::new();
+    out.extend_from_slice(buffer.format(level).as_bytes())?;
+    out.push(b' ')?;
+    Ok(())
+}
+
 /// Appends the digits of a level, and a space. Most levels have one digit.
+#[inline(always)]
 fn append_level(level: u8, out: &mut Vec<u8>) -> Result<(), AllocError>
     requires { level ≤ 99 }
     ensures ok { OnOk result (out.new.items ≡ out.old.items ++ (decimal level ++ space ∷ [])) }
@@ -20,12 +35,10 @@ fn append_level(level: u8, out: &mut Vec<u8>) -> Result<(), AllocError>
     if level < 10 {
         return out.extend_from_slice(&[b'0' + level, b' ']);
     }
-    let mut buffer = Buffer::new();
-    out.extend_from_slice(buffer.format(level).as_bytes())?;
-    out.push(b' ')?;
-    Ok(())
+    append_deep_level(level, out)
 }
 
+#[inline(always)]
 fn append_xref(xref: Option<&str>, out: &mut Vec<u8>) -> Result<(), AllocError>
     ensures ok { OnOk result (out.new.items ≡ out.old.items ++ xref_part (option_map (λ name. name.now) xref.entry)) }
     ensures kept { (more : Bytes) × (out.new.items ≡ out.old.items ++ more) }
@@ -36,6 +49,22 @@ fn append_xref(xref: Option<&str>, out: &mut Vec<u8>) -> Result<(), AllocError>
         out.extend_from_slice(b"@ ")?;
     }
     Ok(())
+}
+
+/// Appends what stands before the tag of a line: the level, a space, and the cross-reference identifier, if there is one, with
+/// its signs and a space. Grows; after an `Err` the vector is unchanged (FamilySearch GEDCOM 7.0, "Lines").
+#[inline(always)]
+pub fn write_head(level: u8, xref: Option<&str>, out: &mut Vec<u8>) -> Result<(), AllocError>
+    requires { level ≤ 99 }
+    ensures ok { OnOk result (out.new.items ≡ out.old.items ++ (decimal level ++ space ∷ xref_part (option_map (λ name. name.now) xref.entry))) }
+    ensures err { OnErr result (out.new.items ≡ out.old.items) }
+{
+    let before = out.len();
+    let result = append_head(level, xref, out);
+    if result.is_err() {
+        out.truncate(before);
+    }
+    result
 }
 
 fn append_value(value: ValueView<'_>, out: &mut Vec<u8>) -> Result<(), AllocError>
@@ -61,6 +90,16 @@ fn append_value(value: ValueView<'_>, out: &mut Vec<u8>) -> Result<(), AllocErro
     Ok(())
 }
 
+#[inline(always)]
+fn append_head(level: u8, xref: Option<&str>, out: &mut Vec<u8>) -> Result<(), AllocError>
+    requires { level ≤ 99 }
+    ensures ok { OnOk result (out.new.items ≡ out.old.items ++ (decimal level ++ space ∷ xref_part (option_map (λ name. name.now) xref.entry))) }
+    ensures kept { (more : Bytes) × (out.new.items ≡ out.old.items ++ more) }
+{
+    append_level(level, out)?;
+    append_xref(xref, out)
+}
+
 fn append_line(
     level: u8,
     xref: Option<&str>,
@@ -72,8 +111,7 @@ fn append_line(
     ensures ok { OnOk result (out.new.items ≡ out.old.items ++ (spelling (line_parts level (option_map (λ name. name.now) xref.entry) tag.now (viewed_value value.entry)) ++ line_feed ∷ [])) }
     ensures kept { (more : Bytes) × (out.new.items ≡ out.old.items ++ more) }
 {
-    append_level(level, out)?;
-    append_xref(xref, out)?;
+    append_head(level, xref, out)?;
     out.extend_from_slice(tag.as_bytes())?;
     append_value(value, out)?;
     out.push(b'\n')?;

@@ -6,6 +6,8 @@ pub mod NameLemmas
 pub mod TypeLemmas
 pub mod LawLemmas
 pub mod RecordLemmas
+pub mod TargetLemmas
+pub mod KeptPlaces
 pub mod UseLemmas
 pub mod AnswerLemmas
 pub mod OneWayLemmas

@@ -1,8 +1,10 @@
 -- The records of a document, as the walk over them finds their identifiers.
-use Rattle.std.proofs.Common.{◌≡◌, ℕ, ◌+◌, ◌-◌, ◌<◌, ◌≤◌, true, false, Bool, sym, ◌∙◌, ap, refl, arith, rules, List, [], ◌∷◌, drop, length, get_or, Option, Some, None, option_map, slice_get, is_some, is_none, ◌⊎◌, inl, inr, subst, ◌↔◌}
+use Rattle.std.proofs.Common.{◌≡◌, ℕ, ◌+◌, ◌-◌, ◌<◌, ◌≤◌, true, false, Bool, sym, ◌∙◌, ap, refl, arith, rules, List, [], ◌∷◌, ◌++◌, drop, length, get_or, Option, Some, None, option_map, slice_get, slice_index_or, is_some, is_none, ◌⊎◌, inl, inr, subst, ◌↔◌}
 use Rattle.std.specs.Bool.{if◌then◌else◌, Decides}
 use Rattle.std.specs.Str.{bytes_eq}
 use Rattle.std.proofs.lemmas.Slice.Eq.{bytes_eq-Decides}
+use Rattle.std.proofs.Math.ListN.{get_or-append}
+use Rattle.std.proofs.Math.Seq.{get_or-append_seam}
 use Rattle.std.proofs.lemmas.Bool.{cases_lt}
 use Rattle.std.proofs.lemmas.List.{drop_all, drop_more}
 use Rattle.std.proofs.lemmas.Option.{slice_get_within, slice_get-get_or}
@@ -14,10 +16,11 @@ use Rattle.ged_tree.specs.Runs.{trees_between, IsRun, IsStep}
 use Rattle.ged_tree.proofs.PlaceLemmas.{whole_is, run_whole, run_ends}
 use Rattle.ged_link.specs.declared.index.RecordPlace.{RecordPlace}
 use Rattle.ged_link.specs.Links.{identifiers, IsRecordNumber}
+use Rattle.ged_link.specs.declared.record_type.RecordType.{RecordType}
 use Rattle.ged_link.specs.RecordTypes.{IsTypeOf}
 use Rattle.ged_link.specs.LinkFaults.{HasXref, IsRepeated, IsLowest}
 use Rattle.ged_link.specs.declared.names.Names.{Names}
-use Rattle.ged_link.specs.Indexes.{found_in, AreRecords}
+use Rattle.ged_link.specs.Indexes.{found_in, AreRecords, AreTyped}
 use Rattle.ged_link.specs.Resolving.{AddsName, AreRecordsBefore}
 use Rattle.ged_link.proofs.LinkLemmas.{both, document_level, level_parts, unnamed, unnamed_run}
 use Rattle.ged_link.proofs.PlaceCases.{place_cases, at_first, at_below}
@@ -90,13 +93,11 @@ point f name n found old false x A B d fresh is cases grows here = (
   ],
 )
 
--- one more type
-typed_one : (d : Trees) (found : RecordPlace) (old : Option RecordPlace) (same : Bool) (kept : RecordPlace)
-    → IsTypeOf found.record_type (structure_at d found.place).tag
-    → ((other : RecordPlace) → old ≡ Some other → IsTypeOf other.record_type (structure_at d other.place).tag)
-    → (if same then Some found else old) ≡ Some kept → IsTypeOf kept.record_type (structure_at d kept.place).tag
-typed_one d found old true kept new before is = let f : found ≡ kept = cc in subst (λ (r : RecordPlace). IsTypeOf r.record_type (structure_at d r.place).tag) f new
-typed_one d found old false kept new before is = before kept is
+-- one more record, or one of those before
+new_or_old : (P : RecordPlace → Type 0) (found : RecordPlace) (old : Option RecordPlace) (same : Bool) (kept : RecordPlace)
+    → P found → ((other : RecordPlace) → old ≡ Some other → P other) → (if same then Some found else old) ≡ Some kept → P kept
+new_or_old P found old true kept new before is = let f : found ≡ kept = cc in subst P f new
+new_or_old P found old false kept new before is = before kept is
 
 -- the walk is at a record
 module _ (d : Trees) (p e a k : ℕ) (step : IsStep d p e a) (level : are_at 0 (trees_between d p e) ≡ true) (left : drop k (identifiers (records_of d)) ≡ identifiers (trees_between d p e)) where
@@ -117,6 +118,9 @@ module _ (d : Trees) (p e a k : ℕ) (step : IsStep d p e a) (level : are_at 0 (
 
   named_here : slice_get (identifiers (records_of d)) k ≡ Some (structure_at d p).xref
   named_here = left_here (identifiers (records_of d)) k (structure_at d p).xref (identifiers (trees_between d a e)) left_is
+
+  pub numbered_here : (name : Bytes) → HasXref d p name → IsRecordNumber d k name
+  numbered_here name has = named_here ∙ ap Some has.1
 
   -- an identifier before the next record stands before this one, or is this one's
   place_before : (name : Bytes) (other : ℕ) → (other < a) × HasXref d other name → ((other < p) × HasXref d other name) ⊎ ((other ≡ p) × ((structure_at d p).xref ≡ Some name))
@@ -150,12 +154,11 @@ module _ (d : Trees) (p e a k : ℕ) (step : IsStep d p e a) (level : are_at 0 (
       λ s. number_grows name other ((are.numbered name other).0 s),
       λ h. elim (number_before name other h) [ inl old ↦ (are.numbered name other).1 old | inr new ↦ (let some_is = new.1 in cc) ],
     );
-    typed = are.typed;
   }
 
-  pub records_more : (old new : Names) (name : Bytes) (found : RecordPlace) → found.place ≡ p → found.number ≡ k → IsTypeOf found.record_type (structure_at d p).tag → (structure_at d p).xref ≡ Some name → found_in old name ≡ None
+  pub records_more : (old new : Names) (name : Bytes) (found : RecordPlace) → found.place ≡ p → found.number ≡ k → (structure_at d p).xref ≡ Some name → found_in old name ≡ None
       → AddsName old new name found → AreRecordsBefore d p k old → AreRecordsBefore d a (k + 1) new
-  records_more old new name found at_place at_number of_type here fresh adds are = record {
+  records_more old new name found at_place at_number here fresh adds are = record {
     placed = λ n other.
         subst (λ (x : Option RecordPlace). (option_map (λ (r : RecordPlace). r.place) x ≡ Some other) ↔ ((other < a) × HasXref d other n)) (sym (adds n))
         (point (λ r. r.place) name n found (found_in old n) (bytes_eq name n) other ((other < p) × HasXref d other n) ((other < a) × HasXref d other n) (bytes_eq-Decides name n)
@@ -172,8 +175,21 @@ module _ (d : Trees) (p e a k : ℕ) (step : IsStep d p e a) (level : are_at 0 (
         (λ h. elim (number_before n other h) [ inl before ↦ inl before | inr new ↦ inr (let some_is = new.1 in cc, at_number ∙ sym new.0) ])
         (number_grows n other)
         (λ same is. let f : other ≡ k = sym is ∙ at_number in (omega (arith, f), rw (f, ← same) (named_here ∙ ap Some here))));
-    typed = λ n kept is. typed_one d found (found_in old n) (bytes_eq name n) kept (rw at_place of_type) (are.typed n) (sym (adds n) ∙ is);
   }
+
+  -- one more type changes nothing for the records before
+  pub typed_kept : (records : Names) (types : List (Option RecordType)) (more : Option RecordType) → length types ≡ k → AreRecordsBefore d p k records → AreTyped d records types → AreTyped d records (types ++ more ∷ [])
+  typed_kept records types more long are typed name found is =
+      let before : found.number < length types = omega (arith, long, ((are.numbered name found.number).0 (ap (option_map (λ (r : RecordPlace). r.number)) is)).0) in
+      subst (λ (known : Option RecordType). IsTypeOf known (structure_at d found.place).tag) (sym (get_or-append types (more ∷ []) None found.number before)) (typed name found is)
+
+  -- and is that of one more record
+  pub typed_more : (old new : Names) (types : List (Option RecordType)) (more : Option RecordType) (name : Bytes) (found : RecordPlace) → length types ≡ k → found.place ≡ p → found.number ≡ k
+      → IsTypeOf more (structure_at d p).tag → AddsName old new name found → AreRecordsBefore d p k old → AreTyped d old types → AreTyped d new (types ++ more ∷ [])
+  typed_more old new types more name found long at_place at_number of_type adds are typed n kept is =
+      let there : slice_index_or (types ++ more ∷ []) found.number None ≡ more = rw (at_number, ← long) (get_or-append_seam types more [] None) in
+      new_or_old (λ r. IsTypeOf (slice_index_or (types ++ more ∷ []) r.number None) (structure_at d r.place).tag) found (found_in old n) (bytes_eq name n) kept (rw (there, at_place) of_type)
+      (typed_kept old types more long are typed n) (sym (adds n) ∙ is)
 
 -- ---- the records before the first one
 
@@ -204,8 +220,10 @@ records_start d doc first e whole run is records empty =
         λ s. absurd (let f = empty name in let g : None ≡ Some other = sym (ap (option_map (λ (r : RecordPlace). r.number)) f) ∙ s in cc),
         λ h. absurd (omega (arith, h.0)),
       );
-      typed = λ name found is. absurd (let f = empty name in let g : None ≡ Some found = sym f ∙ is in cc);
     }
+
+pub typed_start : (d : Trees) (records : Names) (types : List (Option RecordType)) → ((name : Bytes) → found_in records name ≡ None) → AreTyped d records types
+typed_start d records types empty name found is = absurd (let f = empty name in let g : None ≡ Some found = sym f ∙ is in cc)
 
 pub records_level : (d : Trees) → is_document d ≡ true → are_at 0 (records_of d) ≡ true
 records_level none doc = cc
@@ -220,7 +238,6 @@ records_all d p k e records whole run ends left are =
     record {
       placed = λ name other. (λ s. ((are.placed name other).0 s).1, λ h. (are.placed name other).1 (omega (arith, at_end, h.0), h));
       numbered = λ name other. (λ s. ((are.numbered name other).0 s).1, λ h. (are.numbered name other).1 (omega (arith, few, slice_get_within (identifiers (records_of d)) other (Some name) h), h));
-      typed = are.typed;
     }
 
 pub records_count : (d : Trees) (p k e : ℕ) → trees_between d p e ≡ none → drop k (identifiers (records_of d)) ≡ identifiers (trees_between d p e) → k ≤ length (identifiers (records_of d)) → k ≡ length (identifiers (records_of d))

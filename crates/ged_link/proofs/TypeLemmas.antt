@@ -1,13 +1,14 @@
 -- The record that a name leads to, and its type.
-use Rattle.std.proofs.Common.{◌≡◌, ◌↔◌, ℕ, Option, Some, None, option_map, sym, ap, subst, ◌∙◌}
+use Rattle.std.proofs.Common.{◌≡◌, ◌↔◌, ℕ, List, Option, Some, None, option_map, sym, ap, subst, ◌∙◌, refl, slice_index_or}
 use Rattle.ged_line.specs.Bytes.{Bytes}
 use Rattle.ged_tree.specs.Trees.{Trees}
 use Rattle.ged_tree.specs.Places.{structure_at}
 use Rattle.ged_link.specs.declared.index.RecordPlace.{RecordPlace}
 use Rattle.ged_link.specs.declared.names.Names.{Names}
 use Rattle.ged_link.specs.declared.record_type.RecordType.{RecordType}
+use Rattle.ged_link.specs.Links.{IsRecordNumber}
 use Rattle.ged_link.specs.RecordTypes.{record_tag, HasRecordOf}
-use Rattle.ged_link.specs.Indexes.{found_in, place_in, AreRecords}
+use Rattle.ged_link.specs.Indexes.{found_in, place_in, AreRecords, AreTyped}
 
 one_place : (x y : ℕ) → Some x ≡ Some y → x ≡ y
 one_place x y e = cc
@@ -19,14 +20,29 @@ module _ (d : Trees) (records : Names) (name : Bytes) where
   placed_at : (o : Option RecordPlace) → found_in records name ≡ o → place_in records name ≡ option_map (λ (r : RecordPlace). r.place) o
   placed_at o is = ap (option_map (λ (r : RecordPlace). r.place)) is
 
-  pub is_of : (found : RecordPlace) (wanted : RecordType) → AreRecords d records → found_in records name ≡ Some found → (found.record_type ≡ Some wanted) ↔ HasRecordOf d wanted name
-  is_of found wanted are is =
+  is_of : (found : RecordPlace) (types : List (Option RecordType)) (wanted : RecordType) → AreRecords d records → AreTyped d records types → found_in records name ≡ Some found
+      → (slice_index_or types found.number None ≡ Some wanted) ↔ HasRecordOf d wanted name
+  is_of found types wanted are are_typed is =
       let here = placed_at (Some found) is in
-      let typed = are.typed name found is wanted in (
+      let typed = are_typed name found is wanted in (
         λ told. (found.place, (are.placed name found.place).0 here, typed.0 told),
         λ has. typed.1 (subst (λ (place : ℕ). (structure_at d place).tag ≡ record_tag wanted)
             (one_place has.0 found.place (sym ((are.placed name has.0).1 has.1) ∙ here)) has.2),
       )
 
-  pub no_record : (wanted : RecordType) → AreRecords d records → found_in records name ≡ None → HasRecordOf d wanted name → ⊥
-  no_record wanted are is has = none_some has.0 (sym (placed_at None is) ∙ (are.placed name has.0).1 has.1)
+  -- the record with this number, which has the name
+  pub typed_at : (number : ℕ) (types : List (Option RecordType)) (wanted : RecordType) → AreRecords d records → AreTyped d records types → IsRecordNumber d number name
+      → (slice_index_or types number None ≡ Some wanted) ↔ HasRecordOf d wanted name
+  typed_at number types wanted are are_typed named = go (found_in records name) refl ((are.numbered name number).1 named)
+    where
+      go : (o : Option RecordPlace) → found_in records name ≡ o → option_map (λ (r : RecordPlace). r.number) o ≡ Some number → (slice_index_or types number None ≡ Some wanted) ↔ HasRecordOf d wanted name
+      go None is e = absurd (none_some number e)
+      go (Some found) is e = subst (λ (n : ℕ). (slice_index_or types n None ≡ Some wanted) ↔ HasRecordOf d wanted name) (one_place found.number number e) (is_of found types wanted are are_typed is)
+
+  -- no record has the name
+  pub no_number : (wanted : RecordType) → AreRecords d records → ((number : ℕ) → IsRecordNumber d number name → ⊥) → HasRecordOf d wanted name → ⊥
+  no_number wanted are missing has = go (found_in records name) refl
+    where
+      go : (o : Option RecordPlace) → found_in records name ≡ o → ⊥
+      go None is = none_some has.0 (sym (placed_at None is) ∙ (are.placed name has.0).1 has.1)
+      go (Some found) is = missing found.number ((are.numbered name found.number).0 (ap (option_map (λ (r : RecordPlace). r.number)) is))

@@ -1,5 +1,5 @@
 -- Marks of the records that pointers name.
-use Rattle.std.proofs.Common.{◌≡◌, ◌≢◌, ℕ, ◌+◌, ◌<◌, Bool, true, false, Option, Some, None, List, ◌∷◌, ◌⊎◌, inl, inr, length, refl, sym, subst, ◌∙◌, arith, get_or-set_other, slice_set, slice_index_or, replicate, zero, suc, ap, option_map, Bor}
+use Rattle.std.proofs.Common.{◌≡◌, ◌≢◌, ℕ, ◌+◌, ◌<◌, Bool, true, false, Option, Some, None, List, [], ◌∷◌, ◌⊎◌, inl, inr, length, refl, sym, subst, ◌∙◌, arith, get_or-set_other, slice_set, slice_index_or, replicate, zero, suc, ap, option_map, Bor}
 use Rattle.std.proofs.Math.Nat.{eq-or-lt_of_le}
 use Rattle.std.proofs.lemmas.Bool.{cases_lt}
 use Rattle.std.proofs.lemmas.Grind.{get_or-set_at}
@@ -12,7 +12,7 @@ use Rattle.ged_tree.specs.declared.payload.Payload.{Payload}
 use Rattle.ged_tree.specs.declared.payload.Payload.TheVariants.{Void, Pointer, Text}
 use Rattle.ged_tree.specs.declared.payload.PayloadView.{PayloadView}
 use Rattle.ged_tree.specs.declared.payload.PayloadView.TheVariants as views
-use Rattle.ged_tree.specs.Views.{payload_of}
+use Rattle.ged_tree.specs.Views.{payload_of, is_pointer}
 use Rattle.ged_link.specs.declared.index.RecordPlace.{RecordPlace}
 use Rattle.ged_link.specs.Links.{identifiers}
 use Rattle.ged_link.specs.LinkFaults.{HasXref, HasPointer, IsDangling, IsLowest}
@@ -20,7 +20,9 @@ use Rattle.ged_link.specs.declared.names.Names.{Names}
 use Rattle.ged_link.specs.Indexes.{found_in, AreRecords, number_in}
 use Rattle.ged_link.specs.LinkWalks.{target}
 use Rattle.ged_link.specs.Resolving.{AreUsedBefore, NoneDanglesBefore, AreFollowed, AreUsed}
+use Rattle.ged_link.specs.declared.following.Followed.{Followed}
 use Rattle.ged_link.proofs.LinkLemmas.{named_at, at_named}
+use Rattle.ged_link.proofs.TargetLemmas.{none_told}
 
 same_or_not : (k n : ℕ) → (k ≡ n) ⊎ (k ≢ n)
 same_or_not k n = elim (cases_lt k n) [
@@ -56,6 +58,15 @@ no_target find views.Void further p e other = ap (target find) (sym e)
 no_target find (views.Pointer x) further p e other = absurd (other x refl)
 no_target find (views.Text first) further p e other = ap (target find) (sym e)
 
+-- the same of a payload that is told to be no pointer
+pub told_not_pointer : (p : Payload) → is_pointer p ≡ false → (name : Bytes) → p ≡ Pointer name → ⊥
+told_not_pointer p denied name h = absurd (let f : true ≡ false = sym (ap is_pointer h) ∙ denied in cc)
+
+pub told_no_target : (find : Bytes → Option ℕ) (p : Payload) → is_pointer p ≡ false → target find p ≡ None
+told_no_target find Void denied = refl
+told_no_target find (Pointer name) denied = absurd (let f : true ≡ false = denied in cc)
+told_no_target find (Text lines) denied = refl
+
 -- before the first pointer no record is marked
 none_marked : (count number : ℕ) → slice_index_or (replicate count false) number false ≡ true → ⊥
 none_marked zero zero e = cc
@@ -63,10 +74,11 @@ none_marked zero (suc number) e = cc
 none_marked (suc count) zero e = cc
 none_marked (suc count) (suc number) e = none_marked count number e
 
-pub followed_start : (d : Trees) (count : ℕ) (used : List Bool) → used ≡ replicate count false → count ≡ length (identifiers (records_of d)) → AreFollowed d 0 used
-followed_start d count used is long = record {
+pub followed_start : (d : Trees) (count : ℕ) (followed : Followed) → followed.used.items ≡ replicate count false → followed.targets.items ≡ [] → count ≡ length (identifiers (records_of d)) → AreFollowed d 0 followed
+followed_start d count followed is empty long = record {
   long = ap (λ (us : List Bool). length us) is ∙ length-replicate count false ∙ long;
   marked = λ number. (λ e. absurd (none_marked count number (rw is at e)), λ h. absurd (omega (arith, h.2.1)));
+  told = none_told d followed.targets.items empty;
   found = λ other before h. absurd (omega (arith, before));
 }
 

@@ -1,5 +1,5 @@
 -- Which document an index is of. The contracts of its calls say what follows; what it holds is told here for the proofs.
-use Rattle.std.specs.Prelude.{◌≡◌, ℕ, true, false, Option, Some, None, ◌↔◌, nat_eq, slice_index_or, option_map}
+use Rattle.std.specs.Prelude.{◌≡◌, ℕ, true, false, List, Option, Some, None, ◌↔◌, nat_eq, slice_index_or, option_map}
 use Rattle.std.specs.HashMap.{get, get_by_text}
 use Rattle.ged_line.specs.Bytes.{Bytes}
 use Rattle.ged_tree.specs.Trees.{Trees}
@@ -10,7 +10,10 @@ use Rattle.ged_link.specs.declared.names.Names.{Names}
 use Rattle.ged_link.specs.NameNumbers.{short_number}
 use Rattle.ged_link.specs.Links.{Resolved, IsRecordNumber, IsUsed}
 use Rattle.ged_link.specs.LinkFaults.{HasXref}
+use Rattle.ged_link.specs.declared.record_type.RecordType.{RecordType}
 use Rattle.ged_link.specs.RecordTypes.{IsTypeOf}
+use Rattle.ged_link.specs.Targets.{AreTargets}
+use Rattle.ged_link.specs.Places.{ArePlaces}
 use Rattle.ged_link.specs.Notices.{AreOneWay}
 
 -- the record that has a name: by the name's number, where it has one
@@ -27,19 +30,21 @@ number_in records name = option_map (λ found. found.number) (found_in records n
 abbrev pub place_in : Names → Bytes → Option ℕ
 place_in records name = option_map (λ found. found.place) (found_in records name)
 
--- what is kept of each record has its type
-abbrev pub AreTyped : Trees → Names → Type 0
-AreTyped d records = (name : Bytes) (found : RecordPlace) → found_in records name ≡ Some found → IsTypeOf found.record_type (structure_at d found.place).tag
+-- each record that has a name has its type by its number
+abbrev pub AreTyped : Trees → Names → List (Option RecordType) → Type 0
+AreTyped d records types = (name : Bytes) (found : RecordPlace) → found_in records name ≡ Some found → IsTypeOf (slice_index_or types found.number None) (structure_at d found.place).tag
 
 -- each identifier of a document, and no other, has the number and the place of its record
 pub record AreRecords (d : Trees) (records : Names) : Type 0 where
   pub placed : (name : Bytes) (place : ℕ) → (place_in records name ≡ Some place) ↔ HasXref d place name
   pub numbered : (name : Bytes) (number : ℕ) → (number_in records name ≡ Some number) ↔ IsRecordNumber d number name
-  pub typed : AreTyped d records
 
 -- the index of a document, all of whose pointers name records
 pub record IsIndexOf (d : Trees) (index : Index) : Type 0 where
   pub resolved : Resolved d
   pub records : AreRecords d index.records
-  pub used : (number : ℕ) → (slice_index_or index.used.items number false ≡ true) ↔ IsUsed d number
+  pub typed : AreTyped d index.records index.types.items
+  pub used : (number : ℕ) → (slice_index_or index.followed.used.items number false ≡ true) ↔ IsUsed d number
+  pub targets : AreTargets d index.followed.targets.items
+  pub places : ArePlaces d index.places.items
   pub one_way : AreOneWay d index.one_way.items

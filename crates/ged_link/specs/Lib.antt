@@ -5,6 +5,8 @@ pub mod LinkLaws
 pub mod ResolvedLaws
 pub mod Notices
 pub mod NameNumbers
+pub mod Targets
+pub mod Places
 pub mod Indexes
 pub mod LinkWalks
 pub mod PairSets

@@ -7,7 +7,9 @@ use Rattle.ged_link.specs.declared.index.RecordPlace.{RecordPlace}
 use Rattle.ged_link.specs.Links.{identifiers, IsRecordNumber, IsUsed}
 use Rattle.ged_link.specs.LinkFaults.{HasXref, HasPointer, IsDangling}
 use Rattle.ged_link.specs.declared.names.Names.{Names}
-use Rattle.ged_link.specs.Indexes.{found_in, place_in, number_in, AreTyped}
+use Rattle.ged_link.specs.declared.following.Followed.{Followed}
+use Rattle.ged_link.specs.Targets.{AreTargets}
+use Rattle.ged_link.specs.Indexes.{found_in, place_in, number_in}
 
 -- the records gain a name, and keep all others
 abbrev pub AddsName : Names → Names → Bytes → RecordPlace → Type 0
@@ -17,7 +19,6 @@ AddsName old new name found = (other : Bytes) → found_in new other ≡ (if byt
 pub record AreRecordsBefore (d : Trees) (place number : ℕ) (records : Names) : Type 0 where
   pub placed : (name : Bytes) (other : ℕ) → (place_in records name ≡ Some other) ↔ ((other < place) × HasXref d other name)
   pub numbered : (name : Bytes) (other : ℕ) → (number_in records name ≡ Some other) ↔ ((other < number) × IsRecordNumber d other name)
-  pub typed : AreTyped d records
 
 -- a record is marked exactly where a pointer before a place names it
 abbrev pub AreUsedBefore : Trees → ℕ → List Bool → Type 0
@@ -28,10 +29,11 @@ AreUsedBefore d place used =
 abbrev pub NoneDanglesBefore : Trees → ℕ → Type 0
 NoneDanglesBefore d place = (other : ℕ) → other < place → IsDangling d other → ⊥
 
--- all pointers before a place name records, and those are marked
-pub record AreFollowed (d : Trees) (place : ℕ) (used : List Bool) : Type 0 where
-  pub long : length used ≡ length (identifiers (records_of d))
-  pub marked : AreUsedBefore d place used
+-- all pointers before a place name records, those are marked, and what is kept of the pointers is true
+pub record AreFollowed (d : Trees) (place : ℕ) (followed : Followed) : Type 0 where
+  pub long : length followed.used.items ≡ length (identifiers (records_of d))
+  pub marked : AreUsedBefore d place followed.used.items
+  pub told : AreTargets d followed.targets.items
   pub found : NoneDanglesBefore d place
 
 -- a record is marked exactly where some pointer names it

@@ -1,32 +1,39 @@
 // The records of a document by their cross-reference identifiers.
 ghost use Rattle.std.specs.Prelude.{◌≡◌, ◌↔◌, ℕ, Some, true, IsTrue};
 ghost use Rattle.ged_tree.specs.Trees.{Trees};
+ghost use Rattle.ged_tree.specs.Places.{structure_at};
+ghost use Rattle.ged_tree.specs.declared.payload.Payload.TheVariants.{Pointer};
 ghost use Rattle.ged_link.specs.Links.{IsRecordNumber, IsUsed};
 ghost use Rattle.ged_link.specs.LinkFaults.{HasXref};
 ghost use Rattle.ged_link.specs.RecordTypes.{HasRecordOf};
 ghost use Rattle.ged_link.specs.Indexes.{IsIndexOf, number_in, place_in};
 
+use crate::following::Followed;
 use crate::names::Names;
-use crate::record_type::{RecordType, is_of_type};
+use crate::places::{RecordCursor, next_record, searched_record};
+use crate::record_type::{RecordType, is_typed};
+use crate::targets::{PointerCursor, next_number, searched_number};
 use ged_line::Xref;
 
-/// Where a record stands, among the records and among all structures, and its type, if pointers of the structure tables
-/// lead to such records.
+/// Where a record stands, among the records and among all structures.
 #[derive(Clone, Copy, Debug)]
 pub(crate) struct RecordPlace {
     pub(crate) number: usize,
     pub(crate) place: usize,
-    pub(crate) record_type: Option<RecordType>,
 }
 
-/// The records of a document by their identifiers, which of them some pointer names, and the places of its links in one
-/// direction only. It serves every [`ged_tree::Forest`] that is seen as the same document.
+/// The records of a document by their identifiers, their types, which of them its pointers name, and the places of its
+/// links in one direction only. It serves every [`ged_tree::Forest`] that is seen as the same document.
 ///
 /// Records are counted from 0, as a document has them after HEAD.
 #[derive(Drop)]
 pub struct Index {
     pub(crate) records: Names,
-    pub(crate) used: Vec<bool>,
+    /// The type of each record by its number.
+    pub(crate) types: Vec<Option<RecordType>>,
+    /// The place of each record, by its number.
+    pub(crate) places: Vec<u32>,
+    pub(crate) followed: Followed,
     pub(crate) one_way: Vec<usize>,
 }
 
@@ -61,10 +68,76 @@ impl Index {
     pub fn leads_to(&self, name: &str, wanted: RecordType) -> bool
         ensures { (document : Trees) → IsIndexOf document self.now → IsTrue result ↔ HasRecordOf document wanted name.now }
     {
-        match self.records.find(name) {
-            Some(found) => is_of_type(found.record_type, wanted),
+        match self.record_named(name) {
+            Some(number) => is_typed(&self.types, number, wanted),
             None => false,
         }
+    }
+
+    /// What [`Index::record_named`] answers for the pointer at a place, whose name is handed in. Takes no memory.
+    ///
+    /// The cursor tells where the index begins to look. Pointers that are asked for one after the other, in the order of
+    /// their places, are found at once; others are searched for.
+    #[inline(always)]
+    pub fn record_at(&self, place: usize, name: &str, cursor: &mut PointerCursor) -> Option<usize>
+        ensures { (document : Trees) → IsIndexOf document self.now → (structure_at document place).payload ≡ Pointer name.now → (number : ℕ) →
+            (result ≡ Some number) ↔ IsRecordNumber document number name.now }
+    {
+        match next_number(&self.followed.targets, place, cursor) {
+            Some(number) => Some(number),
+            None => self.record_searched(place, name, cursor),
+        }
+    }
+
+    /// The same where the cursor does not stand at the pointer.
+    #[cold]
+    #[inline(never)]
+    fn record_searched(&self, place: usize, name: &str, cursor: &mut PointerCursor) -> Option<usize>
+        ensures { (document : Trees) → IsIndexOf document self.now → (structure_at document place).payload ≡ Pointer name.now → (number : ℕ) →
+            (result ≡ Some number) ↔ IsRecordNumber document number name.now }
+    {
+        match searched_number(&self.followed.targets, place, cursor) {
+            Some(number) => Some(number),
+            None => self.record_named(name),
+        }
+    }
+
+    /// What [`Index::record_named`] answers for the identifier of the record at a place, whose name is handed in. Takes no
+    /// memory.
+    ///
+    /// The cursor tells where the index begins to look. Records that are asked for in the order of their places are found at
+    /// once.
+    #[inline(always)]
+    pub fn record_with(&self, place: usize, name: &str, cursor: &mut RecordCursor) -> Option<usize>
+        ensures { (document : Trees) → IsIndexOf document self.now → HasXref document place name.now → (number : ℕ) →
+            (result ≡ Some number) ↔ IsRecordNumber document number name.now }
+    {
+        if let Some(number) = next_record(&self.places, place, cursor) {
+            return Some(number);
+        }
+        match searched_record(&self.places, place, cursor) {
+            Some(number) => Some(number),
+            None => self.record_named(name),
+        }
+    }
+
+    /// What [`Index::leads_to`] answers for the pointer at a place, whose name is handed in. The cursor is that of
+    /// [`Index::record_at`]. Takes no memory.
+    #[inline(always)]
+    pub fn leads_at(
+        &self,
+        place: usize,
+        name: &str,
+        wanted: RecordType,
+        cursor: &mut PointerCursor,
+    ) -> bool
+        ensures { (document : Trees) → IsIndexOf document self.now → (structure_at document place).payload ≡ Pointer name.now →
+            IsTrue result ↔ HasRecordOf document wanted name.now }
+    {
+        let Some(number) = self.record_at(place, name, cursor) else {
+            return false;
+        };
+        is_typed(&self.types, number, wanted)
     }
 
     /// Whether some pointer, in the record itself or elsewhere, names the record with this number. It is false past the
@@ -72,7 +145,7 @@ impl Index {
     pub fn is_used(&self, number: usize) -> bool
         ensures { (document : Trees) → IsIndexOf document self.now → (result ≡ true) ↔ IsUsed document number }
     {
-        self.used.get(number).copied().unwrap_or(false)
+        self.followed.used.get(number).copied().unwrap_or(false)
     }
 }
 

@@ -9,8 +9,10 @@ mod links;
 mod names;
 mod notices;
 mod pairs;
+mod places;
 mod record_type;
 mod resolving;
+mod targets;
 
 pub use fault::LinkFault;
 pub use index::Index;
@@ -19,8 +21,10 @@ pub use laws::{
     resolved_is_faultless, resolved_or_fault,
 };
 pub use notices::{Notice, NoticeKind, first_one_way, one_way};
+pub use places::RecordCursor;
 pub use record_type::RecordType;
 pub use resolving::resolve;
+pub use targets::PointerCursor;
 
 #[cfg(test)]
 mod tests;

@@ -1,5 +1,5 @@
 // The types of the records that pointers lead to.
-ghost use Rattle.std.specs.Prelude.{◌≡◌, ◌↔◌, Some, IsTrue};
+ghost use Rattle.std.specs.Prelude.{◌≡◌, ◌↔◌, Some, None, IsTrue, slice_index_or};
 ghost use Rattle.ged_link.specs.RecordTypes.{IsTypeOf};
 
 /// A type of records that pointers of the structure tables lead to, by the tag of those records (FamilySearch GEDCOM 7.0,
@@ -35,10 +35,10 @@ pub(crate) fn type_of(tag: &str) -> Option<RecordType>
     }
 }
 
-/// Whether the type of a record, if it has one, is the type that is wanted.
+/// Whether the record with a number is of a type, where the types of records stand by their numbers.
 #[inline(always)]
-pub(crate) fn is_of_type(known: Option<RecordType>, wanted: RecordType) -> bool
-    ensures { IsTrue result ↔ (known ≡ Some wanted) }
+pub(crate) fn is_typed(types: &[Option<RecordType>], number: usize, wanted: RecordType) -> bool
+    ensures { IsTrue result ↔ (slice_index_or types.now number None ≡ Some wanted) }
 {
-    known == Some(wanted)
+    types.get(number).copied().unwrap_or(None) == Some(wanted)
 }

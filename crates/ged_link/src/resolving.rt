@@ -5,7 +5,8 @@ ghost use Rattle.ged_tree.specs.Documents.{is_document};
 ghost use Rattle.ged_tree.specs.Runs.{trees_between, IsRun};
 ghost use Rattle.ged_link.specs.Links.{Resolved, identifiers};
 ghost use Rattle.ged_link.specs.LinkFaults.{HasLinkFault, IsRepeated};
-ghost use Rattle.ged_link.specs.Indexes.{IsIndexOf, AreRecords};
+ghost use Rattle.ged_link.specs.Places.{ArePlaces};
+ghost use Rattle.ged_link.specs.Indexes.{IsIndexOf, AreRecords, AreTyped};
 ghost use Rattle.ged_link.specs.declared.fault.LinkFault.TheVariants.{Memory};
 
 use crate::fault::LinkFault;
@@ -13,7 +14,8 @@ use crate::following::follow_pointers;
 use crate::index::{Index, RecordPlace};
 use crate::links::find_one_way;
 use crate::names::Names;
-use crate::record_type::type_of;
+use crate::places::kept_place;
+use crate::record_type::{RecordType, type_of};
 use ged_tree::{Forest, end_of_all, next_in_run};
 use std::alloc::{AllocError, Global};
 
@@ -24,14 +26,16 @@ pub fn resolve<F: Forest>(alloc: Global, forest: &F) -> Result<Index, LinkFault>
     ensures index { IfOk result (λ index. IsIndexOf (F.trees forest.now) index) }
     ensures fault { IfErr result (λ fault. (fault ≡ Memory alloc_error) ⊎ HasLinkFault (F.trees forest.now) fault) }
 {
-    let (records, count) = find_records(alloc, forest)?;
-    let (used, pairs) = follow_pointers(alloc, forest, &records, count)?;
+    let (records, types, places) = find_records(alloc, forest)?;
+    let (followed, pairs) = follow_pointers(alloc, forest, &records, types.len())?;
     let Ok(one_way) = find_one_way(alloc, forest, &records, &pairs) else {
         return Err(LinkFault::Memory(AllocError));
     };
     Ok(Index {
         records,
-        used,
+        types,
+        places,
+        followed,
         one_way,
     })
 }
@@ -48,25 +52,30 @@ fn first_record<F: Forest>(forest: &F, end: usize) -> usize
     }
 }
 
-/// The records by their identifiers, and how many records there are; or the fault of the first record whose identifier
-/// an earlier one has.
-fn find_records<F: Forest>(alloc: Global, forest: &F) -> Result<(Names, usize), LinkFault>
+/// The records by their identifiers, and the type and the place of each record; or the fault of the first record whose
+/// identifier an earlier one has.
+fn find_records<F: Forest>(
+    alloc: Global,
+    forest: &F,
+) -> Result<(Names, Vec<Option<RecordType>>, Vec<u32>), LinkFault>
     ensures records { IfOk result (λ found. AreRecords (F.trees forest.now) found.0) }
-    ensures count { IfOk result (λ found. found.1 ≡ length (identifiers (records_of (F.trees forest.now)))) }
+    ensures types { IfOk result (λ found. AreTyped (F.trees forest.now) found.0 found.1.items) }
+    ensures places { IfOk result (λ found. ArePlaces (F.trees forest.now) found.2.items) }
+    ensures count { IfOk result (λ found. length found.1.items ≡ length (identifiers (records_of (F.trees forest.now)))) }
     ensures document { is_document (F.trees forest.now) ≡ true }
     ensures distinct { IfOk result (λ _. (place : ℕ) → IsRepeated (F.trees forest.now) place → ⊥) }
     ensures fault { IfErr result (λ fault. (fault ≡ Memory alloc_error) ⊎ HasLinkFault (F.trees forest.now) fault) }
 {
     let mut records = Names::new(alloc);
-    let mut number = 0;
+    let mut types = Vec::new(alloc);
+    let mut places = Vec::new(alloc);
     let end = end_of_all(forest);
     let mut place = first_record(forest, end);
     while let Some(after) = next_in_run(forest, place, end) {
         if let Some(name) = forest.xref(place) {
             let found = RecordPlace {
-                number,
+                number: types.len(),
                 place,
-                record_type: type_of(forest.tag(place)),
             };
             match records.insert(alloc, name, found) {
                 Ok(true) => {}
@@ -74,8 +83,13 @@ fn find_records<F: Forest>(alloc: Global, forest: &F) -> Result<(Names, usize), 
                 Err(_) => return Err(LinkFault::Memory(AllocError)),
             }
         }
-        number += 1;
+        let Ok(()) = places.push(kept_place(place)) else {
+            return Err(LinkFault::Memory(AllocError));
+        };
+        let Ok(()) = types.push(type_of(forest.tag(place))) else {
+            return Err(LinkFault::Memory(AllocError));
+        };
         place = after;
     }
-    Ok((records, number))
+    Ok((records, types, places))
 }

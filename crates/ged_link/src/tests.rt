@@ -1,5 +1,8 @@
 // Values that the standard and worked examples give, and each public call once.
-use crate::{Index, LinkFault, Notice, NoticeKind, RecordType, first_one_way, one_way, resolve};
+use crate::{
+    Index, LinkFault, Notice, NoticeKind, PointerCursor, RecordCursor, RecordType, first_one_way,
+    one_way, resolve,
+};
 use ged_line::Xref;
 use ged_tree::flatten;
 use std::alloc::{AllocError, Global};
@@ -121,6 +124,65 @@ fn tells_the_types_of_records(rt: HostRuntime) -> Result<(), Fail> {
                 assert!(rt; !index.leads_to("X", wanted), "no record");
             }
             assert!(rt; !index.leads_to("F", RecordType::Indi), "another type");
+        }
+        None => assert!(rt; false, "the file is resolved"),
+    }
+    Ok(())
+}
+
+/// Pointers at the places 4, 6 and 8, and one to nothing at the place 5.
+const POINTERS: &str =
+    "0 @X1@ INDI\n1 FAMS @X2@\n1 ALIA @VOID@\n1 SOUR @S@\n0 @X2@ FAM\n1 HUSB @X1@\n0 @S@ SOUR\n";
+
+#[test]
+fn tells_what_pointers_name_in_any_order(rt: HostRuntime) -> Result<(), Fail> {
+    let alloc = rt.alloc();
+    let file = file_of(alloc, POINTERS)?;
+    match index_of(alloc, file.as_str()) {
+        Some(index) => {
+            let (first, second) = ((4, "X2", 1, RecordType::Fam), (6, "S", 2, RecordType::Sour));
+            let third = (8, "X1", 0, RecordType::Indi);
+            for pointers in [
+                [first, second, third],
+                [third, second, first],
+                [second, second, third],
+                [first, third, third],
+            ] {
+                let mut numbers = PointerCursor::new();
+                let mut types = PointerCursor::new();
+                for (place, name, number, wanted) in pointers {
+                    let found = index.record_at(place, name, &mut numbers);
+                    assert_eq!(rt; found, Some(number), "{name}");
+                    let leads = index.leads_at(place, name, wanted, &mut types);
+                    assert!(rt; leads, "{name}");
+                    let leads = index.leads_at(place, name, RecordType::Obje, &mut types);
+                    assert!(rt; !leads, "another type");
+                }
+            }
+        }
+        None => assert!(rt; false, "the file is resolved"),
+    }
+    Ok(())
+}
+
+#[test]
+fn tells_the_numbers_of_records_in_any_order(rt: HostRuntime) -> Result<(), Fail> {
+    let alloc = rt.alloc();
+    let file = file_of(alloc, POINTERS)?;
+    match index_of(alloc, file.as_str()) {
+        Some(index) => {
+            let (first, second, third) = ((3, "X1", 0), (7, "X2", 1), (9, "S", 2));
+            for records in [
+                [first, second, third],
+                [third, first, second],
+                [second, second, first],
+            ] {
+                let mut cursor = RecordCursor::new();
+                for (place, name, number) in records {
+                    let found = index.record_with(place, name, &mut cursor);
+                    assert_eq!(rt; found, Some(number), "{name}");
+                }
+            }
         }
         None => assert!(rt; false, "the file is resolved"),
     }

@@ -1,4 +1,5 @@
 pub mod Numbers
+pub mod Pointing
 pub mod FaultLaws
 pub mod Runs
 pub mod Marking

@@ -1,10 +1,12 @@
 -- Structures of a run, marked by the numbers of their rows.
-use Rattle.std.proofs.Common.{◌≡◌, ◌≢◌, ℕ, zero, suc, ◌+◌, ◌<◌, ◌≤◌, ◌==◌, ◌&&◌, Bool, cond, sym, ◌∙◌, ap, refl, arith, true, false, List, [], ◌∷◌, inl, inr, Option, Some, None, get_or, slice_get, length, map, set, replicate, eqb→eq, subst, T}
+use Rattle.std.proofs.Common.{◌≡◌, ◌≢◌, ℕ, zero, suc, ◌+◌, ◌*◌, ◌%◌, ◌^◌, bit_or, ◌<◌, ◌≤◌, ◌==◌, ◌&&◌, Bool, cond, sym, ◌∙◌, ap, refl, arith, true, false, List, [], ◌∷◌, inl, inr, Option, Some, None, get_or, slice_get, length, map, eqb→eq, subst, T}
 use Rattle.std.specs.Prelude.{◌⊎◌, ◌↔◌, IsTrue}
 use Rattle.std.specs.List.{AllByRecursion}
 use Rattle.std.specs.Bool.{OnTrue}
 use Rattle.std.specs.Str.{bytes_eq}
-use Rattle.std.proofs.lemmas.List.{get_or-set_same, get_or-set_other, length-map}
+use Rattle.std.specs.Int.{bit_at, w64}
+use Rattle.std.proofs.lemmas.Nat.Bits.{bit_at-zero, bit_at-lt, bit_at_set_same, bit_at_set_other}
+use Rattle.std.proofs.lemmas.List.{length-map}
 use Rattle.std.proofs.lemmas.Slice.Eq.{bytes_eq-Decides}
 use Rattle.ged_line.specs.Bytes.{Bytes}
 use Rattle.ged_line.proofs.NameTests.{bool_cases, and_left, and_right}
@@ -15,7 +17,7 @@ use Rattle.ged_schema.specs.Rows.{Row, as_row}
 use Rattle.ged_schema.specs.Tables.{rows, row}
 use Rattle.ged_schema.specs.Payloads.{IsOfKind, target}
 use Rattle.ged_schema.specs.Checked.{count_of, IsAtMost, CountsRight, PointsRight, AreChecked}
-use Rattle.ged_schema.specs.Marks.{allows_one, is_needed, are_simple, IsNeededMarked}
+use Rattle.ged_schema.specs.Marks.{allows_one, is_needed, are_simple, IsNeededMarked, MarksOneMore}
 use Rattle.ged_schema.proofs.Numbers.{rule_stands, numbered_row}
 use Rattle.ged_schema.proofs.Runs.{count_same, count_other, IsOnlyNumber, checked_some}
 
@@ -25,57 +27,49 @@ pub record IsMarked (mark left all : ℕ) (most : Option ℕ) : Type 0 where
   pub some : mark + left ≤ all
   pub each : (most ≡ None) ⊎ (all ≤ mark + left)
 
-abbrev pub AreMarked : List Row → List ℕ → Trees → Trees → Type 0
+abbrev pub AreMarked : List Row → ℕ → Trees → Trees → Type 0
 AreMarked rs marks left all = (number : ℕ) (r : Row) → slice_get rs number ≡ Some r →
-    IsMarked (get_or marks number 0) (count_of r.tag left) (count_of r.tag all) r.most
+    IsMarked (bit_at marks number) (count_of r.tag left) (count_of r.tag all) r.most
 
--- no row is marked twice
-abbrev pub AreOnce : List ℕ → Type 0
-AreOnce marks = (number : ℕ) → get_or marks number 0 ≤ 1
+-- a bit that is set marks one row more
+pub one_more : (number before : ℕ) → number < 64 → MarksOneMore number before (bit_or before (1 * 2 ^ number % 18446744073709551616))
+one_more number before inside = (bit_at_set_same w64 before number inside, bit_at_set_other w64 before number inside)
 
-zeros_at : (k i : ℕ) → ◌≡◌ {A = ℕ} (get_or {A = ℕ} (replicate k 0) i 0) 0
-zeros_at zero i = refl
-zeros_at (suc k) zero = refl
-zeros_at (suc k) (suc i) = zeros_at k i
+pub none_marked : (rs : List Row) (all : Trees) → AreMarked rs 0 all all
+none_marked rs all i r stands = record { some = omega (arith, bit_at-zero i); each = inr (omega (arith, bit_at-zero i)) }
 
-pub zeros_marked : (rs : List Row) (k : ℕ) (all : Trees) → AreMarked rs (replicate k 0) all all
-zeros_marked rs k all i r stands = record { some = omega (arith, zeros_at k i); each = inr (omega (arith, zeros_at k i)) }
-
-pub zeros_once : (k : ℕ) → AreOnce (replicate k 0)
-zeros_once k i = omega (arith, zeros_at k i)
-
-module _ (rs : List Row) (marks : List ℕ) (left all : Trees) (s : Structure) (b n : Trees) (is : left ≡ tree s b n) (so_far : AreMarked rs marks left all) where
+module _ (rs : List Row) (marks : ℕ) (left all : Trees) (s : Structure) (b n : Trees) (is : left ≡ tree s b n) (so_far : AreMarked rs marks left all) where
   pub marked_none : IsOnlyNumber rs s.tag None → AreMarked rs marks n all
   marked_none only i r stands = elim (bool_cases (bytes_eq s.tag r.tag)) [
     | inl same ↦ (let never : None ≡ Some i = only i r stands (sym ((bytes_eq-Decides s.tag r.tag).0 same)) in cc)
-    | inr other ↦ subst (λ m. IsMarked (get_or marks i 0) m (count_of r.tag all) r.most) (count_other r.tag left s b n is other) (so_far i r stands)
+    | inr other ↦ subst (λ m. IsMarked (bit_at marks i) m (count_of r.tag all) r.most) (count_other r.tag left s b n is other) (so_far i r stands)
   ]
 
-  pub marked_some : (k : ℕ) → IsOnlyNumber rs s.tag (Some k) → (q : Row) → slice_get rs k ≡ Some q → q.tag ≡ s.tag → k < length marks → (q.most ≡ None) ⊎ (get_or marks k 0 ≡ 0) → AreMarked rs (set marks k 1) n all
-  marked_some k only q at tags inside free i r stands = elim (bool_cases (bytes_eq s.tag r.tag)) [
+  pub marked_some : (k : ℕ) → IsOnlyNumber rs s.tag (Some k) → (q : Row) → slice_get rs k ≡ Some q → q.tag ≡ s.tag → (q.most ≡ None) ⊎ (bit_at marks k ≡ 0) → (after : ℕ) → MarksOneMore k marks after → AreMarked rs after n all
+  marked_some k only q at tags free after more i r stands = elim (bool_cases (bytes_eq s.tag r.tag)) [
     | inl same ↦ (
         let tag : s.tag ≡ r.tag = (bytes_eq-Decides s.tag r.tag).0 same in
         let here : k ≡ i = some_is k i (only i r stands (sym tag)) in
         let both : q ≡ r = row_is q r (sym at ∙ ap (slice_get rs) here ∙ stands) in
-        let new : get_or (set marks k 1) i 0 ≡ 1 = rw (sym here) (get_or-set_same marks k 1 0 inside) in
+        let new : bit_at after i ≡ 1 = ap (bit_at after) (sym here) ∙ more.0 in
         let one : count_of r.tag left ≡ 1 + count_of r.tag n = count_same r.tag left s b n is tag in
-        let old : IsMarked (get_or marks i 0) (count_of r.tag left) (count_of r.tag all) r.most = so_far i r stands in
+        let old : IsMarked (bit_at marks i) (count_of r.tag left) (count_of r.tag all) r.most = so_far i r stands in
         record {
           some = omega (arith, new, one, old.some);
           each = elim free [
             | inl any ↦ inl (ap (λ (x : Row). x.most) (sym both) ∙ any)
             | inr fresh ↦ elim old.each [
               | inl any ↦ inl any
-              | inr most ↦ (let z : get_or marks i 0 ≡ 0 = subst (λ (n : ℕ). get_or marks n 0 ≡ 0) here fresh in inr (omega (arith, new, one, most, z)))
+              | inr most ↦ (let z : bit_at marks i ≡ 0 = subst (λ (n : ℕ). bit_at marks n ≡ 0) here fresh in inr (omega (arith, new, one, most, z)))
             ]
           ];
         })
     | inr other ↦ (
         let apart : i ≢ k = λ e. (let both : r ≡ q = row_is r q (sym stands ∙ ap (slice_get rs) e ∙ at) in
         let equal : bytes_eq s.tag r.tag ≡ true = (bytes_eq-Decides s.tag r.tag).1 (sym tags ∙ ap (λ (x : Row). x.tag) (sym both)) in cc) in
-        let new : get_or (set marks k 1) i 0 ≡ get_or marks i 0 = get_or-set_other marks k i 1 0 apart in
+        let new : bit_at after i ≡ bit_at marks i = more.1 i apart in
         let rest : count_of r.tag left ≡ count_of r.tag n = count_other r.tag left s b n is other in
-        let old : IsMarked (get_or marks i 0) (count_of r.tag left) (count_of r.tag all) r.most = so_far i r stands in
+        let old : IsMarked (bit_at marks i) (count_of r.tag left) (count_of r.tag all) r.most = so_far i r stands in
         record {
           some = omega (arith, new, rest, old.some);
           each = elim old.each [
@@ -90,19 +84,6 @@ module _ (rs : List Row) (marks : List ℕ) (left all : Trees) (s : Structure) (
 
       row_is : (x y : Row) → Some x ≡ Some y → x ≡ y
       row_is x y e = cc
-
--- a mark more is no second one
-pub once_set : (marks : List ℕ) (k : ℕ) → k < length marks → AreOnce marks → AreOnce (set marks k 1)
-once_set marks k inside once i = elim (nat_cases i k) [
-  | inl same ↦ (let new : get_or (set marks k 1) i 0 ≡ 1 = rw same (get_or-set_same marks k 1 0 inside) in omega (arith, new))
-  | inr other ↦ (let new : get_or (set marks k 1) i 0 ≡ get_or marks i 0 = get_or-set_other marks k i 1 0 other in omega (arith, new, once i))
-]
-  where
-    nat_cases : (x y : ℕ) → (x ≡ y) ⊎ (x ≢ y)
-    nat_cases x y = elim (bool_cases (x == y)) [
-      | inl same ↦ inl (eqb→eq x y (subst T (sym same) tt))
-      | inr other ↦ inr (λ e. grind (arith))
-    ]
 
 some_row : (x y : Row) → Some x ≡ Some y → x ≡ y
 some_row x y e = cc
@@ -130,13 +111,13 @@ simple_at needed n (suc i) (q ∷ rs) r simple e =
     let place : n + 1 + i ≡ n + suc i = omega arith in
     subst (λ (k : ℕ). IsSimple needed k r) place (simple_at needed (n + 1) i rs r rest e)
 
-least_right : (needed : Option ℕ) (marks : List ℕ) (i least count : ℕ) → (least == cond (is_needed needed i) 1 0) ≡ true → IsNeededMarked needed marks → get_or marks i 0 ≤ count → least ≤ count
+least_right : (needed : Option ℕ) (marks : ℕ) (i least count : ℕ) → (least == cond (is_needed needed i) 1 0) ≡ true → IsNeededMarked needed marks → bit_at marks i ≤ count → least ≤ count
 least_right None marks i least count same marked enough = let e : least ≡ 0 = eqb→eq least 0 (subst T (sym same) tt) in omega (arith, e)
 least_right (Some k) marks i least count same marked enough = elim (bool_cases (k == i)) [
   | inl here ↦ (
       let e : least ≡ 1 = eqb→eq least 1 (subst T (sym (rw here at same)) tt) in
       let at : k ≡ i = eqb→eq k i (subst T (sym here) tt) in
-      let some : 0 < get_or marks i 0 = subst (λ (n : ℕ). 0 < get_or marks n 0) at marked in
+      let some : 0 < bit_at marks i = subst (λ (n : ℕ). 0 < bit_at marks n) at marked in
       omega (arith, e, some, enough))
   | inr other ↦ (let e : least ≡ 0 = eqb→eq least 0 (subst T (sym (rw other at same)) tt) in omega (arith, e))
 ]
@@ -147,18 +128,18 @@ most_right (Some k) mark count one small (inl any) = cc
 most_right (Some k) mark count one small (inr few) = let e : k ≡ 1 = eqb→eq k 1 (subst T (sym one) tt) in omega (arith, e, small, few)
 
 -- where no structure is left, rows that are marked as they should be have as many structures as they ask
-pub marked_right : (needed : Option ℕ) (rs : List Row) (marks : List ℕ) (left all : Trees) → left ≡ none → are_simple needed 0 rs ≡ true → IsNeededMarked needed marks → AreOnce marks → AreMarked rs marks left all → AllByRecursion (CountsRight all) rs
-marked_right needed rs marks left all is simple needs once marked = all_rows (CountsRight all) rs (λ i r stands.
+pub marked_right : (needed : Option ℕ) (rs : List Row) (marks : ℕ) (left all : Trees) → left ≡ none → are_simple needed 0 rs ≡ true → IsNeededMarked needed marks → AreMarked rs marks left all → AllByRecursion (CountsRight all) rs
+marked_right needed rs marks left all is simple needs marked = all_rows (CountsRight all) rs (λ i r stands.
     let at : i ≡ 0 + i = omega arith in
     let row : IsSimple needed i r = subst (λ (k : ℕ). IsSimple needed k r) (sym at) (simple_at needed 0 i rs r simple stands) in
     let last : count_of r.tag left ≡ 0 = rw is refl in
-    let h : IsMarked (get_or marks i 0) (count_of r.tag left) (count_of r.tag all) r.most = marked i r stands in
-    let enough : get_or marks i 0 ≤ count_of r.tag all = omega (arith, h.some, last) in
-    let few : (r.most ≡ None) ⊎ (count_of r.tag all ≤ get_or marks i 0) = elim h.each [
+    let h : IsMarked (bit_at marks i) (count_of r.tag left) (count_of r.tag all) r.most = marked i r stands in
+    let enough : bit_at marks i ≤ count_of r.tag all = omega (arith, h.some, last) in
+    let few : (r.most ≡ None) ⊎ (count_of r.tag all ≤ bit_at marks i) = elim h.each [
       | inl any ↦ inl any
       | inr most ↦ inr (omega (arith, most, last))
     ] in
-    (least_right needed marks i r.least (count_of r.tag all) row.1 needs enough, most_right r.most (get_or marks i 0) (count_of r.tag all) row.0 (once i) few))
+    (least_right needed marks i r.least (count_of r.tag all) row.1 needs enough, most_right r.most (bit_at marks i) (count_of r.tag all) row.0 (omega (arith, bit_at-lt marks i)) few))
 
 no_trees : (t : Trees) → trees_count t ≡ 0 → t ≡ none
 no_trees none e = refl
@@ -170,7 +151,7 @@ nothing_stands start end t fills past = no_trees t (omega arith)
 
 -- and that is right where no row asks for one
 pub nothing_right : (d : Trees) (c : Context) (t : Trees) → t ≡ none → are_simple None 0 (rows c) ≡ true → AllByRecursion (CountsRight t) (rows c) × AreChecked d c t
-nothing_right d c t is simple = (marked_right None (rows c) [] t t is simple tt (zeros_once 0) (zeros_marked (rows c) 0 t), rw is tt)
+nothing_right d c t is simple = (marked_right None (rows c) 0 t t is simple tt (none_marked (rows c) t), rw is tt)
 
 -- a structure whose row is found, and the rule that stands for the row
 module _ (c : Context) (t : Trees) (s : Structure) (b n : Trees) (is : t ≡ tree s b n) (tag : Bytes) (same : tag ≡ s.tag) (rules : List Rule) (seen : map as_row rules ≡ rows c) (k : ℕ) (within : k < length (rows c)) (found : slice_get (rows c) k ≡ row c tag) (o : Rule) where
@@ -184,8 +165,8 @@ module _ (c : Context) (t : Trees) (s : Structure) (b n : Trees) (is : t ≡ tre
       let here : as_row (get_or rules k o) ≡ r = some_row (as_row (get_or rules k o)) r (sym rule_at ∙ stands) in
       ap (λ (x : Row). x.tag) here ∙ tags ∙ same
 
-  pub rule_marked : (marks : List ℕ) (all : Trees) → AreMarked (rows c) marks t all → IsOnlyNumber (rows c) s.tag (Some k) → k < length marks → ((get_or rules k o).most ≡ None) ⊎ (get_or marks k 0 ≡ 0) → AreMarked (rows c) (set marks k 1) n all
-  rule_marked marks all so_far only inside free = marked_some (rows c) marks t all s b n is so_far k only (as_row (get_or rules k o)) rule_at rule_tag inside free
+  pub rule_marked : (marks : ℕ) (all : Trees) → AreMarked (rows c) marks t all → IsOnlyNumber (rows c) s.tag (Some k) → ((get_or rules k o).most ≡ None) ⊎ (bit_at marks k ≡ 0) → (after : ℕ) → MarksOneMore k marks after → AreMarked (rows c) after n all
+  rule_marked marks all so_far only free after more = marked_some (rows c) marks t all s b n is so_far k only (as_row (get_or rules k o)) rule_at rule_tag free after more
 
   pub rule_row : row c s.tag ≡ Some (as_row (get_or rules k o))
   rule_row = ap (row c) (sym same) ∙ sym found ∙ rule_at

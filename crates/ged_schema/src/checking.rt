@@ -16,12 +16,12 @@ use crate::context::Context;
 use crate::fault::{FaultPlace, SchemaAt, SchemaFault};
 use crate::lookups::lookup_name;
 use crate::notices::{Coverage, coverage_of};
-use crate::passing::all_pass;
+use crate::passing::{Pass, all_pass};
 use crate::payloads::{given_of, points_right};
 use crate::rule::Rule;
 use crate::slots::row_number;
 use crate::tables::rows;
-use ged_link::Index;
+use ged_link::{Index, PointerCursor};
 use ged_tree::{Forest, end_of_all, next_in_run};
 use ged_value::{Kind, fits};
 
@@ -155,7 +155,8 @@ fn own_fault<F: Forest>(
             fault: payload_fault(rule.kind),
         });
     }
-    if !points_right(forest, index, rule.kind, payload, place) {
+    let mut pointers = PointerCursor::new();
+    if !points_right(forest, index, rule.kind, payload, place, &mut pointers) {
         return Some(FaultPlace {
             place,
             fault: SchemaFault::WrongTarget,
@@ -202,9 +203,12 @@ pub(crate) fn check_tables<F: Forest>(forest: &F, index: &Index) -> Result<Cover
         (λ at. IsFirstFault (F.trees forest.now) at) }
 {
     let end = end_of_all(forest);
-    let mut noted = false;
-    if all_pass(forest, index, Context::File, 0, end, &mut noted) {
-        return Ok(if noted {
+    let mut pass = Pass {
+        noted: false,
+        pointers: PointerCursor::new(),
+    };
+    if all_pass(forest, index, Context::File, 0, end, &mut pass) {
+        return Ok(if pass.noted {
             Coverage::Partial
         } else {
             Coverage::Whole

@@ -7,6 +7,7 @@
 
 mod checking;
 mod context;
+mod context_rows;
 mod fault;
 mod laws;
 mod lookups;
@@ -20,6 +21,7 @@ mod tables;
 
 pub use checking::check;
 pub use context::Context;
+pub use context_rows::ContextRows;
 pub use fault::{SchemaAt, SchemaFault};
 pub use laws::{
     checked_or_fault, distinct_tags, fault_of_unchecked, no_fault_of_checked, none_is_unlisted,

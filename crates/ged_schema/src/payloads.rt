@@ -4,6 +4,7 @@ ghost use Rattle.ged_tree.specs.Trees.{Trees, trees_count, further_lines};
 ghost use Rattle.ged_tree.specs.Documents.{is_document};
 ghost use Rattle.ged_tree.specs.Places.{structure_at};
 ghost use Rattle.ged_tree.specs.Views.{payload_of};
+ghost use Rattle.ged_tree.specs.declared.payload.Payload.TheVariants.{Pointer};
 ghost use Rattle.ged_value.specs.declared.kind.Kind.{Kind as AnyKind};
 ghost use Rattle.ged_value.specs.Kinds.{Fits as FitsGiven};
 ghost use Rattle.ged_link.specs.Links.{SomeTree};
@@ -12,7 +13,7 @@ ghost use Rattle.ged_link.specs.RecordTypes.{record_tag};
 ghost use Rattle.ged_schema.specs.Payloads.{IsOfKind, target};
 ghost use Rattle.ged_schema.specs.Checked.{IsRecordNamed, PointsRight};
 
-use ged_link::{Index, RecordType};
+use ged_link::{Index, PointerCursor, RecordType};
 use ged_tree::{Forest, PayloadView};
 use ged_value::{Given, Kind};
 
@@ -35,33 +36,47 @@ pub(crate) fn given_of<'a, F: Forest>(
     }
 }
 
-/// The type of the records to which pointers of a kind lead.
+/// The type of the records to which pointers of a kind lead. Whether there is one is asked first, so that the type is told
+/// without a branch for each kind.
 #[tactic(auto, unfolding(crate::specs::Payloads::target))]
 #[inline(always)]
-fn target_type(kind: Kind) -> Option<RecordType>
+pub(crate) fn target_type(kind: Kind) -> Option<RecordType>
     ensures { option_map record_tag result ≡ target kind }
 {
-    match kind {
-        Kind::ToFam => Some(RecordType::Fam),
-        Kind::ToIndi => Some(RecordType::Indi),
-        Kind::ToSubm => Some(RecordType::Subm),
-        Kind::ToSnote => Some(RecordType::Snote),
-        Kind::ToSour => Some(RecordType::Sour),
-        Kind::ToObje => Some(RecordType::Obje),
-        _ => None,
+    if !matches!(
+        kind,
+        Kind::ToFam | Kind::ToIndi | Kind::ToSubm | Kind::ToSnote | Kind::ToSour | Kind::ToObje
+    ) {
+        return None;
     }
+    Some(match kind {
+        Kind::ToIndi => RecordType::Indi,
+        Kind::ToSubm => RecordType::Subm,
+        Kind::ToSnote => RecordType::Snote,
+        Kind::ToSour => RecordType::Sour,
+        Kind::ToObje => RecordType::Obje,
+        _ => RecordType::Fam,
+    })
 }
 
-/// Whether a name is the identifier of a record of a type.
+/// Whether the name of the pointer at a place is the identifier of a record of a type.
 #[inline(always)]
-fn names_record(index: &Index, name: &str, wanted: RecordType) -> bool
+pub(crate) fn names_record(
+    index: &Index,
+    place: usize,
+    name: &str,
+    wanted: RecordType,
+    pointers: &mut PointerCursor,
+) -> bool
     ensures { (document : Trees) → IsIndexOf document index.now → is_document document ≡ true
+        → Pointer name.now ≡ (structure_at document place).payload
         → IsTrue result ↔ SomeTree (IsRecordNamed name.now (record_tag wanted)) document }
 {
-    index.leads_to(name, wanted)
+    index.leads_at(place, name, wanted, pointers)
 }
 
-/// Whether a payload, that of the structure at a place, leads to a record of the type that the kind names.
+/// Whether a payload, that of the structure at a place, leads to a record of the type that the kind names. The cursor
+/// tells where the index begins to look for a pointer.
 #[inline(always)]
 pub(crate) fn points_right<F: Forest>(
     forest: &F,
@@ -69,6 +84,7 @@ pub(crate) fn points_right<F: Forest>(
     kind: Kind,
     payload: PayloadView<'_>,
     place: usize,
+    pointers: &mut PointerCursor,
 ) -> bool
     requires within { place < trees_count (F.trees forest.now) }
     requires index { IsIndexOf (F.trees forest.now) index.now }
@@ -81,7 +97,7 @@ pub(crate) fn points_right<F: Forest>(
         return true;
     };
     match payload {
-        PayloadView::Pointer(name) => names_record(index, name, wanted),
+        PayloadView::Pointer(name) => names_record(index, place, name, wanted, pointers),
         _ => true,
     }
 }

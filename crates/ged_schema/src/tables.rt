@@ -15,7 +15,9 @@ use header::{DATE_TIME, FILE, GEDC, HEAD, HEAD_DATA, HEAD_PLAC, HEAD_SOUR, SCHMA
 use persons::{
     ADOP_FAMC, INDI, INDI_ADOP, INDI_BIRTH, INDI_FACT, INDI_FAMC, INDI_NAMED, NAME_MORE, NAME_TRAN,
 };
-use shared::{ASSO, CHAN, CITE, CITE_DATA, CREA, DATE_MORE, NON_EVENT, NOTE, NOTES, PHRASE, TYPED};
+use shared::{
+    ASSO, CHAN, CITE, CITE_DATA, CREA, DATE_MORE, NON_EVENT, NOTE, NOTES, NOTHING, PHRASE, TYPED,
+};
 
 /// The rows of a context, in the order in which their counts are judged. There are none in `Leaf` and in `Unchecked`.
 /// Takes no memory (FamilySearch GEDCOM 7.0, "Structure Organization").
@@ -57,6 +59,6 @@ pub fn rows(context: Context) -> &'static [Rule]
         Context::Cite => &CITE,
         Context::CiteData => &CITE_DATA,
         Context::Note => &NOTE,
-        Context::Leaf | Context::Unchecked => &[],
+        Context::Leaf | Context::Unchecked => &NOTHING,
     }
 }

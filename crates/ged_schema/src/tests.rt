@@ -1,5 +1,5 @@
 // The tables against a second writing of them, and each public call once.
-use crate::{Context, lookup, lookup_name, rows};
+use crate::{Context, ContextRows, lookup, lookup_name, rows};
 use ged_line::Tag;
 use ged_value::Kind;
 use std::alloc::{AllocError, Global};
@@ -268,5 +268,22 @@ fn looks_up_rows(rt: HostRuntime) -> Result<(), Fail> {
         let found = lookup_name(context, name).map(|rule| rule.below);
         assert_eq!(rt; found, below, "{context:?} {name}");
     }
+    Ok(())
+}
+
+#[test]
+fn keeps_the_rows_of_a_context(rt: HostRuntime) -> Result<(), Fail> {
+    let header = ContextRows::of(Context::Gedc);
+    match header.row("VERS") {
+        Some(rule) => {
+            assert_eq!(rt; (rule.tag, rule.least, rule.most), ("VERS", 1, Some(1)));
+            assert_eq!(rt; (rule.kind, rule.below), (Kind::Version, Context::Leaf));
+        }
+        None => assert!(rt; false, "GEDC has a row for VERS"),
+    }
+    for name in ["GEDC", "VER", "VERSE", "vers", "_VERS", ""] {
+        assert!(rt; header.row(name).is_none(), "{name}");
+    }
+    assert!(rt; ContextRows::of(Context::Leaf).row("VERS").is_none());
     Ok(())
 }

@@ -1,27 +1,31 @@
 -- A flat table lists a document's structures.
-use Rattle.std.proofs.Common.{false, take, drop, [], ◌∷◌, Some, slice_get, inl, inr, ◌≡◌, ℕ, suc, zero, ◌+◌, ◌-◌, ◌^◌, ◌<◌, List, length, get_or, sym, subst, ◌∙◌, ap, refl, arith, ◌++◌, decimal, length-append}
+use Rattle.std.proofs.Common.{true, false, take, drop, [], ◌∷◌, Some, slice_get, inl, inr, ◌≡◌, ℕ, suc, zero, ◌+◌, ◌-◌, ◌^◌, ◌<◌, ◌≤◌, List, length, get_or, sym, subst, ◌∙◌, ap, refl, arith, ◌++◌, decimal, length-append}
 use Rattle.std.specs.Option.{option_map}
 use Rattle.std.specs.List.{AllByRecursion}
-use Rattle.std.proofs.lemmas.List.{length-map, get_or_default, length-take, length-drop, get_or-take, get_or-drop}
+use Rattle.std.proofs.lemmas.List.{length-map, drop-map, take-map, get_or_default, length-take, length-drop, get_or-take, get_or-drop}
 use Rattle.std.proofs.lemmas.Option.{slice_get-get_or, slice_get-map}
 use Rattle.std.proofs.Math.Nat.{min-le_left, min-le_right}
 use Rattle.ged_line.specs.Bytes.{Bytes}
-use Rattle.ged_line.specs.Lines.{LineParts, LineText, xref_part, Value, Empty, Void, Pointer, Text}
-use Rattle.std.specs.Prelude.{nat_lt}
-use Rattle.std.proofs.lemmas.Bool.{cases_lt, ltb-false}
+use Rattle.ged_line.specs.Lines.{LineParts, LineText, xref_part, is_value, Value, Empty, Void, Pointer, Text}
+use Rattle.ged_line.specs.Spelling.{value_part}
+use Rattle.ged_line.proofs.LineLaws.{line_is}
+use Rattle.ged_line.proofs.NameTests.{bool_cases}
+use Rattle.std.proofs.lemmas.Bool.Decides.{nat_tests}
+use Rattle.std.specs.Prelude.{nat_lt, nat_le}
+use Rattle.std.proofs.lemmas.Bool.{true≢false, cases_lt, ltb-false}
 use Rattle.ged_tree.specs.Trees.{Trees, none, tree, trees_count, further_lines, line_count, lines_count}
 use Rattle.ged_tree.specs.Places.{structure_at, below_at, place_after, level_at, line_at}
-use Rattle.ged_tree.specs.Views.{payload_of}
+use Rattle.ged_tree.specs.Views.{payload_of, is_pointer}
 use Rattle.ged_tree.specs.Spelled.{payload_from}
-use Rattle.ged_tree.specs.DocumentLines.{line_value}
+use Rattle.ged_tree.specs.DocumentLines.{line_value, first_value, rest_of_line}
 use Rattle.ged_tree.specs.Tables.{own_value}
-use Rattle.ged_tree.specs.Rows.{Row, row_of, rows_from, texts_of, places_of, further_before, further_at, flat_trees, IsListed, IsFlat, IsSpelled, line_shown, Shown, shown_from, shown_with, text_at, kept_level, kept_levels, kept_further, HasSlice, deeper}
+use Rattle.ged_tree.specs.Rows.{Row, row_of, rows_from, texts_of, places_of, further_before, further_at, flat_trees, IsListed, IsFlat, IsSpelled, line_shown, Shown, shown_from, shown_with, text_at, kept_level, kept_levels, kept_further, kept_tag_length, kept_points, names_record, rest_of, HasSlice, deeper}
 use Rattle.ged_tree.specs.declared.payload.PayloadView.{PayloadView}
 use Rattle.ged_tree.specs.declared.payload.PayloadView.TheVariants as views
 use Rattle.ged_tree.specs.declared.payload.Payload.TheVariants.{Text as Texts}
 use Rattle.ged_tree.specs.declared.kept.KeptStructure.{KeptStructure}
 use Rattle.ged_tree.specs.declared.kept.TextApart.{TextApart}
-use Rattle.ged_tree.specs.declared.flat.FurtherLine.{FurtherLine}
+use Rattle.ged_tree.specs.declared.further.FurtherLine.{FurtherLine}
 use Rattle.ged_tree.proofs.FoundLemmas.{line_first, line_below, line_next, few_of_document}
 use Rattle.ged_tree.proofs.RowLemmas.{length-rows_of, rows_at, row_at}
 use Rattle.ged_tree.proofs.KeptLemmas.{length-shown, levels_behind, shown_here, slice_at}
@@ -36,6 +40,20 @@ view_again (views.Text first) value further e = rw (← e) (text_again first.now
     text_again : (text : Bytes) → Texts (text ∷ further_lines (payload_from (line_value text) further)) ≡ payload_from (line_value text) further
     text_again [] = refl
     text_again (b ∷ bs) = refl
+
+-- a value is a pointer where its payload is one, and it is the payload's first
+points_from : (v : Value) (further : List Bytes) → names_record v ≡ is_pointer (payload_from v further)
+points_from Empty further = refl
+points_from Void further = refl
+points_from (Pointer name) further = refl
+points_from (Text text) further = refl
+
+first_from : (v : Value) (further : List Bytes) → is_value v ≡ true → first_value (payload_from v further) ≡ v
+first_from Empty further i = refl
+first_from Void further i = refl
+first_from (Pointer name) further i = refl
+first_from (Text []) further i = absurd (true≢false (sym i))
+first_from (Text (c ∷ cs)) further i = refl
 
 further_kept : (v : Value) (lines : List (Bytes)) (n : ℕ) → n < length (further_lines (payload_from v lines)) → further_lines (payload_from v lines) ≡ lines
 further_kept Empty lines n h = refl
@@ -69,9 +87,33 @@ spelled_at [] i s h e a = absurd (omega arith)
 spelled_at (x ∷ xs) zero s h e a = subst IsSpelled (sym e) a.0
 spelled_at (x ∷ xs) (suc i) s h e a = spelled_at xs i s (omega arith) e a.1
 
+pub nothing : (lines : List Bytes) → length lines ≡ 0 → lines ≡ []
+nothing [] e = refl
+nothing (line ∷ lines) e = absurd (omega (arith, e))
+
+pub texts_cut : (count start : ℕ) (further : List FurtherLine) → texts_of (take count (drop start further)) ≡ take count (drop start (texts_of further))
+texts_cut count start further =
+    sym (take-map (λ (line : FurtherLine). line.text.now) count (drop start further))
+    ∙ ap (λ (xs : List Bytes). take count xs) (sym (drop-map (λ (line : FurtherLine). line.text.now) start further))
+
+-- further lines before a place are some of all, and some of those before the next place
+pub before_within : (place : ℕ) (afters : List ℕ) → further_before place afters ≤ length afters
+before_within place [] = omega arith
+before_within place (after ∷ afters) = elim (bool_cases (nat_le after place)) [
+  | inl t ↦ rw t (let rest = before_within place afters in omega (arith, rest))
+  | inr f ↦ rw f (omega arith)
+]
+
+pub before_next : (place : ℕ) (afters : List ℕ) → further_before place afters ≤ further_before (place + 1) afters
+before_next place [] = omega arith
+before_next place (after ∷ afters) = elim (bool_cases (nat_le after place)) [
+  | inl t ↦ (let also : nat_le after (place + 1) ≡ true = grind (arith, nat_tests) in rw (t, also) (let rest = before_next place afters in omega (arith, rest)))
+  | inr f ↦ rw f (omega arith)
+]
+
 -- for places that no structure has
 abbrev no_structure : Shown
-no_structure = record { text = []; level = 0; tag_start = 0; tag_length = 0; has_further = false }
+no_structure = record { text = []; level = 0; tag_start = 0; tag_length = 0; points = false; has_further = false }
 
 -- a structure begins before the lines of its trees end
 line_within : (l : ℕ) (w : Trees) (p : ℕ) → p < trees_count w → line_at l w p < l + lines_count w
@@ -129,6 +171,25 @@ module _ (structures : List Shown) (further : List FurtherLine) (flat : IsListed
       let at = part_at texts start count n (rw kept at inside) in
       (omega (arith, at.0, length-map further (λ (line : FurtherLine). line.text.now)), ap (λ (xs : List (Bytes)). slice_get xs n) (sym same ∙ kept) ∙ at.1 ∙ slice_get-map (λ (line : FurtherLine). line.text.now) further (start + n))
 
+  -- the further lines of a structure stand side by side
+  pub flat_lines : (place : ℕ) → place < length structures
+      → take (further_at place (places_of further)) (drop (further_before place (places_of further)) (texts_of further)) ≡ further_lines (structure_at (flat_trees structures further) place).payload
+  unfolding structure_at
+  flat_lines place h =
+      let texts = texts_of further in
+      let afters = places_of further in
+      let start = further_before place afters in
+      let count = further_at place afters in
+      let s = get_or structures place no_structure in
+      let part = take count (drop start texts) in
+      let row = flat_at place s h (get_or_default structures place no_structure s h) in
+      let same : further_lines (payload_from (line_shown s).value part) ≡ further_lines (structure_at (flat_trees structures further) place).payload = ap (λ (x : Row). further_lines x.structure.payload) row in
+      let many : count ≡ length (further_lines (payload_from (line_shown s).value part)) = ap (λ (x : Row). x.further) row ∙ ap (λ (xs : List Bytes). length xs) (sym same) in
+      elim (cases_lt 0 count) [
+        | inl some ↦ sym (further_kept (line_shown s).value part 0 (omega (arith, some, many))) ∙ same
+        | inr few ↦ (let zero : count ≡ 0 = omega (arith, few) in rw zero (sym (nothing (further_lines (structure_at (flat_trees structures further) place).payload) (omega (arith, zero, many, ap (λ (xs : List Bytes). length xs) same)))))
+      ]
+
   pub flat_count_at : (place : ℕ) → place < length structures → further_at place (places_of further) ≡ length (further_lines (structure_at (flat_trees structures further) place).payload)
   unfolding structure_at
   flat_count_at place h =
@@ -158,6 +219,7 @@ pub record ShowsAt (w : Trees) (place : ℕ) (s : Shown) : Type 0 where
   pub tag : (line_shown s).tag ≡ (structure_at w place).tag
   pub xref : (line_shown s).xref ≡ (structure_at w place).xref
   pub payload : (v : PayloadView) → own_value v ≡ (line_shown s).value → payload_of v (further_lines (structure_at w place).payload) ≡ (structure_at w place).payload
+  pub rest : rest_of (line_shown s) ≡ rest_of_line (structure_at w place)
   pub spelled : IsSpelled s
 
 -- a structure as it is kept
@@ -212,5 +274,14 @@ module _ (file : Bytes) (apart : List TextApart) (structures : List KeptStructur
       tag = ap (λ (x : Row). x.structure.tag) kept_row;
       xref = ap (λ (x : Row). x.structure.xref) kept_row;
       payload = λ v same. rw (← (ap (λ (x : Row). x.structure.payload) kept_row)) (view_again v (line_shown here).value _ same);
+      rest =
+          let first = first_from (line_shown here).value _ (line_is (line_shown here) kept_spelled.0.is_line).value in
+          ap (λ (v : Value). (line_shown here).tag ++ value_part v) (sym first) ∙ ap (λ (x : Row). rest_of_line x.structure) kept_row;
       spelled = kept_spelled;
     })
+
+    -- a structure's mark tells whether it has a pointer
+    pub kept_pointer : 0 < kept_tag_length s → kept_points s ≡ is_pointer (structure_at (flat_trees all further) place).payload
+    unfolding structure_at
+    kept_pointer some =
+        (kept_spelled.1 some).1 ∙ points_from (line_shown here).value _ ∙ ap (λ (x : Row). is_pointer x.structure.payload) kept_row

@@ -144,7 +144,7 @@ go_on_set (x ∷ z ∷ xs) (suc i) s y is l e = last (slice_set (z ∷ xs) i y) 
 
 -- the mark tells the level as before, and that the payload goes on
 abbrev remarked : KeptStructure → ℕ → KeptStructure
-remarked s mark = record { start = s.start; size = s.size; length = s.length; mark = mark; tag_start = s.tag_start; tag_length = s.tag_length }
+remarked s mark = record { start = s.start; size = s.size; length = s.length; mark = mark; tag_start = s.tag_start; tag_mark = s.tag_mark }
 
 module _ (items : List KeptStructure) (i : ℕ) (s : KeptStructure) (mark : ℕ) (is : s ≡ get_or items i s) (last : i + 1 ≡ length items)
     (level : mark % 128 ≡ s.mark % 128) (further : kept_further (remarked s mark) ≡ true) where

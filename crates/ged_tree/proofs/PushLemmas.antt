@@ -9,7 +9,7 @@ use Rattle.ged_tree.specs.Rows.{Shown, shown_with, shown_from, text_at, IsSpelle
 use Rattle.ged_tree.specs.Rows.{texts_of, places_of}
 use Rattle.ged_tree.specs.TreeFaults.{is_cont, is_trailer}
 use Rattle.ged_tree.specs.Tables.{OwnLine, own_line, line_text, table_shown, IsKept, IsSliceAt, Shows, HasStructure, IsPut, TellsFurther}
-use Rattle.ged_tree.specs.declared.flat.FurtherLine.{FurtherLine}
+use Rattle.ged_tree.specs.declared.further.FurtherLine.{FurtherLine}
 use Rattle.ged_tree.specs.declared.kept.KeptStructure.{KeptStructure}
 use Rattle.ged_tree.specs.declared.kept.TextApart.{TextApart}
 use Rattle.ged_tree.specs.declared.table.TableBuilder.{TableBuilder}

@@ -1,16 +1,18 @@
 -- A structure's tag, identifier and payload, cut from its text where its tag is kept.
-use Rattle.std.proofs.Common.{◌≡◌, ◌≢◌, ℕ, ◌+◌, ◌-◌, ◌<◌, ◌≤◌, true, [], ◌∷◌, ◌++◌, Option, Some, None, length, take, drop, get_or, decimal, refl, sym, ◌∙◌, ap, subst, arith, inl, inr, append_assoc, append-nil, length-append}
+use Rattle.std.proofs.Common.{◌≡◌, ◌≢◌, ℕ, ◌+◌, ◌-◌, ◌<◌, ◌≤◌, ◌==◌, true, [], ◌∷◌, ◌++◌, Option, Some, None, length, take, drop, get_or, decimal, refl, sym, ◌∙◌, ap, subst, arith, inl, inr, append_assoc, append-nil, length-append}
 use Rattle.std.proofs.lemmas.List.{take_at, drop_at, get_or-append_right}
+use Rattle.std.proofs.lemmas.Bool.{true≢false}
 use Rattle.std.proofs.lemmas.Bool.Decides.{nat_tests}
 use Rattle.std.proofs.lemmas.Fmt.{decimal_digit}
 use Rattle.std.proofs.lemmas.Str.{IsCharBoundary-end, IsCharBoundary-before_ascii}
 use Rattle.std.specs.Str.{IsCharBoundary}
 use Rattle.ged_line.specs.Bytes.{Bytes}
 use Rattle.ged_line.specs.Characters.{is_tag_character}
-use Rattle.ged_line.specs.Lines.{LineParts, LineText, IsValuePart, may_be_xref, xref_part, Value}
+use Rattle.ged_line.specs.Lines.{LineParts, LineText, IsValuePart, may_be_xref, xref_part, is_value, Value, Empty, Void, Pointer, Text}
+use Rattle.ged_line.specs.Spelling.{value_part}
 use Rattle.ged_line.proofs.Levels.{decimal_two}
 use Rattle.ged_line.proofs.LineLaws.{line_is, part_ends}
-use Rattle.ged_line.proofs.NameTests.{AreTagCharacters, tag_each, xref_each}
+use Rattle.ged_line.proofs.NameTests.{AreTagCharacters, tag_each, xref_each, bool_cases}
 use Rattle.ged_tree.specs.Spelled.{shown_value}
 use Rattle.ged_tree.proofs.SpelledLemmas.{value_shown}
 
@@ -86,6 +88,25 @@ has_name : (xref : Option Bytes) → may_be_xref xref ≡ true → length (xref_
 has_name None x h = absurd (h refl)
 has_name (Some name) x h = record { name = name; is = refl; part = refl; ascii = xref_each name x }
 
+-- a part of one byte is the space of an empty value, and any other part is the canonical one
+alone_empty : (v : Value) (part : Bytes) → is_value v ≡ true → IsValuePart v part → length part ≡ 1 → v ≡ Empty
+alone_empty Empty part i e h = refl
+alone_empty Void part i e h = absurd (let size = ap (λ (bs : Bytes). length bs) e in omega (arith, h, size))
+alone_empty (Pointer name) part i e h =
+    absurd (let size = ap (λ (bs : Bytes). length bs) e in omega (arith, h, size, length-append name (64 ∷ [])))
+alone_empty (Text []) part i e h = absurd (true≢false (sym i))
+alone_empty (Text (c ∷ cs)) part i e h = elim (bool_cases (c == 64)) [
+  | inl s ↦ absurd (let size = ap (λ (bs : Bytes). length bs) (rw s at e) in omega (arith, h, size))
+  | inr n ↦ absurd (let size = ap (λ (bs : Bytes). length bs) (rw n at e) in omega (arith, h, size))
+]
+
+part_spelled : (v : Value) (part : Bytes) → IsValuePart v part → ¬ (length part ≡ 1) → part ≡ value_part v
+part_spelled Empty part (inl e) other = e
+part_spelled Empty part (inr e) other = absurd (other (ap (λ (bs : Bytes). length bs) e))
+part_spelled Void part e other = e
+part_spelled (Pointer name) part e other = e
+part_spelled (Text text) part e other = e
+
 -- a line's text, whose tag begins at a place and has a length
 module _ (line : LineParts) (text : Bytes) (t : LineText line text) (start size : ℕ)
     (at : start ≡ length (decimal line.level) + 1 + length (xref_part line.xref)) (long : size ≡ length line.tag) where
@@ -119,6 +140,22 @@ module _ (line : LineParts) (text : Bytes) (t : LineText line text) (start size 
 
   pub part_is : drop (start + size) text ≡ t.value_part
   part_is = last_is text front line.tag t.value_part whole_line start (start + size) begins ends
+
+  rest_is : drop start text ≡ line.tag ++ t.value_part
+  rest_is = ap (λ (bs : Bytes). drop start bs) whole_line ∙ drop_at front (line.tag ++ t.value_part) start (sym begins)
+
+  whole_length : length text ≡ start + size + length t.value_part
+  whole_length = omega (arith, ends, ap (λ (bs : Bytes). length bs) whole_line, length-append front (line.tag ++ t.value_part), length-append line.tag t.value_part)
+
+  -- behind the tag of an empty value one space may stand
+  pub rest_alone : length text ≡ start + size + 1 → take (start + size - start) (drop start text) ≡ line.tag ++ value_part line.value
+  rest_alone e =
+      let empty = alone_empty line.value t.value_part (line_is line t.is_line).value t.value (omega (arith, e, whole_length)) in
+      tag_is ∙ sym (append-nil line.tag) ∙ ap (λ (v : Value). line.tag ++ value_part v) (sym empty)
+
+  pub rest_whole : ¬ (length text ≡ start + size + 1) → drop start text ≡ line.tag ++ value_part line.value
+  rest_whole other =
+      rest_is ∙ ap (λ (bs : Bytes). line.tag ++ bs) (part_spelled line.value t.value_part t.value (λ (z : length t.value_part ≡ 1). other (omega (arith, z, whole_length))))
 
   pub part_shown : shown_value t.value_part ≡ line.value
   part_shown = value_shown line.value t.value_part (line_is line t.is_line).value t.value

@@ -3,6 +3,7 @@ use Rattle.std.specs.Prelude.{◌≡◌, ℕ, true, ◌+◌, List, [], ◌∷◌
 use Rattle.ged_line.specs.Bytes.{Bytes}
 use Rattle.ged_line.specs.Lines.{Value, Empty, LineParts, line_parts}
 use Rattle.ged_line.specs.Lines.{Void as VoidValue, Pointer as PointerValue, Text as TextValue}
+use Rattle.ged_line.specs.Spelling.{value_part}
 use Rattle.ged_tree.specs.Trees.{Structure, Trees, none, tree, further_lines}
 use Rattle.ged_tree.specs.Documents.{is_document}
 use Rattle.ged_tree.specs.declared.payload.Payload.{Payload}
@@ -19,6 +20,10 @@ first_value Void = VoidValue
 first_value (Pointer name) = PointerValue name
 first_value (Text []) = Empty
 first_value (Text (line ∷ lines)) = line_value line
+
+-- what stands on a structure's own line from its tag on, in the canonical spelling
+abbrev pub rest_of_line : Structure → Bytes
+rest_of_line s = s.tag ++ value_part (first_value s.payload)
 
 -- one CONT line for each further line of a payload
 abbrev pub continued : ℕ → List Bytes → List LineParts

@@ -12,6 +12,7 @@ pub mod PathLines
 pub mod Laws
 pub mod Spelled
 pub mod Rows
+pub mod Further
 pub mod TreeCodes
 pub mod TreeSizes
 pub mod TreeFaults

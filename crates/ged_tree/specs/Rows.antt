@@ -1,16 +1,18 @@
 -- The rows of a flat table, one for each structure; only the table's own functions cite this.
-use Rattle.std.specs.Prelude.{◌≡◌, ℕ, ◌+◌, ◌-◌, ◌%◌, ◌<◌, ◌==◌, nat_lt, nat_le, if◌then◌else◌, Bool, true, List, [], ◌∷◌, ◌++◌, length, map, take, drop, decimal}
+use Rattle.std.specs.Prelude.{◌≡◌, ℕ, ◌+◌, ◌-◌, ◌%◌, ◌<◌, ◌==◌, nat_lt, nat_le, if◌then◌else◌, Bool, true, false, List, [], ◌∷◌, ◌++◌, length, map, take, drop, decimal}
 use Rattle.std.specs.List.{AllByRecursion}
 use Rattle.std.specs.List.Sorted.{IsNonDecreasingBy}
 use Rattle.std.specs.Str.{IsCharBoundary}
 use Rattle.ged_line.specs.Bytes.{Bytes}
-use Rattle.ged_line.specs.Lines.{LineParts, LineText, xref_part}
+use Rattle.ged_line.specs.Lines.{LineParts, LineText, Value, xref_part}
+use Rattle.ged_line.specs.Lines as value
+use Rattle.ged_line.specs.Spelling.{value_part}
 use Rattle.ged_tree.specs.Trees.{Structure, Trees, none, tree, trees_count, further_lines, line_count, lines_count}
 use Rattle.ged_tree.specs.Documents.{is_document}
 use Rattle.ged_tree.specs.Runs.{leading}
 use Rattle.ged_tree.specs.Spelled.{shown_line, payload_from}
-use Rattle.ged_tree.specs.declared.flat.FlatStructure.{FlatStructure}
-use Rattle.ged_tree.specs.declared.flat.FurtherLine.{FurtherLine}
+use Rattle.ged_tree.specs.declared.flat_structure.FlatStructure.{FlatStructure}
+use Rattle.ged_tree.specs.declared.further.FurtherLine.{FurtherLine}
 use Rattle.ged_tree.specs.declared.kept.KeptStructure.{KeptStructure}
 use Rattle.ged_tree.specs.declared.kept.TextApart.{TextApart}
 
@@ -54,13 +56,22 @@ trees_of_rows place (r ∷ rs) =
     (leading (trees_of_rows (place + 1) rs) (r.after - (place + 1)))
     (trailing (trees_of_rows (place + 1) rs) (r.after - (place + 1)))
 
+-- the value is a pointer that names a record
+abbrev pub names_record : Value → Bool
+names_record value.Empty = false
+names_record value.Void = false
+names_record (value.Pointer name) = true
+names_record (value.Text text) = false
+
 -- what a table shows of a structure: the whole line on which it begins, its level, where its tag begins in the line, how
--- many bytes the tag has, or 0 where that is not kept, and whether its payload has lines past the first
+-- many bytes the tag has, or 0 where that is not kept, whether a pointer stands behind it, and whether its payload has lines
+-- past the first
 pub record Shown : Type 0 where
   pub text : Bytes
   pub level : ℕ
   pub tag_start : ℕ
   pub tag_length : ℕ
+  pub points : Bool
   pub has_further : Bool
 
 -- the level of a structure, and whether its payload has lines past the first, in one mark
@@ -69,6 +80,13 @@ kept_level s = s.mark % 128
 
 abbrev pub kept_further : KeptStructure → Bool
 kept_further s = nat_lt 127 s.mark
+
+-- the length of a structure's tag, and whether a pointer stands behind it, in one mark
+abbrev pub kept_tag_length : KeptStructure → ℕ
+kept_tag_length s = s.tag_mark % 128
+
+abbrev pub kept_points : KeptStructure → Bool
+kept_points s = nat_lt 127 s.tag_mark
 
 -- the text of the structure at a place among those kept apart; there is none where it is empty
 abbrev pub text_apart : List TextApart → ℕ → Bytes
@@ -81,7 +99,7 @@ text_at file apart place s = if s.length == 255 then text_apart apart place else
 
 -- a structure with this text
 abbrev pub shown_with : Bytes → KeptStructure → Shown
-shown_with text s = record { text = text; level = kept_level s; tag_start = s.tag_start; tag_length = s.tag_length; has_further = kept_further s }
+shown_with text s = record { text = text; level = kept_level s; tag_start = s.tag_start; tag_length = kept_tag_length s; points = kept_points s; has_further = kept_further s }
 
 abbrev pub shown_of : FlatStructure → Shown
 shown_of s = shown_with s.text.now s.kept
@@ -99,11 +117,20 @@ HasSlice file s = s.length < 255 → IsCharBoundary file s.start × IsCharBounda
 abbrev pub line_shown : Shown → LineParts
 line_shown s = shown_line s.level s.text
 
+-- the tag of a line stands between two places of the text that spells the line
+abbrev pub HasTagAt : LineParts → Bytes → ℕ → ℕ → Type 0
+HasTagAt line text start end = LineText line text × (start ≡ length (decimal line.level) + 1 + length (xref_part line.xref)) × (end ≡ start + length line.tag)
+
+-- what stands on a line from its tag on, in the canonical spelling
+abbrev pub rest_of : LineParts → Bytes
+rest_of line = line.tag ++ value_part line.value
+
 -- Where a structure keeps the length of its tag, it keeps where the tag begins in its text too: behind the level, a space
--- and a cross-reference identifier.
+-- and a cross-reference identifier; and whether a pointer stands behind the tag.
 abbrev pub HasTagKept : Shown → Type 0
 HasTagKept s = 0 < s.tag_length
-    → (s.tag_start ≡ length (decimal s.level) + 1 + length (xref_part (line_shown s).xref)) × (s.tag_length ≡ length (line_shown s).tag)
+    → ((s.tag_start ≡ length (decimal s.level) + 1 + length (xref_part (line_shown s).xref)) × (s.tag_length ≡ length (line_shown s).tag))
+    × (s.points ≡ names_record (line_shown s).value)
 
 -- the text spells the line that it shows, and the tag stands where it is kept
 abbrev pub IsSpelled : Shown → Type 0

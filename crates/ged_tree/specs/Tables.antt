@@ -76,7 +76,7 @@ end_from level structures place = place + deeper level (kept_levels (drop place 
 
 -- a structure apart from its size
 abbrev pub unsized : KeptStructure → KeptStructure
-unsized s = record { start = s.start; size = 0; length = s.length; mark = s.mark; tag_start = s.tag_start; tag_length = s.tag_length }
+unsized s = record { start = s.start; size = 0; length = s.length; mark = s.mark; tag_start = s.tag_start; tag_mark = s.tag_mark }
 
 -- the same structures, the last of which goes on
 pub record TellsFurther (old new : List KeptStructure) : Type 0 where

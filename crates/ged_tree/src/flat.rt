@@ -1,175 +1,23 @@
 // A document as a table of slices of its file.
-ghost use Rattle.std.specs.Prelude.{◌≡◌, ◌≤◌, ◌<◌, ◌+◌, ◌^◌, Some, true, length, decimal, nat_le, option_map, slice_get, slice_index};
-ghost use Rattle.ged_line.specs.Lines.{Value, IsValuePart, is_value};
+ghost use Rattle.std.specs.Prelude.{◌≡◌, ◌<◌, IfSome, Some, true, length, nat_le, option_map, slice_get};
 ghost use Rattle.ged_tree.specs.Trees.{trees_count, further_lines};
 ghost use Rattle.ged_tree.specs.Documents.{is_document};
+ghost use Rattle.ged_tree.specs.DocumentLines.{rest_of_line};
 ghost use Rattle.ged_tree.specs.Places.{structure_at, place_after, level_at, line_at};
-ghost use Rattle.ged_tree.specs.Views.{payload_of};
-ghost use Rattle.ged_tree.specs.Rows.{flat_trees, IsFlat, IsSpelled, line_shown, shown_of, shown_from, places_of};
+ghost use Rattle.ged_tree.specs.Views.{payload_of, is_pointer};
+ghost use Rattle.ged_tree.specs.Rows.{flat_trees, IsFlat, IsSpelled, line_shown, rest_of, shown_of, shown_from, places_of};
 ghost use Rattle.ged_tree.specs.Rows.{further_before as tests_before};
 ghost use Rattle.std.specs.List.Sorted.{IsNonDecreasingBy};
-ghost use Rattle.ged_tree.specs.Spelled.{shown_value};
 ghost use Rattle.ged_tree.specs.Tables.{own_value};
 ghost use Rattle.ged_tree.specs.declared.payload.PayloadView.{PayloadView};
 
 use crate::closing::after_in;
+use crate::flat_structure::FlatStructure;
 use crate::forest::Forest;
+use crate::further::{FurtherLine, FurtherLines, HeldLines};
 use crate::kept::{KeptStructure, TextApart, text_of};
 use crate::payload::PayloadView;
-use ged_line::{LineView, ValueView, view_text};
 use std::marker::Model;
-
-/// A structure of a table, with its text at hand.
-#[derive(Clone, Copy)]
-pub(crate) struct FlatStructure<'a> {
-    /// The whole line on which it begins.
-    pub(crate) text: &'a str,
-    pub(crate) kept: KeptStructure,
-}
-
-/// A line of a payload past the first.
-#[derive(Clone, Copy)]
-pub(crate) struct FurtherLine<'a> {
-    /// The place past the structure whose payload has it.
-    pub(crate) after: usize,
-    pub(crate) text: &'a str,
-}
-
-impl<'a> FlatStructure<'a> {
-    /// The line that its text shows, read once more.
-    #[cold]
-    fn line(&self) -> LineView<'a>
-        requires { IsSpelled (shown_of self.now) }
-        ensures { result ≡ line_shown (shown_of self.now) }
-    {
-        match view_text(self.text) {
-            Ok(line) => line,
-            Err(_) => unreachable!(),
-        }
-    }
-
-    /// What [`FlatStructure::tag`] answers, from the line. A function of its own, so that the frequent way has no room for a
-    /// whole line to clear; so are the next two.
-    #[cold]
-    #[inline(never)]
-    fn tag_of_line(&self) -> &'a str
-        requires { IsSpelled (shown_of self.now) }
-        ensures { result.now ≡ (line_shown (shown_of self.now)).tag }
-    {
-        self.line().tag()
-    }
-
-    #[cold]
-    #[inline(never)]
-    fn xref_of_line(&self) -> Option<&'a str>
-        requires { IsSpelled (shown_of self.now) }
-        ensures { option_map (λ name. name.now) result ≡ (line_shown (shown_of self.now)).xref }
-    {
-        self.line().xref()
-    }
-
-    #[cold]
-    #[inline(never)]
-    fn payload_of_line(&self) -> PayloadView<'a>
-        requires { IsSpelled (shown_of self.now) }
-        ensures { own_value result ≡ (line_shown (shown_of self.now)).value }
-    {
-        payload_of_line(&self.line())
-    }
-
-    #[inline(always)]
-    fn tag(&self) -> &'a str
-        requires { IsSpelled (shown_of self.now) }
-        ensures { result.now ≡ (line_shown (shown_of self.now)).tag }
-    {
-        if self.kept.tag_length == 0 {
-            return self.tag_of_line();
-        }
-        let start = self.kept.tag_start as usize;
-        let end = start + self.kept.tag_length as usize;
-        &self.text[start..end]
-    }
-
-    fn xref(&self) -> Option<&'a str>
-        requires { IsSpelled (shown_of self.now) }
-        ensures { option_map (λ name. name.now) result ≡ (line_shown (shown_of self.now)).xref }
-    {
-        if self.kept.tag_length == 0 {
-            return self.xref_of_line();
-        }
-        let first = digits_of_level(self.kept.level()) + 1;
-        let start = self.kept.tag_start as usize;
-        if start == first {
-            return None;
-        }
-        Some(&self.text[first + 1..start - 2])
-    }
-
-    #[inline(always)]
-    fn payload(&self) -> PayloadView<'a>
-        requires { IsSpelled (shown_of self.now) }
-        ensures { own_value result ≡ (line_shown (shown_of self.now)).value }
-    {
-        if self.kept.tag_length == 0 {
-            return self.payload_of_line();
-        }
-        let end = self.kept.tag_start as usize + self.kept.tag_length as usize;
-        payload_behind_tag(&self.text[end..])
-    }
-}
-
-/// How many digits spell a level.
-pub(crate) fn digits_of_level(level: u8) -> usize
-    requires { level ≤ 99 }
-    ensures digits { result ≡ length (decimal level) }
-    ensures few { result ≤ 2 }
-{
-    if level < 10 { 1 } else { 2 }
-}
-
-/// The payload that begins behind a tag, with the space before it.
-#[inline(always)]
-fn payload_behind_tag(part: &str) -> PayloadView<'_>
-    requires { (value : Value) × (is_value value ≡ true) × IsValuePart value part.now }
-    ensures { own_value result ≡ shown_value part.now }
-{
-    if part.len() < 2 {
-        return PayloadView::Text("");
-    }
-    match part.as_bytes() {
-        [_, b'@', b'@', ..] => PayloadView::Text(&part[2..]),
-        [_, b'@', ..] => reference_of(part),
-        _ => PayloadView::Text(&part[1..]),
-    }
-}
-
-/// The reference that stands behind a tag, with the space before it.
-fn reference_of(part: &str) -> PayloadView<'_>
-    requires value { (value : Value) × (is_value value ≡ true) × IsValuePart value part.now }
-    requires long { 2 ≤ length part.now }
-    requires first { slice_index part.now 1 ≡ 64 }
-    requires second { ¬ (slice_index part.now 2 ≡ 64) }
-    ensures { own_value result ≡ shown_value part.now }
-{
-    let name = &part[2..part.len() - 1];
-    if name == "VOID" {
-        PayloadView::Void
-    } else {
-        PayloadView::Pointer(name)
-    }
-}
-
-/// The payload that begins on a line.
-fn payload_of_line<'a>(line: &LineView<'a>) -> PayloadView<'a>
-    ensures { own_value result ≡ line.now.value }
-{
-    match line.value() {
-        ValueView::Empty => PayloadView::Text(""),
-        ValueView::Void => PayloadView::Void,
-        ValueView::Pointer(name) => PayloadView::Pointer(name),
-        ValueView::Text(text) => PayloadView::Text(text),
-    }
-}
 
 /// How many further lines stand before the structure at a place.
 fn further_before(further: &[FurtherLine<'_>], place: usize) -> usize
@@ -249,11 +97,31 @@ impl<'a> Flat<'a> {
         ensures xref { (line_shown (shown_of result)).xref ≡ (structure_at self.now place).xref }
         ensures payload { (v : PayloadView) → own_value v ≡ (line_shown (shown_of result)).value
             → payload_of v (further_lines (structure_at self.now place).payload) ≡ (structure_at self.now place).payload }
+        ensures rest { rest_of (line_shown (shown_of result)) ≡ rest_of_line (structure_at self.now place) }
         ensures spelled { IsSpelled (shown_of result) }
     {
         let kept = self.structures[place];
         let text = text_of(self.file, self.apart.as_slice(), place, &kept);
         FlatStructure { text, kept }
+    }
+
+    /// Whether the payload at a place is a pointer that names a record, told without a look at its line; or `None` where
+    /// that is not kept.
+    #[inline(always)]
+    fn kept_points_at(&self, place: usize) -> Option<bool>
+        requires { place < trees_count self.now }
+        ensures { IfSome result (λ points. points ≡ is_pointer (structure_at self.now place).payload) }
+    {
+        self.structures[place].points()
+    }
+
+    /// What stands on the line of the structure at a place from its tag on, as the canonical spelling has it.
+    #[inline(always)]
+    fn rest_at(&self, place: usize) -> &'a str
+        requires { place < trees_count self.now }
+        ensures { result.now ≡ rest_of_line (structure_at self.now place) }
+    {
+        self.at(place).rest()
     }
 
     fn after_at(&self, place: usize) -> usize
@@ -284,6 +152,30 @@ impl<'a> Flat<'a> {
         end.saturating_sub(start)
     }
 
+    /// The further lines of the payload at a place.
+    #[inline(always)]
+    fn further_lines_at(&self, place: usize) -> FurtherLines<'_>
+        requires { place < trees_count self.now }
+        ensures { result ≡ further_lines (structure_at self.now place).payload }
+    {
+        if !self.structures[place].has_further() {
+            return FurtherLines::of(HeldLines::Table(&[]));
+        }
+        self.found_lines_at(place)
+    }
+
+    /// The same, looked up among those of all structures.
+    #[inline(never)]
+    fn found_lines_at(&self, place: usize) -> FurtherLines<'_>
+        requires { place < trees_count self.now }
+        ensures { result ≡ further_lines (structure_at self.now place).payload }
+    {
+        let further = self.further.as_slice();
+        let start = further_before(further, place);
+        let end = further_before(further, place + 1);
+        FurtherLines::of(HeldLines::Table(&further[start..end]))
+    }
+
     /// A further line of the payload at a place.
     fn further_at(&self, place: usize, number: usize) -> &'a str
         requires within { place < trees_count self.now }
@@ -297,6 +189,8 @@ impl<'a> Flat<'a> {
 
 impl<'a> Forest for Flat<'a> {
     ghost trees = { λ flat. flat };
+
+    ghost holds_lines = { λ _. true };
 
     fn size(&self) -> usize {
         self.count()
@@ -328,11 +222,29 @@ impl<'a> Forest for Flat<'a> {
         self.at(place).payload()
     }
 
+    #[inline(always)]
+    fn points(&self, place: usize) -> bool {
+        match self.kept_points_at(place) {
+            Some(points) => points,
+            None => matches!(self.payload(place), PayloadView::Pointer(_)),
+        }
+    }
+
+    #[inline(always)]
+    fn rest_of_line(&self, place: usize) -> Option<&str> {
+        Some(self.rest_at(place))
+    }
+
     fn further(&self, place: usize) -> usize {
         self.further_count(place)
     }
 
     fn further_line(&self, place: usize, number: usize) -> &str {
         self.further_at(place, number)
+    }
+
+    #[inline(always)]
+    fn further_lines(&self, place: usize) -> FurtherLines<'_> {
+        self.further_lines_at(place)
     }
 }

@@ -1,14 +1,16 @@
 // The structures of a document by their places, whatever holds them.
-ghost use Rattle.std.specs.Prelude.{◌≡◌, ◌<◌, Some, true, length, slice_get, MatchOption};
+ghost use Rattle.std.specs.Prelude.{◌≡◌, ◌<◌, Bool, Some, true, false, length, slice_get, MatchOption, IfSome, is_some};
 ghost use Rattle.std.specs.Option.{option_copied};
 ghost use Rattle.ged_tree.specs.Trees.{Trees, none, trees_count, further_lines};
 ghost use Rattle.ged_tree.specs.Documents.{is_document};
+ghost use Rattle.ged_tree.specs.DocumentLines.{rest_of_line};
 ghost use Rattle.ged_tree.specs.Places.{structure_at, place_after, level_at, line_at};
 ghost use Rattle.ged_tree.specs.Runs.{trees_between, IsRun, IsStep};
-ghost use Rattle.ged_tree.specs.Views.{payload_of};
+ghost use Rattle.ged_tree.specs.Views.{payload_of, is_pointer};
 
 use crate::document::Document;
 use crate::found::count;
+use crate::further::{FurtherLines, HeldLines};
 use crate::payload::PayloadView;
 
 /// The structures of a document by their places, which count from 0 in the order of a file: HEAD stands at place 0, and
@@ -18,6 +20,9 @@ use crate::payload::PayloadView;
 pub trait Forest {
     /// The document that it is seen as.
     ghost trees: { Self → Trees };
+
+    /// Whether it has the lines of its structures, each in one text.
+    ghost holds_lines: { Self → Bool };
 
     /// How many structures there are.
     fn size(&self) -> usize
@@ -55,6 +60,18 @@ pub trait Forest {
         ensures { payload_of result (further_lines (structure_at (trees self.now) place).payload)
             ≡ (structure_at (trees self.now) place).payload };
 
+    /// Whether the payload is a pointer that names a record, which may be known without a look at the payload.
+    fn points(&self, place: usize) -> bool
+        requires { place < trees_count (trees self.now) }
+        ensures { result ≡ is_pointer (structure_at (trees self.now) place).payload };
+
+    /// The tag and the first line of the payload in one text, as the canonical spelling of the structure's line has them; or
+    /// `None` where tags and payloads are held apart.
+    fn rest_of_line(&self, place: usize) -> Option<&str>
+        requires { place < trees_count (trees self.now) }
+        ensures held { is_some result ≡ holds_lines self.now }
+        ensures rest { IfSome result (λ rest. rest.now ≡ rest_of_line (structure_at (trees self.now) place)) };
+
     /// How many lines the payload has past the first.
     fn further(&self, place: usize) -> usize
         requires { place < trees_count (trees self.now) }
@@ -65,11 +82,18 @@ pub trait Forest {
         requires within { place < trees_count (trees self.now) }
         requires further { number < length (further_lines (structure_at (trees self.now) place).payload) }
         ensures { slice_get (further_lines (structure_at (trees self.now) place).payload) number ≡ Some result.now };
+
+    /// The lines of the payload past the first, for a caller that wants them all.
+    fn further_lines(&self, place: usize) -> FurtherLines<'_>
+        requires { place < trees_count (trees self.now) }
+        ensures { result ≡ further_lines (structure_at (trees self.now) place).payload };
 }
 
 #[tactic(auto, using(crate::proofs::PlaceLemmas::after_fits), unfolding(crate::specs::Places::structure_at, crate::specs::Places::below_at, crate::specs::Places::place_after))]
 impl Forest for Document {
     ghost trees = { λ document. document };
+
+    ghost holds_lines = { λ _. false };
 
     fn size(&self) -> usize {
         self.count()
@@ -105,6 +129,14 @@ impl Forest for Document {
         node.payload.view()
     }
 
+    fn points(&self, place: usize) -> bool {
+        matches!(self.payload(place), PayloadView::Pointer(_))
+    }
+
+    fn rest_of_line(&self, _place: usize) -> Option<&str> {
+        None
+    }
+
     fn further(&self, place: usize) -> usize {
         let node = self.find(place).node;
         node.payload.further_lines().len()
@@ -113,6 +145,11 @@ impl Forest for Document {
     fn further_line(&self, place: usize, number: usize) -> &str {
         let node = self.find(place).node;
         node.payload.further_lines()[number].as_str()
+    }
+
+    fn further_lines(&self, place: usize) -> FurtherLines<'_> {
+        let node = self.find(place).node;
+        FurtherLines::of(HeldLines::Payload(node.payload.further_lines()))
     }
 }
 

@@ -1,7 +1,7 @@
 // The structures of a table as they are kept, in few bytes.
 ghost use Rattle.std.specs.Prelude.{◌≡◌, ◌<◌, ◌≤◌, ◌%◌, ℕ, [], Some, IfSome, nat_lt};
 ghost use Rattle.std.specs.List.Sorted.{IsNonDecreasingBy};
-ghost use Rattle.ged_tree.specs.Rows.{HasSlice, kept_level, kept_further, text_at};
+ghost use Rattle.ged_tree.specs.Rows.{HasSlice, kept_level, kept_further, kept_tag_length, kept_points, text_at};
 ghost use Rattle.ged_tree.specs.Rows.{text_apart as finds_apart};
 
 use std::mem::size_of;
@@ -23,8 +23,9 @@ pub(crate) struct KeptStructure {
     pub(crate) mark: u8,
     /// Where its tag begins in the line, in bytes.
     pub(crate) tag_start: u8,
-    /// How many bytes its tag has, or 0 where either number is too large to be kept.
-    pub(crate) tag_length: u8,
+    /// How many bytes its tag has, or 0 where either number is too large to be kept; and 128 more where its payload is a
+    /// pointer that names a record, if the tag's length is kept.
+    pub(crate) tag_mark: u8,
 }
 
 const _: () = prove!(size_of::<KeptStructure>() == 12);
@@ -43,6 +44,25 @@ impl KeptStructure {
         ensures { result ≡ kept_level self.now }
     {
         self.mark % 128
+    }
+
+    /// How many bytes its tag has, or 0 where that is not kept.
+    #[inline(always)]
+    pub(crate) fn tag_length(&self) -> u8
+        ensures { result ≡ kept_tag_length self.now }
+    {
+        self.tag_mark % 128
+    }
+
+    /// Whether its payload is a pointer that names a record, or `None` where that is not kept.
+    #[inline(always)]
+    pub(crate) fn points(&self) -> Option<bool>
+        ensures { IfSome result (λ points. (0 < kept_tag_length self.now) × (kept_points self.now ≡ points)) }
+    {
+        if self.tag_length() == 0 {
+            return None;
+        }
+        Some(self.tag_mark > 127)
     }
 
     /// Whether its payload has lines past the first.

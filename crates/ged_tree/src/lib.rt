@@ -12,9 +12,11 @@ mod document_lines;
 mod fault;
 mod file_laws;
 mod flat;
+mod flat_structure;
 mod flattening;
 mod forest;
 mod found;
+mod further;
 mod judge;
 mod kept;
 mod laws;
@@ -34,6 +36,7 @@ pub use file_laws::{faulty_file_has_none, file_fault_is_build_fault};
 pub use flat::Flat;
 pub use flattening::flatten;
 pub use forest::{Forest, end_of_all, next_in_run};
+pub use further::FurtherLines;
 pub use judge::Judge;
 pub use laws::{
     begins_on_line, counted_lines, listed_at_place, next_line, one_document, one_for_each_place,

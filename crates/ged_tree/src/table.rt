@@ -1,13 +1,16 @@
 // The table of a document's structures, made line by line.
-ghost use Rattle.std.specs.Prelude.{◌≡◌, ◌≤◌, ◌<◌, ◌+◌, ◌^◌, ◌++◌, ◌∷◌, [], List, MatchResult, IfOk, IfSome, length, decimal};
+ghost use Rattle.std.specs.Prelude.{◌≡◌, ◌≤◌, ◌<◌, ◌+◌, ◌%◌, ◌^◌, ◌++◌, ◌∷◌, [], List, MatchResult, IfOk, IfSome, length, decimal, nat_lt};
 ghost use Rattle.ged_line.specs.Lines.{LineParts, LineText, xref_part};
 ghost use Rattle.ged_tree.specs.DocumentLines.{HasLines};
+ghost use Rattle.ged_tree.specs.Rows.{names_record};
 ghost use Rattle.ged_tree.specs.TreeFaults.{FirstFault};
 ghost use Rattle.ged_tree.specs.Tables.{line_text, HoldsLines, HasStructure, IsPut, IsSliceAt, Shows, TellsFurther, TellsLine};
 
 use crate::closing::close;
 use crate::fault::{BuildFault, TreeAt, TreeFault};
-use crate::flat::{Flat, FurtherLine, digits_of_level};
+use crate::flat::Flat;
+use crate::flat_structure::start_of_tag;
+use crate::further::FurtherLine;
 use crate::judge::{Judge, is_cont, is_trailer};
 use crate::kept::{APART, KeptStructure, TextApart, kept_slice, mark_with_further};
 use ged_line::{LineView, SpelledLine, ValueView};
@@ -22,32 +25,26 @@ fn text_of_line<'a>(line: &LineView<'a>) -> &'a str
     }
 }
 
-/// Where the tag of a line begins in the text that spells the line, in bytes, or the greatest number where the line has
-/// a long identifier.
-fn start_of_tag(line: &LineView<'_>) -> usize
-    ensures short { length (xref_part line.now.xref) < 256
-        → result ≡ length (decimal line.now.level) + 1 + length (xref_part line.now.xref) }
-    ensures long { 256 ≤ length (xref_part line.now.xref) → 256 ≤ result }
+/// Whether a line's value is a pointer that names a record.
+#[inline(always)]
+fn is_pointer(line: &LineView<'_>) -> bool
+    ensures { result ≡ names_record line.now.value }
 {
-    let first = digits_of_level(line.level()) + 1;
-    let Some(name) = line.xref() else {
-        return first;
-    };
-    if name.len() > 255 {
-        return usize::MAX;
-    }
-    first + name.len() + 3
+    matches!(line.value(), ValueView::Pointer(_))
 }
 
-/// A tag's start and length as a structure keeps them: where one is too large, the length is 0.
-fn kept_tag(start: usize, length: usize) -> (u8, u8)
-    ensures true_ones { 0 < result.1 → (result.0 ≡ start) × (result.1 ≡ length) × (start < 256) }
-    ensures small_ones { start < 256 → length < 256 → (result.0 ≡ start) × (result.1 ≡ length) }
+/// A tag's start and its mark, which tells its length and whether a pointer stands behind it, as a structure keeps them: where
+/// the start or the length is too large, the mark is 0.
+#[inline(always)]
+fn kept_tag(start: usize, length: usize, points: bool) -> (u8, u8)
+    ensures true_ones { 0 < result.1 % 128 → (result.0 ≡ start) × (result.1 % 128 ≡ length) × (nat_lt 127 result.1 ≡ points) × (start < 256) }
+    ensures small_ones { start < 256 → length < 128 → (result.0 ≡ start) × (result.1 % 128 ≡ length) × (nat_lt 127 result.1 ≡ points) }
 {
-    match (u8::try_from(start), u8::try_from(length)) {
-        (Ok(start), Ok(length)) => (start, length),
-        _ => (0, 0),
+    if start > 255 || length > 127 {
+        return (0, 0);
     }
+    let mark = length as u8;
+    (start as u8, if points { mark + 128 } else { mark })
 }
 
 /// The structure that begins on a line, before its table is closed, by where its text is kept.
@@ -59,14 +56,15 @@ fn structure_of_line(spelled: &SpelledLine<'_>, start: u32, length: u8) -> KeptS
     ensures length { result.length ≡ length }
 {
     let line = &spelled.line;
-    let (tag_start, tag_length) = kept_tag(start_of_tag(line), line.tag().len());
+    let points = is_pointer(line);
+    let (tag_start, tag_mark) = kept_tag(start_of_tag(line), line.tag().len(), points);
     KeptStructure {
         start,
         size: 0,
         length,
         mark: line.level(),
         tag_start,
-        tag_length,
+        tag_mark,
     }
 }
 

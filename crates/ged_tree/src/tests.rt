@@ -1,7 +1,7 @@
 // Documents that are made by hand, and each public call once.
 use crate::{
-    Document, Forest, Node, Payload, PayloadView, RecordNode, TextLines, end_of_all, line_of,
-    next_in_run, to_lines,
+    Document, Forest, Node, Payload, PayloadView, RecordNode, TextLines, end_of_all, flatten,
+    line_of, next_in_run, to_lines,
 };
 use ged_line::{Tag, Text, Xref, read_lines};
 use std::alloc::{AllocError, Global};
@@ -297,8 +297,14 @@ fn shows_the_structures_of_a_document(rt: HostRuntime) -> Result<(), Fail> {
         assert!(rt; document.tag(place) == tag, "{place}");
         assert!(rt; document.payload(place) == payload, "{place}");
         assert!(rt; document.xref(place).is_some() == (place == 4), "{place}");
+        assert!(rt; document.points(place) == (place == 6), "{place}");
+        assert!(rt; document.rest_of_line(place).is_none(), "{place}");
         if place == 3 && document.further(place) == 2 {
             assert!(rt; document.further_line(place, 1) == "c");
+        }
+        let further = document.further_lines(place);
+        if further.count() > 1 {
+            assert!(rt; further.line(1) == "c");
         }
     }
     Ok(())
@@ -313,5 +319,31 @@ fn goes_through_a_document_tree_by_tree(rt: HostRuntime) -> Result<(), Fail> {
     let end = end_of_all(&document);
     assert_eq!(rt; end, 7);
     assert_eq!(rt; next_in_run(&document, 0, end), Some(4));
+    Ok(())
+}
+
+#[test]
+fn tells_the_rest_of_each_line_of_a_table(rt: HostRuntime) -> Result<(), Fail> {
+    let file =
+        b"0 HEAD\n1 GEDC \n2 VERS 7.0\n1 NOTE @@x\n2 CONT y\n1 SUBM @U@\n0 @U@ SUBM\n0 TRLR\n";
+    let Ok(flat) = flatten(rt.alloc(), file) else {
+        assert!(rt; false, "the file has a table");
+        return Ok(());
+    };
+    for (place, rest) in ["HEAD", "GEDC", "VERS 7.0", "NOTE @@x", "SUBM @U@", "SUBM"]
+        .into_iter()
+        .enumerate()
+    {
+        if place >= flat.size() {
+            break;
+        }
+        assert!(rt; flat.rest_of_line(place) == Some(rest), "{place}");
+        assert!(rt; flat.points(place) == (place == 4), "{place}");
+        let further = flat.further_lines(place);
+        assert!(rt; further.count() == usize::from(place == 3), "{place}");
+        if further.count() > 0 {
+            assert!(rt; further.line(0) == "y");
+        }
+    }
     Ok(())
 }

@@ -58,3 +58,6 @@ pub(crate) static NOTE: [Rule; 4] = [
     many!("TRAN", Text, Unchecked),
     many!("SOUR", ToSour, Cite),
 ];
+
+/// No rows. A table of its own, so that the rows of each context are a constant.
+pub(crate) static NOTHING: [Rule; 0] = [];

@@ -1,10 +1,9 @@
-use Rattle.std.proofs.Common.{◌<◌, ℕ, List, length, sym, ap, ◌∙◌, subst, arith}
+use Rattle.std.proofs.Common.{ℕ, List, length, sym, ap, ◌∙◌, subst, arith}
 use Rattle.std.specs.List.{AllByRecursion}
-use Rattle.ged_tree.specs.Trees.{trees_count}
 use Rattle.ged_schema.specs.declared.context.Context.TheVariants.{File}
 use Rattle.ged_canon.specs.declared.siblings.Sibling.{Sibling}
-use Rattle.ged_canon.specs.Working.{is_named, canon, AreNumbersOf, IsNumbering}
-use Rattle.ged_canon.specs.Siblings.{sibling_trees, sibling_names}
+use Rattle.ged_canon.specs.Working.{is_named, canon, AreNumbersOf, IsNumberingOf}
+use Rattle.ged_canon.specs.Siblings.{StandsIn, sibling_trees, sibling_names}
 use Rattle.ged_canon.proofs.Normality.{canon_is_normal_form}
 use Rattle.ged_canon.proofs.CanonParts.{sorted_known, sorted_distinct}
 use Rattle.ged_canon.proofs.RecordBytes.{names_listed, sorted_named, siblings_stand, file_spelled, only_form}
@@ -13,7 +12,7 @@ use Rattle.ged_canon.proofs.bytes.canonical_bytes_in.Goals as goal
 pub numbers_in_order-requires-clause-within : goal.numbers_in_order-requires-clause-within
 numbers_in_order-requires-clause-within g c =
     let d = g.F.Forest.trees c.args.forest.now in
-    subst (λ (xs : List Sibling). AllByRecursion (λ each. each.place < trees_count d) xs) (sym c.as_slice-records.ensures.value) c.in_ok-siblings.ensures.within
+    subst (λ (xs : List Sibling). AllByRecursion (StandsIn d) xs) (sym c.as_slice-records.ensures.value) c.in_ok-siblings.ensures.within
 
 pub numbers_in_order-requires-clause-count : goal.numbers_in_order-requires-clause-count
 numbers_in_order-requires-clause-count g c = omega (arith, ap (λ (xs : List Sibling). length xs) c.as_slice-records.ensures.value, c.in_ok-siblings.ensures.count)
@@ -37,7 +36,7 @@ numbers_in_order-requires-clause-distinct g c =
 pub write_records-requires-clause-within : goal.write_records-requires-clause-within
 write_records-requires-clause-within g c =
     let d = g.F.Forest.trees c.args.forest.now in
-    subst (λ (xs : List Sibling). AllByRecursion (λ each. each.place < trees_count d) xs) (sym c.as_slice-records.ensures.value) c.in_ok-siblings.ensures.within
+    subst (λ (xs : List Sibling). AllByRecursion (StandsIn d) xs) (sym c.as_slice-records.ensures.value) c.in_ok-siblings.ensures.within
 
 pub write_records-requires-clause-stand : goal.write_records-requires-clause-stand
 write_records-requires-clause-stand g c =
@@ -54,8 +53,8 @@ returns-clause-normal_form g c =
     let xs = c.as_slice-records.result.now in
     let names = sibling_names d xs in
     let listed = ap (sibling_trees (is_named d) edition File d) c.as_slice-records.ensures.value ∙ c.in_ok-siblings.ensures.trees edition in
-    let numbering : IsNumbering names c.args.index.now c.as_slice-numbers.result.now =
-    (d, c.requires.index, subst (λ (ns : List ℕ). AreNumbersOf d names ns) (sym c.as_slice-numbers.ensures.value) c.in_ok-counted.ensures) in
+    let numbering : IsNumberingOf d names c.args.index.now c.as_slice-numbers.result.now =
+    (c.requires.index, subst (λ (ns : List ℕ). AreNumbersOf d names ns) (sym c.as_slice-numbers.ensures.value) c.in_ok-counted.ensures) in
     let named = sorted_named edition d names c.requires.index.resolved (names_listed edition d xs listed) in
     let told = file_spelled edition d xs c.in_ok-text.text.items c.write_records.new.out.items c.write_parts.new.out.items listed c.in_ok-text.ensures (c.in_ok-write_records.ensures names numbering named) c.in_ok-write_parts.ensures.ok in
     (canon edition d, canon_is_normal_form edition d c.document_siblings.ensures.document c.requires.index.resolved c.requires.checked, told)
@@ -67,8 +66,8 @@ returns-clause-only g c = λ e form.
     let xs = c.as_slice-records.result.now in
     let names = sibling_names d xs in
     let listed = ap (sibling_trees (is_named d) edition File d) c.as_slice-records.ensures.value ∙ c.in_ok-siblings.ensures.trees edition in
-    let numbering : IsNumbering names c.args.index.now c.as_slice-numbers.result.now =
-    (d, c.requires.index, subst (λ (ns : List ℕ). AreNumbersOf d names ns) (sym c.as_slice-numbers.ensures.value) c.in_ok-counted.ensures) in
+    let numbering : IsNumberingOf d names c.args.index.now c.as_slice-numbers.result.now =
+    (c.requires.index, subst (λ (ns : List ℕ). AreNumbersOf d names ns) (sym c.as_slice-numbers.ensures.value) c.in_ok-counted.ensures) in
     let named = sorted_named edition d names c.requires.index.resolved (names_listed edition d xs listed) in
     let told = file_spelled edition d xs c.in_ok-text.text.items c.write_records.new.out.items c.write_parts.new.out.items listed c.in_ok-text.ensures (c.in_ok-write_records.ensures names numbering named) c.in_ok-write_parts.ensures.ok in
     only_form edition d e c.write_parts.new.out.items told form

@@ -1,11 +1,10 @@
-use Rattle.std.proofs.Common.{◌<◌, List, [], ◌∷◌, ◌++◌, length, drop, refl, sym, ap, ◌∙◌, subst, arith}
+use Rattle.std.proofs.Common.{List, [], ◌∷◌, ◌++◌, length, drop, refl, sym, ap, ◌∙◌, subst, arith}
 use Rattle.std.specs.List.{AllByRecursion}
-use Rattle.ged_tree.specs.Trees.{trees_count}
 use Rattle.ged_link.specs.Links.{identifiers}
 use Rattle.ged_schema.specs.declared.context.Context.TheVariants.{File}
 use Rattle.ged_canon.specs.declared.siblings.Sibling.{Sibling}
 use Rattle.ged_canon.specs.Working.{is_named}
-use Rattle.ged_canon.specs.Siblings.{sibling_trees}
+use Rattle.ged_canon.specs.Siblings.{StandsIn, sibling_trees}
 use Rattle.ged_canon.proofs.RecordBytes.{document_listed, records_listed}
 use Rattle.ged_canon.proofs.SortedTail.{headed}
 use Rattle.ged_canon.proofs.bytes.document_siblings.Goals as goal
@@ -14,9 +13,9 @@ pub returns-clause-within : goal.returns-clause-within
 returns-clause-within g c =
     let d = g.F.Forest.trees c.args.forest.now in
     let head : Sibling = record { tag = c.tag.result; place = 0 } in
-    subst (λ (xs : List Sibling). AllByRecursion (λ each. each.place < trees_count d) xs)
+    subst (λ (xs : List Sibling). AllByRecursion (StandsIn d) xs)
     (sym (headed c.push.new.self.items c.push_sorted.new.siblings.items head (c.in_ok-push.ensures.items ∙ ap (λ (xs : List Sibling). xs ++ head ∷ []) c.new-made.ensures.items) c.in_ok-push_sorted.ensures.kept))
-    (c.in-Some.ensures.within, c.in_ok-push_sorted.ensures.within)
+    ((c.in-Some.ensures.within, c.tag.ensures), c.in_ok-push_sorted.ensures.within)
 
 pub returns-clause-count : goal.returns-clause-count
 returns-clause-count g c =

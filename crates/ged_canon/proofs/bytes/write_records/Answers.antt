@@ -1,12 +1,11 @@
-use Rattle.std.proofs.Common.{◌≡◌, ◌+◌, ◌<◌, ◌++◌, List, [], ◌∷◌, drop, get_or, refl, sym, ap, ◌∙◌, subst, append-nil, arith}
+use Rattle.std.proofs.Common.{◌≡◌, ◌+◌, ◌++◌, List, [], ◌∷◌, drop, get_or, refl, sym, ap, ◌∙◌, subst, append-nil, arith}
 use Rattle.std.specs.List.{AllByRecursion}
 use Rattle.std.proofs.lemmas.List.{drop_all}
-use Rattle.ged_tree.specs.Trees.{trees_count}
 use Rattle.ged_tree.specs.Documents.{are_at}
 use Rattle.ged_schema.specs.declared.context.Context.TheVariants.{File}
 use Rattle.ged_canon.specs.declared.siblings.Sibling.{Sibling}
 use Rattle.ged_canon.specs.Working.{is_named}
-use Rattle.ged_canon.specs.Siblings.{sibling_trees}
+use Rattle.ged_canon.specs.Siblings.{StandsIn, sibling_trees}
 use Rattle.ged_canon.specs.CanonBytes.{spelled_siblings}
 use Rattle.ged_canon.proofs.RecordBytes.{first_stands, others_stand, left_split, left_after}
 use Rattle.ged_canon.proofs.bytes.write_records.Goals as goal
@@ -22,8 +21,8 @@ write_record-requires-clause-within g c =
     let d = g.F.Forest.trees c.args.forest.now in
     let xs = c.args.siblings.now in
     let at = c.loop-each.each-index in
-    let all : AllByRecursion (λ (each : Sibling). each.place < trees_count d) (get_or xs at other ∷ drop (at + 1) xs) =
-    subst (λ (ys : List Sibling). AllByRecursion (λ each. each.place < trees_count d) ys) (left_split xs at other c.loop-each-test.true) c.loop-each.invariant.within in
+    let all : AllByRecursion (StandsIn d) (get_or xs at other ∷ drop (at + 1) xs) =
+    subst (λ (ys : List Sibling). AllByRecursion (StandsIn d) ys) (left_split xs at other c.loop-each-test.true) c.loop-each.invariant.within in
     all.0
 
 pub write_record-requires-clause-stands : goal.write_record-requires-clause-stands
@@ -42,8 +41,8 @@ loop-each-preserved g c =
     let xs = c.args.siblings.now in
     let at = c.loop-each.each-index in
     let split = left_split xs at other c.loop-each-test.true in
-    let all : AllByRecursion (λ (each : Sibling). each.place < trees_count d) (get_or xs at other ∷ drop (at + 1) xs) =
-    subst (λ (ys : List Sibling). AllByRecursion (λ each. each.place < trees_count d) ys) split c.loop-each.invariant.within in
+    let all : AllByRecursion (StandsIn d) (get_or xs at other ∷ drop (at + 1) xs) =
+    subst (λ (ys : List Sibling). AllByRecursion (StandsIn d) ys) split c.loop-each.invariant.within in
     record {
       within = all.1;
       stand = others_stand edition d (get_or xs at other) (drop (at + 1) xs)

@@ -4,8 +4,8 @@ use Rattle.ged_canon.proofs.new_names.new_number.Goals as goal
 
 pub returns-in-None : goal.returns-in-None
 returns-in-None c = λ names h. sym (unnumbered c.args.name.now 1 names (λ k.
-    let at = h.2.known c.args.name.now k in
-    let found = (c.record_named.ensures h.0 h.1 at.0).1 at.1 in
+    let at = h.1.1.known c.args.name.now k in
+    let found = (c.record_named.ensures h.0 h.1.0 at.0).1 at.1 in
     absurd (none_found c.record_named.result at.0 c.in-None.is found)))
   where
     none_found : (r : Option ℕ) (n : ℕ) → r ≡ None → r ≡ Some n → ⊥

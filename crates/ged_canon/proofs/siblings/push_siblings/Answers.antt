@@ -1,11 +1,10 @@
-use Rattle.std.proofs.Common.{◌≡◌, ◌<◌, ◌++◌, List, [], ◌∷◌, length, drop, refl, sym, ap, ◌∙◌, subst, arith}
+use Rattle.std.proofs.Common.{◌≡◌, ◌++◌, List, [], ◌∷◌, length, drop, refl, sym, ap, ◌∙◌, subst, arith}
 use Rattle.std.specs.List.{AllByRecursion}
 use Rattle.std.proofs.lemmas.List.{append-nil, append_assoc, length_push, take_all, drop_all}
-use Rattle.ged_tree.specs.Trees.{trees_count}
 use Rattle.ged_link.specs.Links.{identifiers}
 use Rattle.ged_canon.specs.declared.siblings.Sibling.{Sibling}
 use Rattle.ged_canon.specs.Working.{used_trees, each_sorted}
-use Rattle.ged_canon.specs.Siblings.{sibling_trees}
+use Rattle.ged_canon.specs.Siblings.{StandsIn, sibling_trees}
 use Rattle.ged_canon.proofs.SiblingTrees.{first_sibling, all_with}
 use Rattle.ged_canon.proofs.SortedTail.{still_kept, still_long, one_more}
 use Rattle.ged_canon.proofs.siblings.push_siblings.Goals as goal
@@ -19,7 +18,7 @@ loop-after-init g c =
       run = c.requires;
       kept = take_all (length old) old (omega arith);
       long = omega arith;
-      within = subst (λ (xs : List Sibling). AllByRecursion (λ each. each.place < trees_count d) xs) (sym nothing) tt;
+      within = subst (λ (xs : List Sibling). AllByRecursion (StandsIn d) xs) (sym nothing) tt;
       counted = omega (arith, ap (λ (xs : List Sibling). length xs) nothing);
       listed = λ used edition context rest e. ap (λ (xs : List Sibling). sibling_trees used edition context d (xs ++ rest)) nothing ∙ e;
     }
@@ -28,7 +27,7 @@ pub loop-after-preserved : goal.loop-after-preserved
 loop-after-preserved g c =
     let d = g.F.Forest.trees c.args.forest.now in
     let step = c.in-Some.ensures in
-    let last : Sibling = record { tag = c.tag.result; place = c.loop-after.place } in
+    let last : Sibling = record { tag = c.shared_tag.result; place = c.loop-after.place } in
     let start = c.args.siblings.now.items in
     let now = c.loop-after.siblings.items in
     let inv = c.loop-after.invariant in
@@ -37,7 +36,7 @@ loop-after-preserved g c =
       run = step.rest;
       kept = still_kept start now c.push.new.self.items last inv.long c.in_ok-push.ensures.items inv.kept;
       long = still_long start now c.push.new.self.items last inv.long c.in_ok-push.ensures.items;
-      within = subst (λ (xs : List Sibling). AllByRecursion (λ each. each.place < trees_count d) xs) (sym more) (all_with (λ each. each.place < trees_count d) (drop (length start) now) last inv.within step.within);
+      within = subst (λ (xs : List Sibling). AllByRecursion (StandsIn d) xs) (sym more) (all_with (StandsIn d) (drop (length start) now) last inv.within (step.within, (c.shared_tag.ensures ∙ c.tag.ensures)));
       counted =
           let pushed = ap (λ (xs : List Sibling). length xs) more ∙ length_push (drop (length start) now) last in
           let first = ap (λ t. length (identifiers t)) step.first in
@@ -46,7 +45,7 @@ loop-after-preserved g c =
           ap (λ (xs : List Sibling). sibling_trees used edition context d (xs ++ rest)) more
           ∙ ap (sibling_trees used edition context d) (append_assoc (drop (length start) now) (last ∷ []) rest)
           ∙ inv.listed used edition context (last ∷ rest)
-          (first_sibling used edition context d c.loop-after.place c.args.end c.in-Some.after last rest inv.run step refl c.tag.ensures e);
+          (first_sibling used edition context d c.loop-after.place c.args.end c.in-Some.after last rest inv.run step refl (c.shared_tag.ensures ∙ c.tag.ensures) e);
     }
 
 pub returns-clause-trees : goal.returns-clause-trees

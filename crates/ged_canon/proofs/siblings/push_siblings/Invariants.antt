@@ -1,14 +1,13 @@
-use Rattle.std.proofs.Common.{◌≡◌, ◌<◌, ◌+◌, ◌-◌, ◌≤◌, Bool, List, ◌++◌, length, take, drop}
+use Rattle.std.proofs.Common.{◌≡◌, ◌+◌, ◌-◌, ◌≤◌, Bool, List, ◌++◌, length, take, drop}
 use Rattle.std.specs.List.{AllByRecursion}
 use Rattle.ged_line.specs.Bytes.{Bytes}
-use Rattle.ged_tree.specs.Trees.{trees_count}
 use Rattle.ged_tree.specs.Runs.{IsRun, trees_between}
 use Rattle.ged_link.specs.Links.{identifiers}
 use Rattle.ged_schema.specs.declared.context.Context.{Context}
 use Rattle.ged_canon.specs.declared.edition.Edition.{Edition}
 use Rattle.ged_canon.specs.declared.siblings.Sibling.{Sibling}
 use Rattle.ged_canon.specs.Working.{used_trees, each_sorted}
-use Rattle.ged_canon.specs.Siblings.{sibling_trees}
+use Rattle.ged_canon.specs.Siblings.{StandsIn, sibling_trees}
 use Rattle.ged_canon.proofs.siblings.push_siblings.Given as goal
 
 -- siblings that stand for what is left of the run, behind those so far, stand for the whole run
@@ -20,7 +19,7 @@ invariant-loop-after g l =
       run : IsRun trees l.place l.end;
       kept : take (length l.fn.siblings.items) l.siblings.items ≡ l.fn.siblings.items;
       long : length l.fn.siblings.items ≤ length l.siblings.items;
-      within : AllByRecursion (λ each. each.place < trees_count trees) made;
+      within : AllByRecursion (StandsIn trees) made;
       counted : length made + length (identifiers (trees_between trees l.place l.end)) ≡ length (identifiers (trees_between trees l.start l.end));
       listed : (used : Bytes → Bool) (edition : Edition) (context : Context) (rest : List Sibling)
           → sibling_trees used edition context trees rest ≡ each_sorted edition context (used_trees used (trees_between trees l.place l.end))

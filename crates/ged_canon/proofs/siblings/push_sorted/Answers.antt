@@ -1,14 +1,13 @@
-use Rattle.std.proofs.Common.{◌≡◌, ◌<◌, ◌≤◌, ◌-◌, List, Result, Ok, Err, OnOk, length, take, drop, sym, ap, ◌∙◌, subst, arith, length-drop}
+use Rattle.std.proofs.Common.{◌≡◌, ◌≤◌, ◌-◌, List, Result, Ok, Err, OnOk, length, take, drop, sym, ap, ◌∙◌, subst, arith, length-drop}
 use Rattle.std.specs.List.{AllByRecursion}
 use Rattle.std.specs.List.Sorted.{IsPermutation}
 use Rattle.std.proofs.lemmas.List.{take_all}
 use Rattle.std.proofs.lemmas.List.Sorted.{length_permutation}
 use Rattle.std.proofs.lemmas.Result.{on_ok_weaker}
-use Rattle.ged_tree.specs.Trees.{trees_count}
 use Rattle.ged_tree.specs.Runs.{trees_between}
 use Rattle.ged_canon.specs.declared.siblings.Sibling.{Sibling}
 use Rattle.ged_canon.specs.Working.{grouped, sorted, used_trees}
-use Rattle.ged_canon.specs.Siblings.{sibling_trees}
+use Rattle.ged_canon.specs.Siblings.{StandsIn, sibling_trees}
 use Rattle.ged_canon.proofs.StableSort.{grouped_is_sorted}
 use Rattle.ged_canon.proofs.SiblingTrees.{all_permuted}
 use Rattle.ged_canon.proofs.SortedTail.{kept_long, written_tail}
@@ -36,8 +35,8 @@ returns-clause-within g c =
     let moved : IsPermutation (drop (length old) pushed) ys = subst (λ (xs : List Sibling). IsPermutation xs ys) part c.sort_siblings.ensures.permutation in
     let same : length ys ≡ length all - base = omega (arith, length_permutation (drop (length old) pushed) ys moved, length-drop (length old) pushed) in
     let tail = written_tail base c.push_siblings.new.siblings.len (length old) all ys pushed room (omega arith) (omega arith) same (sym from) in
-    subst (λ (xs : List Sibling). OnOk c.sort_siblings.result (AllByRecursion (λ each. each.place < trees_count d) xs)) (sym tail)
-    (either_way c.sort_siblings.result (all_permuted (λ each. each.place < trees_count d) (drop (length old) pushed) ys moved c.in_ok-push_siblings.ensures.within))
+    subst (λ (xs : List Sibling). OnOk c.sort_siblings.result (AllByRecursion (StandsIn d) xs)) (sym tail)
+    (either_way c.sort_siblings.result (all_permuted (StandsIn d) (drop (length old) pushed) ys moved c.in_ok-push_siblings.ensures.within))
 
 pub returns-clause-trees : goal.returns-clause-trees
 returns-clause-trees g c = λ used edition context.

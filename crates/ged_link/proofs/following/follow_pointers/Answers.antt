@@ -12,7 +12,7 @@ loop-after-init g c =
     record {
       whole = whole_end w c.end_of_all-end.result c.end_of_all-end.ensures.run c.end_of_all-end.ensures.all;
       run = c.end_of_all-end.ensures.run;
-      used = followed_start w c.args.count c.in-Ok.used.items (c.in-Ok.ensures.items_if_clones_equal (λ y e. e)) c.requires.count;
+      used = followed_start w c.args.count _ (c.in-Ok.ensures.items_if_clones_equal (λ y e. e)) c.new-targets.ensures.items c.requires.count;
       told = λ role pair. pairs_start (place_in c.args.records.now) role _ w pair (pairs_have c.new-pairs.result role pair) c.end_of_all-end.ensures.all (c.new-pairs.ensures role pair);
     }
 
@@ -20,7 +20,7 @@ pub returns-clause-used : goal.returns-clause-used
 returns-clause-used g c =
     let w = g.F.Forest.trees c.args.forest.now in
     let inv = c.loop-after.invariant in
-    used_all w c.loop-after.place c.loop-after.used.items (run_over w c.loop-after.place c.end_of_all-end.result inv.run c.in_default-next_in_run.ensures ∙ inv.whole) inv.used.marked
+    used_all w c.loop-after.place c.loop-after.followed.used.items (run_over w c.loop-after.place c.end_of_all-end.result inv.run c.in_default-next_in_run.ensures ∙ inv.whole) inv.used.marked
 
 pub returns-clause-found : goal.returns-clause-found
 returns-clause-found g c =

@@ -14,7 +14,7 @@ invariant-loop-after g l =
     record {
       whole : l.end ≡ trees_count trees;
       run : IsRun trees l.place l.end;
-      used : AreFollowed trees l.place l.used.items;
+      used : AreFollowed trees l.place l.followed;
       told : (role : Role) (pair : ℕ × ℕ) → (has_pair (place_in l.records) role l.place (trees_between trees l.place l.end) pair || pairs_have l.pairs role pair) ≡ has_pair (place_in l.records) role 0 trees pair;
     }
 

@@ -13,7 +13,7 @@ invariant-loop-after g l =
     let trees = g.F.Forest.trees l.forest in
     record {
       run : IsRun trees l.place l.end;
-      used : AreFollowed trees l.place l.used.items;
+      used : AreFollowed trees l.place l.followed;
       told : (role : Role) (pair : ℕ × ℕ) →
           ((nat_eq pair.0 l.from && has_link_to (place_in l.records) role (structure_at trees l.from).tag pair.1 (trees_between trees l.place l.end)) || pairs_have l.pairs role pair)
           ≡ ((nat_eq pair.0 l.from && has_link_to (place_in l.records) role (structure_at trees l.from).tag pair.1 (trees_between trees (l.from + 1) l.end)) || pairs_have l.fn.pairs role pair);

@@ -7,15 +7,18 @@ use Rattle.ged_link.proofs.resolving.resolve.Goals as goal
 
 pub returns-clause-resolved : goal.returns-clause-resolved
 returns-clause-resolved g c =
-    resolved_of (g.F.Forest.trees c.args.forest.now) c.in_ok-records.ensures.document c.in_ok-records.ensures.distinct c.in_ok-used.ensures.found
+    resolved_of (g.F.Forest.trees c.args.forest.now) c.in_ok-records.ensures.document c.in_ok-records.ensures.distinct c.in_ok-followed.ensures.found
 
 pub returns-clause-index : goal.returns-clause-index
 returns-clause-index g c =
     let w = g.F.Forest.trees c.args.forest.now in
     let are = c.in_ok-records.ensures.records in
     record {
-      resolved = resolved_of w c.in_ok-records.ensures.document c.in_ok-records.ensures.distinct c.in_ok-used.ensures.found;
+      resolved = resolved_of w c.in_ok-records.ensures.document c.in_ok-records.ensures.distinct c.in_ok-followed.ensures.found;
       records = are;
-      used = c.in_ok-used.ensures.used;
+      typed = c.in_ok-records.ensures.types;
+      used = c.in_ok-followed.ensures.used;
+      targets = c.in_ok-followed.ensures.targets;
+      places = c.in_ok-records.ensures.places;
       one_way = subst (λ (places : List ℕ). AreOneWay w places) (sym c.in-Ok.ensures) (are_one_way w c.in_ok-records.ensures.document (place_in c.in_ok-records.records) are.placed);
     }

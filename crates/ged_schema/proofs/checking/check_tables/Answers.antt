@@ -8,19 +8,19 @@ use Rattle.ged_schema.proofs.Runs.{fault_place, tested, refuted}
 use Rattle.ged_schema.proofs.Noting.{noted_alone}
 use Rattle.ged_schema.proofs.checking.check_tables.Goals as goal
 
-pub returns-then-noted : goal.returns-then-noted
-returns-then-noted g c =
+pub returns-then-pass : goal.returns-then-pass
+returns-then-pass g c =
     let d = g.F.Forest.trees c.args.forest.now in
     let (_, checked, noted) = on_true c.all_pass.result c.all_pass.ensures c.if-all_pass.true in
     let all = c.end_of_all-end.ensures.all in
-    (subst (λ (x : Trees). AreChecked d File x) all checked, tested c.all_pass.new.noted (noted_alone File c.all_pass.new.noted _ d all noted) c.if-noted.true)
+    (subst (λ (x : Trees). AreChecked d File x) all checked, tested c.all_pass.new.pass.noted (noted_alone File c.all_pass.new.pass.noted _ d all noted) c.if-pass.true)
 
-pub returns-else-noted : goal.returns-else-noted
-returns-else-noted g c =
+pub returns-else-pass : goal.returns-else-pass
+returns-else-pass g c =
     let d = g.F.Forest.trees c.args.forest.now in
     let (_, checked, noted) = on_true c.all_pass.result c.all_pass.ensures c.if-all_pass.true in
     let all = c.end_of_all-end.ensures.all in
-    (subst (λ (x : Trees). AreChecked d File x) all checked, refuted c.all_pass.new.noted (noted_alone File c.all_pass.new.noted _ d all noted) c.if-noted.false)
+    (subst (λ (x : Trees). AreChecked d File x) all checked, refuted c.all_pass.new.pass.noted (noted_alone File c.all_pass.new.pass.noted _ d all noted) c.if-pass.false)
 
 pub line-requires : goal.line-requires
 line-requires g c =

@@ -1,4 +1,4 @@
-use Rattle.std.proofs.Common.{arith, refl, sym, subst, ap, ◌∙◌, ◌≡◌, ◌+◌, ◌<◌, ℕ, List, Some, None, length, set}
+use Rattle.std.proofs.Common.{arith, sym, subst, ap, ◌∙◌, ◌≡◌, ◌+◌, Some, None}
 use Rattle.ged_line.specs.Names.{is_tag, is_standard_tag}
 use Rattle.ged_tree.specs.Trees.{Trees}
 use Rattle.ged_tree.specs.Places.{structure_at}
@@ -8,7 +8,7 @@ use Rattle.ged_schema.specs.Checked.{AreChecked}
 use Rattle.ged_schema.proofs.Numbers.{row_among, number_among, row_there}
 use Rattle.ged_schema.proofs.Runs.{IsOnlyNumber, checked_none, tested, refuted}
 use Rattle.ged_schema.proofs.Listing.{document_tag}
-use Rattle.ged_schema.proofs.Marking.{AreMarked, AreOnce, zeros_marked, zeros_once, once_set, marked_none, marked_right, nothing_stands, nothing_right, rule_row, rule_marked, rule_checked, on_true, true_on}
+use Rattle.ged_schema.proofs.Marking.{none_marked, marked_none, marked_right, nothing_stands, nothing_right, rule_row, rule_marked, rule_checked, on_true, true_on}
 use Rattle.ged_schema.proofs.Noting.{noted_first, noted_row, noted_leaf, noted_here, noted_none, noted_all}
 use Rattle.ged_schema.proofs.passing.+all_pass.Goals as goal
 
@@ -16,11 +16,9 @@ pub loop-after-init : goal.loop-after-init
 loop-after-init g t c = record {
   run = c.requires.run;
   ahead = omega arith;
-  long = refl;
-  once = zeros_once 64;
-  marked = zeros_marked (rows c.args.context) 64 _;
+  marked = none_marked (rows c.args.context) _;
   checked = λ right. right;
-  noted = noted_first c.args.context c.args.noted.now _;
+  noted = noted_first c.args.context c.args.pass.now.noted _;
 }
 
 pub gives_notice-requires : goal.gives_notice-requires
@@ -38,27 +36,22 @@ loop-after-preserved-else-not-all_pass g t c =
     let next = trees_between d after c.args.end in
     let k = c.in-Some-number_among.number in
     let old = c.loop-after.marks in
-    let inside : k < length old = omega (arith, c.in-Some-number_among.ensures.small, c.loop-after.invariant.long) in
-    let marks : c.mark.new.marks ≡ set old k 1 = c.mark.ensures.marked in
     let only : IsOnlyNumber (rows c.args.context) s.tag (Some k) = λ i r stands same. c.in-Some-number_among.ensures.only i r (rw c.rows-rules.ensures.rows stands) (same ∙ sym c.tag-tag.ensures) in
     let (within, found) = number_among c.args.context c.rows-rules.result.now c.tag-tag.result.now k c.rows-rules.ensures.rows c.in-Some-number_among.ensures.row in
     let passed = on_true c.all_pass.result c.all_pass.ensures c.if-not-all_pass.false in
     record {
       run = c.in-Some.ensures.rest;
       ahead = omega (arith, c.loop-after.invariant.ahead, c.in-Some.ensures.forth);
-      long = c.type_inv.marks;
-      once = subst (λ (m : List ℕ). AreOnce m) (sym marks) (once_set old k inside c.loop-after.invariant.once);
-      marked = subst (λ (m : List ℕ). AreMarked (rows c.args.context) m next all) (sym marks)
-          (rule_marked c.args.context here s below next c.in-Some.ensures.first c.tag-tag.result.now c.tag-tag.ensures c.rows-rules.result.now c.rows-rules.ensures.rows k within found _ old all c.loop-after.invariant.marked only inside
-          (on_true c.mark.result c.mark.ensures.free c.if-not-mark.false));
+      marked = rule_marked c.args.context here s below next c.in-Some.ensures.first c.tag-tag.result.now c.tag-tag.ensures c.rows-rules.result.now c.rows-rules.ensures.rows k within found _ old all c.loop-after.invariant.marked only
+          (on_true c.mark.result c.mark.ensures.free c.if-not-mark.false) c.mark.new.marks c.mark.ensures.marked;
       checked = λ rest. c.loop-after.invariant.checked
           (rule_checked c.args.context here s below next c.in-Some.ensures.first c.tag-tag.result.now c.tag-tag.ensures c.rows-rules.result.now c.rows-rules.ensures.rows k within found _ d
           (on_true c.is_payload_right.result c.is_payload_right.ensures c.if-not-is_payload_right.false)
           (passed.0, passed.1)
           rest);
-      noted = noted_row c.args.context c.loop-after.noted here all c.args.noted.now s below next c.in-Some.ensures.first c.loop-after.invariant.noted _
+      noted = noted_row c.args.context c.loop-after.pass.noted here all c.args.pass.now.noted s below next c.in-Some.ensures.first c.loop-after.invariant.noted _
           (rule_row c.args.context here s below next c.in-Some.ensures.first c.tag-tag.result.now c.tag-tag.ensures c.rows-rules.result.now c.rows-rules.ensures.rows k within found _)
-          c.all_pass.new.noted passed.2;
+          c.all_pass.new.pass.noted passed.2;
     }
 
 pub loop-after-preserved-else-not-needs_nothing : goal.loop-after-preserved-else-not-needs_nothing
@@ -73,8 +66,6 @@ loop-after-preserved-else-not-needs_nothing g t c =
     let next = trees_between d after c.args.end in
     let k = c.in-Some-number_among.number in
     let old = c.loop-after.marks in
-    let inside : k < length old = omega (arith, c.in-Some-number_among.ensures.small, c.loop-after.invariant.long) in
-    let marks : c.mark.new.marks ≡ set old k 1 = c.mark.ensures.marked in
     let only : IsOnlyNumber (rows c.args.context) s.tag (Some k) = λ i r stands same. c.in-Some-number_among.ensures.only i r (rw c.rows-rules.ensures.rows stands) (same ∙ sym c.tag-tag.ensures) in
     let (within, found) = number_among c.args.context c.rows-rules.result.now c.tag-tag.result.now k c.rows-rules.ensures.rows c.in-Some-number_among.ensures.row in
     let (r, some) = row_there c.args.context c.tag-tag.result.now k within found in
@@ -82,17 +73,14 @@ loop-after-preserved-else-not-needs_nothing g t c =
     record {
       run = c.in-Some.ensures.rest;
       ahead = omega (arith, c.loop-after.invariant.ahead, c.in-Some.ensures.forth);
-      long = c.type_inv.marks;
-      once = subst (λ (m : List ℕ). AreOnce m) (sym marks) (once_set old k inside c.loop-after.invariant.once);
-      marked = subst (λ (m : List ℕ). AreMarked (rows c.args.context) m next all) (sym marks)
-          (rule_marked c.args.context here s below next c.in-Some.ensures.first c.tag-tag.result.now c.tag-tag.ensures c.rows-rules.result.now c.rows-rules.ensures.rows k within found _ old all c.loop-after.invariant.marked only inside
-          (on_true c.mark.result c.mark.ensures.free c.if-not-mark.false));
+      marked = rule_marked c.args.context here s below next c.in-Some.ensures.first c.tag-tag.result.now c.tag-tag.ensures c.rows-rules.result.now c.rows-rules.ensures.rows k within found _ old all c.loop-after.invariant.marked only
+          (on_true c.mark.result c.mark.ensures.free c.if-not-mark.false) c.mark.new.marks c.mark.ensures.marked;
       checked = λ rest. c.loop-after.invariant.checked
           (rule_checked c.args.context here s below next c.in-Some.ensures.first c.tag-tag.result.now c.tag-tag.ensures c.rows-rules.result.now c.rows-rules.ensures.rows k within found _ d
           (on_true c.is_payload_right.result c.is_payload_right.ensures c.if-not-is_payload_right.false)
           (nothing_right d _ below bare (on_true c.needs_nothing.result c.needs_nothing.ensures c.if-not-needs_nothing.false))
           rest);
-      noted = noted_leaf c.args.context c.loop-after.noted here all c.args.noted.now s below next c.in-Some.ensures.first c.loop-after.invariant.noted r (ap (row c.args.context) (sym c.tag-tag.ensures) ∙ some) bare;
+      noted = noted_leaf c.args.context c.loop-after.pass.noted here all c.args.pass.now.noted s below next c.in-Some.ensures.first c.loop-after.invariant.noted r (ap (row c.args.context) (sym c.tag-tag.ensures) ∙ some) bare;
     }
 
 pub loop-after-preserved-then-gives_notice : goal.loop-after-preserved-then-gives_notice
@@ -110,11 +98,9 @@ loop-after-preserved-then-gives_notice g t c =
     record {
       run = c.in-Some.ensures.rest;
       ahead = omega (arith, c.loop-after.invariant.ahead, c.in-Some.ensures.forth);
-      long = c.loop-after.invariant.long;
-      once = c.loop-after.invariant.once;
       marked = marked_none (rows c.args.context) c.loop-after.marks here all s below next c.in-Some.ensures.first c.loop-after.invariant.marked only;
       checked = λ rest. c.loop-after.invariant.checked (checked_none d c.args.context here s below next c.in-Some.ensures.first nothing rest);
-      noted = noted_here c.args.context c.loop-after.noted here all c.args.noted.now s below next c.in-Some.ensures.first c.loop-after.invariant.noted nothing (ap is_standard_tag (sym c.tag-tag.ensures) ∙ notice.0) notice.1;
+      noted = noted_here c.args.context c.loop-after.pass.noted here all c.args.pass.now.noted s below next c.in-Some.ensures.first c.loop-after.invariant.noted nothing (ap is_standard_tag (sym c.tag-tag.ensures) ∙ notice.0) notice.1;
     }
 
 pub loop-after-preserved : goal.loop-after-preserved
@@ -131,11 +117,9 @@ loop-after-preserved g t c =
     record {
       run = c.in-Some.ensures.rest;
       ahead = omega (arith, c.loop-after.invariant.ahead, c.in-Some.ensures.forth);
-      long = c.loop-after.invariant.long;
-      once = c.loop-after.invariant.once;
       marked = marked_none (rows c.args.context) c.loop-after.marks here all s below next c.in-Some.ensures.first c.loop-after.invariant.marked only;
       checked = λ rest. c.loop-after.invariant.checked (checked_none d c.args.context here s below next c.in-Some.ensures.first nothing rest);
-      noted = noted_none c.args.context c.loop-after.noted here all c.args.noted.now s below next c.in-Some.ensures.first c.loop-after.invariant.noted nothing
+      noted = noted_none c.args.context c.loop-after.pass.noted here all c.args.pass.now.noted s below next c.in-Some.ensures.first c.loop-after.invariant.noted nothing
           (λ notice. refuted c.gives_notice.result c.gives_notice.ensures c.if-gives_notice.false (ap is_standard_tag c.tag-tag.ensures ∙ notice.0, notice.1));
     }
 
@@ -145,7 +129,7 @@ returns g t c =
     let left = trees_between d c.loop-after.place c.args.end in
     let all = trees_between d c.args.start c.args.end in
     true_on c.is_needed_marked.result c.is_needed_marked.ensures (λ h. (
-      marked_right h.0 (rows c.args.context) c.loop-after.marks left all c.in_default.ensures h.1 h.2 c.loop-after.invariant.once c.loop-after.invariant.marked,
+      marked_right h.0 (rows c.args.context) c.loop-after.marks left all c.in_default.ensures h.1 h.2 c.loop-after.invariant.marked,
       c.loop-after.invariant.checked (subst (λ (x : Trees). AreChecked d c.args.context x) (sym c.in_default.ensures) tt),
-      noted_all c.args.context c.loop-after.noted left c.args.noted.now all c.in_default.ensures c.loop-after.invariant.noted,
+      noted_all c.args.context c.loop-after.pass.noted left c.args.pass.now.noted all c.in_default.ensures c.loop-after.invariant.noted,
     ))

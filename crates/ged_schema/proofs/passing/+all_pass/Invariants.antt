@@ -1,8 +1,8 @@
-use Rattle.std.proofs.Common.{◌-◌, ◌≤◌, ◌≡◌, length}
+use Rattle.std.proofs.Common.{◌-◌, ◌≤◌}
 use Rattle.ged_tree.specs.Runs.{trees_between, IsRun}
 use Rattle.ged_schema.specs.Tables.{rows}
 use Rattle.ged_schema.specs.Checked.{AreChecked}
-use Rattle.ged_schema.proofs.Marking.{AreMarked, AreOnce}
+use Rattle.ged_schema.proofs.Marking.{AreMarked}
 use Rattle.ged_schema.proofs.Noting.{IsNoted}
 use Rattle.ged_schema.proofs.passing.+all_pass.Given as goal
 
@@ -15,11 +15,9 @@ invariant-loop-after g l =
     record {
       run : IsRun trees l.place l.end;
       ahead : l.start ≤ l.place;
-      long : length l.marks ≡ 64;
-      once : AreOnce l.marks;
       marked : AreMarked (rows l.context) l.marks (trees_between trees l.place l.end) (trees_between trees l.start l.end);
       checked : AreChecked trees l.context (trees_between trees l.place l.end) → AreChecked trees l.context (trees_between trees l.start l.end);
-      noted : IsNoted l.context l.noted (trees_between trees l.place l.end) l.fn.noted (trees_between trees l.start l.end);
+      noted : IsNoted l.context l.pass.noted (trees_between trees l.place l.end) l.fn.pass.noted (trees_between trees l.start l.end);
     }
 
 abbrev pub decreases-loop-after : goal.decreases-loop-after

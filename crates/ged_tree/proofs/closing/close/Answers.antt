@@ -11,7 +11,7 @@ loop-place-preserved c =
     let items = c.loop-place.structures.items in
     let place = c.loop-place.place - 1 in
     let s = c.index.result.now in
-    let y : KeptStructure = record { start = s.start; size = c.kept_size.result; length = s.length; mark = s.mark; tag_start = s.tag_start; tag_length = s.tag_length } in
+    let y : KeptStructure = record { start = s.start; size = c.kept_size.result; length = s.length; mark = s.mark; tag_start = s.tag_start; tag_mark = s.tag_mark } in
     let e : c.loop-place.place ≡ place + 1 = omega (arith, c.loop-place-test.true) in
     let h : place < length items = omega (arith, c.loop-place.invariant.within, c.loop-place-test.true) in
     let is = c.index.ensures in

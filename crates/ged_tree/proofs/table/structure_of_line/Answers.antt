@@ -1,7 +1,7 @@
-use Rattle.std.proofs.Common.{◌≡◌, ◌+◌, ◌%◌, ◌∙◌, ℕ, ap, sym, subst, length, decimal, inl, inr, arith}
-use Rattle.std.proofs.lemmas.Bool.{cases_lt}
+use Rattle.std.proofs.Common.{◌≡◌, ◌+◌, ◌%◌, ◌∙◌, ℕ, ap, sym, subst, length, decimal}
 use Rattle.ged_line.specs.Bytes.{Bytes}
 use Rattle.ged_line.specs.Lines.{LineParts, LineText, xref_part}
+use Rattle.ged_tree.specs.Rows.{names_record}
 use Rattle.ged_tree.specs.Spelled.{shown_line}
 use Rattle.ged_tree.proofs.SpelledLemmas.{line_is_shown}
 use Rattle.ged_tree.proofs.KeptLemmas.{level_alone, level_kept}
@@ -20,13 +20,12 @@ returns-clause-line c =
         subst (λ (l : LineParts). LineText l text) shown c.requires,
         λ some.
             let kept = c.kept_tag-tag_start.ensures.true_ones some in
-            let low = kept.2 in
-            let start : c.start_of_tag.result ≡ length (decimal line.level) + 1 + length (xref_part line.xref) = elim (cases_lt (length (xref_part line.xref)) 256) [
-              | inl short ↦ c.start_of_tag.ensures.short short
-              | inr long ↦ absurd (let high = c.start_of_tag.ensures.long long in omega (arith, high, low))
-            ] in (
-              kept.0 ∙ start ∙ ap (λ (l : LineParts). length (decimal l.level) + 1 + length (xref_part l.xref)) shown,
-              kept.1 ∙ ap (λ (bs : Bytes). length bs) c.tag.ensures.tag ∙ ap (λ (l : LineParts). length l.tag) shown,
+            let start = c.start_of_tag.ensures in (
+              (
+                kept.0 ∙ start ∙ ap (λ (l : LineParts). length (decimal l.level) + 1 + length (xref_part l.xref)) shown,
+                kept.1 ∙ ap (λ (bs : Bytes). length bs) c.tag.ensures.tag ∙ ap (λ (l : LineParts). length l.tag) shown,
+              ),
+              kept.2 ∙ c.is_pointer-points.ensures ∙ ap (λ (l : LineParts). names_record l.value) shown,
             ),
       );
       alone = level_alone c.level.result line level.level level.line;

@@ -20,7 +20,7 @@ returns c =
     let place = c.args.place in
     let size = kept_count c.self.inside.file.now c.self.inside.apart.items c.self.inside.structures.items c.self.inside.further.items c.self.invariant in
     let below = rw (← c.self.view_is) at c.requires in
-    let d : KeptStructure = record { start = 0; size = 0; length = 0; mark = 0; tag_start = 0; tag_length = 0 } in
+    let d : KeptStructure = record { start = 0; size = 0; length = 0; mark = 0; tag_start = 0; tag_mark = 0 } in
     let s = slice_index_or items place d in
     let e = kept_after c.self.inside.file.now c.self.inside.apart.items c.self.inside.structures.items c.self.inside.further.items c.self.invariant place s (omega (arith, size, below)) (get_or_default items place d (slice_index_or items place d) (omega (arith, size, below))) in
     let told = rw c.as_slice.ensures.value at (c.after_in.ensures d) in

@@ -1,5 +1,5 @@
 use Rattle.std.proofs.Common.{sym, refl, ◌∙◌}
-use Rattle.ged_tree.specs.declared.flat.FurtherLine.{FurtherLine}
+use Rattle.ged_tree.specs.declared.further.FurtherLine.{FurtherLine}
 use Rattle.ged_tree.specs.declared.table.TableBuilder.{TableBuilder}
 use Rattle.ged_tree.proofs.PushLemmas.{put_further}
 use Rattle.ged_tree.proofs.table.TableBuilder.push.Goals as goal

@@ -1,0 +1,83 @@
+// The places of a document's records, by the numbers of the records.
+ghost use Rattle.std.specs.Prelude.{◌≡◌, ◌<◌, ◌≤◌, ℕ, Some};
+ghost use Rattle.ged_line.specs.Bytes.{Bytes};
+ghost use Rattle.ged_tree.specs.Trees.{Trees};
+ghost use Rattle.ged_link.specs.Links.{IsRecordNumber};
+ghost use Rattle.ged_link.specs.LinkFaults.{HasXref};
+ghost use Rattle.ged_link.specs.Places.{ArePlaces};
+
+/// Where an [`crate::Index`] looks for a record first: behind the one that it found last.
+#[derive(Clone, Copy, Debug)]
+pub struct RecordCursor {
+    pub(crate) next: usize,
+}
+
+impl RecordCursor {
+    /// A cursor at the first record of a document.
+    pub fn new() -> RecordCursor
+        ensures { result.next ≡ 0 }
+    {
+        RecordCursor { next: 0 }
+    }
+}
+
+/// A place as it is kept: the greatest number stands for all that 32 bits do not hold.
+#[inline(always)]
+pub(crate) fn kept_place(place: usize) -> u32
+    ensures { result < 4294967295 → result ≡ place }
+{
+    if place < u32::MAX as usize {
+        place as u32
+    } else {
+        u32::MAX
+    }
+}
+
+/// The number of the record at a place, if it is that at which the cursor stands, which then goes on.
+#[inline(always)]
+pub(crate) fn next_record(places: &[u32], place: usize, cursor: &mut RecordCursor) -> Option<usize>
+    ensures { (document : Trees) → ArePlaces document places.now → (number : ℕ) → result ≡ Some number
+        → (name : Bytes) → HasXref document place name → IsRecordNumber document number name }
+{
+    let number = cursor.next;
+    let kept = *places.get(number)?;
+    if kept == u32::MAX || kept as usize != place {
+        return None;
+    }
+    cursor.next += 1;
+    Some(number)
+}
+
+/// How many records behind the cursor are searched before all are: records that are visited in another order than the file's
+/// seldom stand far apart.
+const NEAR: usize = 64;
+
+/// Moves a cursor on to the first record near it that is not at a lower place than this one.
+fn move_on(places: &[u32], place: usize, cursor: &mut RecordCursor)
+    ensures { cursor.old.next ≤ cursor.new.next }
+{
+    let end = places.len().min(cursor.next.saturating_add(NEAR));
+    if let Some(near) = places.get(cursor.next..end) {
+        let passed = near.partition_point(|kept: &u32| -> bool { (*kept as usize) < place });
+        cursor.next = cursor.next.saturating_add(passed);
+    }
+}
+
+/// The same for a cursor that stands elsewhere. It is moved first, behind records at lower places: those near it, or all.
+#[cold]
+#[inline(never)]
+pub(crate) fn searched_record(
+    places: &[u32],
+    place: usize,
+    cursor: &mut RecordCursor,
+) -> Option<usize>
+    ensures { (document : Trees) → ArePlaces document places.now → (number : ℕ) → result ≡ Some number
+        → (name : Bytes) → HasXref document place name → IsRecordNumber document number name }
+{
+    move_on(places, place, cursor);
+    if let Some(number) = next_record(places, place, cursor) {
+        return Some(number);
+    }
+    cursor.next = places.partition_point(|kept: &u32| -> bool { (*kept as usize) < place });
+    next_record(places, place, cursor)
+}

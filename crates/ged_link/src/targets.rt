@@ -1,0 +1,116 @@
+// The records that the pointers of a document name, in the order of the pointers' places.
+ghost use Rattle.std.specs.Prelude.{◌≡◌, ◌<◌, ◌≤◌, ◌+◌, ℕ, Some, IfSome, OnOk, length};
+ghost use Rattle.ged_tree.specs.Trees.{Trees};
+ghost use Rattle.ged_link.specs.Targets.{PointsAt, AreTargets};
+
+use std::alloc::AllocError;
+use std::mem::size_of;
+
+/// The record that a pointer names, in 8 bytes.
+#[derive(Clone, Copy, Debug)]
+pub(crate) struct Target {
+    /// The place of the pointer among all structures.
+    pub(crate) place: u32,
+    /// The number of the record that it names.
+    pub(crate) number: u32,
+}
+
+const _: () = prove!(size_of::<Target>() == 8);
+
+/// Where an [`crate::Index`] looks for a pointer first: behind the one that it found last.
+#[derive(Clone, Copy, Debug)]
+pub struct PointerCursor {
+    pub(crate) next: usize,
+}
+
+impl PointerCursor {
+    /// A cursor at the first pointer of a document.
+    pub fn new() -> PointerCursor
+        ensures { result.next ≡ 0 }
+    {
+        PointerCursor { next: 0 }
+    }
+}
+
+/// Adds that the pointer at a place names the record with a number, if 32 bits hold both. Grows.
+#[inline(always)]
+pub(crate) fn push_target(
+    targets: &mut Vec<Target>,
+    place: usize,
+    number: usize,
+) -> Result<(), AllocError>
+    ensures { OnOk result ((document : Trees) → PointsAt document place number → AreTargets document targets.old.items → AreTargets document targets.new.items) }
+{
+    let Ok(place) = u32::try_from(place) else {
+        return Ok(());
+    };
+    let Ok(number) = u32::try_from(number) else {
+        return Ok(());
+    };
+    targets.push(Target { place, number })?;
+    Ok(())
+}
+
+/// The number that the target at an index tells, if it is that of the pointer at a place.
+#[inline(always)]
+fn number_kept(targets: &[Target], index: usize, place: usize) -> Option<usize>
+    ensures within { IfSome result (λ _. index < length targets.now) }
+    ensures told { (document : Trees) → AreTargets document targets.now → (number : ℕ) → result ≡ Some number → PointsAt document place number }
+{
+    let target = targets.get(index)?;
+    if target.place as usize == place {
+        Some(target.number as usize)
+    } else {
+        None
+    }
+}
+
+/// The number of the record that the pointer at a place names, if it is told where the cursor stands, which then goes on.
+#[inline(always)]
+pub(crate) fn next_number(
+    targets: &[Target],
+    place: usize,
+    cursor: &mut PointerCursor,
+) -> Option<usize>
+    ensures { (document : Trees) → AreTargets document targets.now → (number : ℕ) → result ≡ Some number → PointsAt document place number }
+{
+    let number = number_kept(targets, cursor.next, place)?;
+    cursor.next += 1;
+    Some(number)
+}
+
+/// How far from the cursor targets are searched before all are: structures that are visited in another order than the file's
+/// seldom stand far apart.
+const NEAR: usize = 32;
+
+/// Moves a cursor to the first target near it that is not of a lower place than this one.
+fn move_near(targets: &[Target], place: usize, cursor: &mut PointerCursor)
+    ensures { cursor.old.next ≤ cursor.new.next + 32 }
+{
+    let start = cursor.next.saturating_sub(NEAR);
+    let end = targets.len().min(cursor.next.saturating_add(NEAR));
+    if let Some(near) = targets.get(start..end) {
+        let passed = near.partition_point(|target: &Target| -> bool {
+            (target.place as usize) < place
+        });
+        cursor.next = start.saturating_add(passed);
+    }
+}
+
+/// The same for a cursor that stands elsewhere. It is moved first, behind the pointers of lower places that stand near it, or behind all.
+pub(crate) fn searched_number(
+    targets: &[Target],
+    place: usize,
+    cursor: &mut PointerCursor,
+) -> Option<usize>
+    ensures { (document : Trees) → AreTargets document targets.now → (number : ℕ) → result ≡ Some number → PointsAt document place number }
+{
+    move_near(targets, place, cursor);
+    if let Some(number) = next_number(targets, place, cursor) {
+        return Some(number);
+    }
+    cursor.next = targets.partition_point(|target: &Target| -> bool {
+        (target.place as usize) < place
+    });
+    next_number(targets, place, cursor)
+}
