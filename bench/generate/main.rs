@@ -3,6 +3,7 @@
 //! The shape `ordinary` is a family tree as programs write it, valid GEDCOM 7.0 with every link given in both
 //! directions. The other shapes are meant to be hard to read or to walk through; `shapes.rs` says what each is.
 
+mod collisions;
 mod disorder;
 mod people;
 mod prose;

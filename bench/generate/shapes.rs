@@ -1,6 +1,7 @@
 //! Files that are hard to read: long lines, short lines, unusual bytes, faults; and files that are hard to walk
 //! through: many structures in one place, deep ones, ones in an unlucky order.
 
+use crate::collisions::{links_of_one_group, names_of_one_group, names_of_one_hash};
 use crate::disorder::disordered;
 use std::io::{Error, Result, Write};
 
@@ -48,6 +49,10 @@ fn write_tree(shape: &str, bytes: usize, seed: u64, out: &mut impl Write) -> Res
         "many-records" => grow("", bytes, |number| format!("0 @I{number:07}@ INDI\n"), out),
         // Very many persons, each of whom names one half the file away.
         "far-pointers" => far_pointers(bytes, out),
+        // Persons whose names have one hash, and others whose names, or links, share low bits of theirs: collisions.rs.
+        "names-of-one-hash" => names_of_one_hash(bytes, out),
+        "names-of-one-group" => names_of_one_group(bytes, out),
+        "links-of-one-group" => links_of_one_group(bytes, out),
         // Structures one below the other down to the deepest level, again and again.
         "deep" => grow("", bytes, |_| (0..100).map(|level| format!("{level} _A\n")).collect(), out),
         // One text of very many lines.
@@ -68,9 +73,9 @@ const FACTS: [&str; 6] = ["1 NAME A /B/\n", "1 OCCU a\n", "1 NOTE b\n", "1 DEAT 
 
 const RECORDS: [&str; 7] = ["0 INDI\n", "0 FAM\n", "0 SOUR a\n", "0 _A\n", "0 OBJE\n", "0 SNOTE b\n", "0 _B\n"];
 
-const HEADER: &str = "0 HEAD\n1 GEDC\n2 VERS 7.0\n";
+pub const HEADER: &str = "0 HEAD\n1 GEDC\n2 VERS 7.0\n";
 
-const TRAILER: &str = "0 TRLR\n";
+pub const TRAILER: &str = "0 TRLR\n";
 
 /// The header, the start, as many parts as the size has room for, each made from its number, and the trailer.
 fn grow(start: &str, bytes: usize, part: impl Fn(usize) -> String, out: &mut impl Write) -> Result<()> {

@@ -18,8 +18,7 @@ use Rattle.ged_value.specs.Words.{words_of, joined}
 use Rattle.ged_value.specs.Default.{default_word, is_other}
 use Rattle.ged_value.specs.Zeros.{begins_with_digit, has_leading_zero, trim_zeros}
 use Rattle.ged_value.specs.Kinds.{FitsLine}
-use Rattle.ged_value.proofs.DefaultLaws.{value_leaving_out, period_leaving_out}
-use Rattle.ged_value.proofs.ZeroKinds.{fitting}
+use Rattle.ged_value.proofs.CallerLemmas.{value_leaving_out, period_leaving_out, fitting_without_zeros}
 use Rattle.ged_schema.specs.Rows.{Row}
 use Rattle.ged_schema.specs.Payloads.{Fits}
 use Rattle.ged_canon.specs.declared.edition.Edition.{Edition}
@@ -182,7 +181,7 @@ module _ (edition : Edition) (r : Row) where
         by true g f =
             let l = leading b bs g in
             let e' : words_of line ≡ front ++ (48 ∷ l.0 ∷ l.1) ∷ back = e ∙ ap (λ v. front ++ v ∷ back) l.2 in
-            let s = (fitting r.kind numeric).one_left_out line (front ++ (l.0 ∷ l.1) ∷ back) fits (record { before = front; digit = l.0; rest = l.1; after = back; digit_follows = l.4; old_words = e'; new_words = refl }) in
+            let s = (fitting_without_zeros r.kind numeric).one_left_out line (front ++ (l.0 ∷ l.1) ∷ back) fits (record { before = front; digit = l.0; rest = l.1; after = back; digit_follows = l.4; old_words = e'; new_words = refl }) in
             let t = f (joined (front ++ (l.0 ∷ l.1) ∷ back)) (s.0 ∙ ap (λ v. front ++ v ∷ back) (sym l.3)) s.1 in
             let zero : LeavesZero line (joined (front ++ (l.0 ∷ l.1) ∷ back)) = record { before = front; digit = l.0; rest = l.1; after = back; digit_follows = l.4; old_words = e'; new_words = s.0 } in
             (t.0, then (record { out = leading_zero second numeric zero; longer_fits = fits; shorter_fits = s.1 }) t.1, t.2, t.3)

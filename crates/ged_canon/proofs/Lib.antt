@@ -34,3 +34,4 @@ pub mod SiblingNames
 pub mod WriteLemmas
 pub mod WriteRuns
 pub mod RecordBytes
+pub mod CallerLemmas

@@ -13,7 +13,7 @@ use Rattle.ged_schema.specs.Tables.{row, context_below}
 use Rattle.ged_schema.specs.Unlisted.{Unlisted}
 use Rattle.ged_canon.specs.declared.edition.Edition.{Edition}
 use Rattle.ged_canon.specs.Steps.{Respelt, respelt, with_payload, Change, exchange, leave_out, put_in, Somewhere, here, under, later, new_name, renamed_xref, renamed_payload, renamed_structure, renamed, Gains, gains, after, GainsName, Move, change, rename, gain, lose, Step}
-use Rattle.ged_canon.specs.Notices.{NoNotice}
+use Rattle.ged_schema.specs.Profiles.{NoNotice}
 use Rattle.ged_canon.proofs.Fixed.{with_others}
 use Rattle.ged_canon.proofs.Used.{none_some, some_some, with_xref_here}
 use Rattle.ged_canon.proofs.Renaming.{keeps_apart}

@@ -11,7 +11,7 @@ use Rattle.ged_tree.specs.DocumentLines.{structure_lines, lines_of, trailer_line
 use Rattle.ged_tree.specs.Places.{structure_at, below_at}
 use Rattle.ged_tree.specs.Runs.{trees_between, IsRun, IsStep}
 use Rattle.ged_tree.specs.Walks.{HasLinesAt}
-use Rattle.ged_tree.proofs.LineTests.{at_of_document}
+use Rattle.ged_tree.proofs.CallerLemmas.{at_of_document}
 use Rattle.ged_link.specs.Links.{IsAmong, with_xref, xrefs, Resolved}
 use Rattle.ged_schema.specs.declared.context.Context.{Context}
 use Rattle.ged_schema.specs.declared.context.Context.TheVariants.{File}

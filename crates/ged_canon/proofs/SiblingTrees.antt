@@ -8,7 +8,7 @@ use Rattle.ged_line.specs.Bytes.{Bytes}
 use Rattle.ged_tree.specs.Trees.{Structure, Trees, tree}
 use Rattle.ged_tree.specs.Places.{structure_at, below_at, place_after}
 use Rattle.ged_tree.specs.Runs.{trees_between, IsRun, IsStep}
-use Rattle.ged_tree.proofs.PlaceLemmas.{run_unfolds, below_run}
+use Rattle.ged_tree.proofs.CallerLemmas.{run_unfolds, below_run}
 use Rattle.ged_schema.specs.declared.context.Context.{Context}
 use Rattle.ged_schema.specs.Tables.{context_below}
 use Rattle.ged_canon.specs.declared.edition.Edition.{Edition}

@@ -2,6 +2,7 @@
 use Rattle.std.proofs.Common.{◌≡◌, ℕ, ◌+◌, ◌<◌, ◌≤◌, true, ◌&&◌, List, [], ◌∷◌, ◌++◌, Option, Some, None, length, take, get_or, slice_get, refl, sym, ap, ◌∙◌, append_assoc, arith, codes}
 use Rattle.std.specs.Prelude.{false, nat_le, not, ◌==◌}
 use Rattle.std.specs.List.{list_all}
+use Rattle.std.specs.Str.{bytes_eq}
 use Rattle.std.proofs.lemmas.Bool.{and_parts, and_from, or_parts, leb-true, le-leb, ltb-true, true≢false, true_from_ne_false}
 use Rattle.std.proofs.lemmas.Bool.Decides.{nat_tests}
 use Rattle.std.proofs.lemmas.List.{take_more}
@@ -15,11 +16,10 @@ use Rattle.ged_line.specs.Spelling.{spelling, spelled_lines}
 use Rattle.ged_tree.specs.declared.payload.Payload.{Payload}
 use Rattle.ged_tree.specs.declared.payload.Payload.TheVariants.{Void, Pointer, Text}
 use Rattle.ged_tree.specs.Trees.{Structure, further_lines}
-use Rattle.ged_tree.specs.Documents.{is_payload_at, is_structure_at}
+use Rattle.ged_tree.specs.Documents.{is_payload_at, is_xref_at, is_structure_at}
 use Rattle.ged_tree.specs.DocumentLines.{line_value, first_value, continued}
 use Rattle.ged_tree.specs.Views.{is_pointer}
 use Rattle.ged_tree.specs.Walks.{HasLinesAt}
-use Rattle.ged_tree.proofs.LineTests.{structure_is}
 use Rattle.ged_schema.specs.Rows.{Row}
 use Rattle.ged_canon.specs.declared.edition.Edition.{Edition}
 use Rattle.ged_canon.specs.declared.edition.Edition.TheVariants.{First, Second}
@@ -160,13 +160,31 @@ further_plain level (Text (line ∷ [])) h = refl
 further_plain level (Text (line ∷ next ∷ lines)) h =
     (and_parts (is_plain line) (list_all is_plain (next ∷ lines)) ((and_parts _ (list_all is_plain (line ∷ next ∷ lines)) h).1)).1
 
+-- the parts of a structure's test
+record StructureIs (level : ℕ) (s : Structure) : Type 0 where
+  shallow : nat_le level 99 ≡ true
+  tag : is_tag s.tag ≡ true
+  payload : is_payload_at level s.payload ≡ true
+
+structure_is : (level : ℕ) (s : Structure) → is_structure_at level s ≡ true → StructureIs level s
+structure_is level s h =
+    let other = not (bytes_eq s.tag (codes "CONT")) in
+    let carried = is_xref_at level s.xref && is_payload_at level s.payload in
+    let parts = and_parts (nat_le level 99 && (is_tag s.tag && other)) carried h in
+    let front = and_parts (nat_le level 99) (is_tag s.tag && other) parts.0 in
+    record {
+      shallow = front.0;
+      tag = (and_parts (is_tag s.tag) other front.1).0;
+      payload = (and_parts (is_xref_at level s.xref) (is_payload_at level s.payload) parts.1).1;
+    }
+
 pub lines_with : (level : ℕ) (s : Structure) (xref : Option Bytes) → is_structure_at level s ≡ true → may_be_xref xref ≡ true → HasLinesAt level (with_identifier s xref)
 lines_with level s xref h named =
     let is = structure_is level s h in
     record {
-      shallow = leb-true level 99 is.level;
+      shallow = leb-true level 99 is.shallow;
       own = and_from (nat_le level 99 && may_be_xref xref && is_tag s.tag) (is_value (first_value s.payload))
-          (and_from (nat_le level 99 && may_be_xref xref) (is_tag s.tag) (and_from (nat_le level 99) (may_be_xref xref) is.level named) is.tag)
+          (and_from (nat_le level 99 && may_be_xref xref) (is_tag s.tag) (and_from (nat_le level 99) (may_be_xref xref) is.shallow named) is.tag)
           (first_shown level s.payload is.payload);
       room = room_below level s.payload is.payload;
       plain = further_plain level s.payload is.payload;

@@ -1,6 +1,5 @@
 pub mod Steps
 pub mod Normal
-pub mod Notices
 pub mod CanonText
 pub mod Laws
 pub mod Working

@@ -3,7 +3,7 @@ ghost use Rattle.std.specs.Prelude.{◌≡◌, true};
 ghost use Rattle.ged_tree.specs.Documents.{is_document};
 ghost use Rattle.ged_link.specs.Links.{Resolved};
 ghost use Rattle.ged_schema.specs.Checked.{Checked};
-ghost use Rattle.ged_canon.specs.Notices.{NoNotice};
+ghost use Rattle.ged_schema.specs.Profiles.{NoNotice};
 ghost use Rattle.ged_canon.specs.Laws.{NormalFormIsUnique, NormalFormExists, EqualNormalForms, IsKept, EquivalentIsSymmetric, EquivalentIsTransitive, StepIsUndone, StepKeeps, EditionsAgree, SecondIsNormalInFirst};
 
 /// Two normal documents of which one becomes the other by steps are equal.

@@ -24,8 +24,3 @@ pub use laws::{
 };
 pub use normal::{is_normal, is_normal_in};
 pub use write::write_document;
-
-#[cfg(test)]
-mod tests;
-#[cfg(test)]
-mod tests_bytes;

@@ -2,40 +2,41 @@
 //! line on standard error.
 #![tactic(auto)]
 
-ghost use Rattle.std.specs.Prelude.{◌≡◌, ◌≤◌, IsErr};
+ghost use Rattle.std.specs.Prelude.{◌≡◌, ◌≤◌, false, IfOk, IsErr, map, string_bytes};
 ghost use Rattle.std.specs.Io.KnownBytes.{Keeps};
+ghost use Rattle.ged_cmd.specs.Program.{IsUnread, Performs, reader as reader_of, writer as writer_of};
 
 mod answers;
+mod shelf;
 mod tells;
-#[cfg(test)]
-mod tests;
 mod words;
 
-use answers::{answer_file, compare_files};
-use ged_tool::Outcome;
+use answers::answer_request;
+use ged_tool::{Input, Output, Sink, Source};
+use shelf::{Disk, Shelf};
 use std::alloc::Global;
-use std::io::{Read, Write};
+use std::io::Write;
 use std::process::ExitCode;
-use std::rt::Files;
 use std::{env, io};
 use tells::{USAGE_STATUS, finish, refuse, refuse_unread};
-use words::{Request, read_words};
+use words::read_words;
 
 /// The streams of a program.
 #[derive(Drop)]
 struct Streams<R, W, E> {
     input: R,
-    output: W,
+    output: Output<W>,
     errors: E,
 }
 
 fn main(rt: HostRuntime) -> ExitCode {
     let mut streams = Streams {
-        input: rt.stdin(),
-        output: rt.stdout(),
+        input: Input::new(rt.stdin()),
+        output: Output::new(rt.stdout()),
         errors: rt.stderr(),
     };
-    ExitCode::from(perform(rt.alloc(), &rt, words_of(&rt), &mut streams))
+    let status = perform(rt.alloc(), &Disk::new(&rt), words_of(&rt), &mut streams);
+    ExitCode::from(status)
 }
 
 /// The words of the command line, the program's name first. One that isn't UTF-8 is an error.
@@ -44,41 +45,29 @@ fn words_of(rt: &HostRuntime) -> io::Result<Vec<String>> {
     Ok(words)
 }
 
-/// Answers a request, and gives the outcome.
-fn answer_request<F: Files, R: Read, W: Write>(
-    alloc: Global,
-    files: &F,
-    request: Request<'_>,
-    input: &mut R,
-    output: &mut W,
-) -> Outcome {
-    match request {
-        Request::Run {
-            command,
-            settings,
-            file,
-        } => answer_file(alloc, files, settings, command, file, input, output),
-        Request::Same {
-            settings,
-            first,
-            second,
-        } => compare_files(alloc, files, settings, first, second, input, output),
-    }
-}
-
 /// Does what the words ask for, and gives the program's status: 0 where the answer or the help was
 /// written, 1 for a fault of the file or two files that differ, 2 for a mistake in the words, 3 for a fault of a device or
 /// want of memory.
-fn perform<F: Files, R: Read, W: Write, E: Write>(
+fn perform<S: Shelf, R: Source, W: Write, E: Write>(
     alloc: Global,
-    files: &F,
+    shelf: &S,
     words: io::Result<Vec<String>>,
     streams: &mut Streams<R, W, E>,
 ) -> u8
+    requires unread { R.reads streams.old.input ≡ 0 }
+    requires no_failure { (R.failed streams.old.input ≡ false)
+        × (⟦<Output<W> as Sink>⟧.failed streams.old.output ≡ false) }
+    ensures performs { IfOk words (λ words. Performs (S.opens shelf.now) (S.refuses shelf.now) S.Device.to_come
+        S.Device.failed (map string_bytes words.items)
+        (reader_of R.to_come R.failed streams.old.input streams.new.input)
+        (writer_of ⟦<Output<W> as Sink>⟧.taken ⟦<Output<W> as Sink>⟧.failed streams.old.output streams.new.output)
+        result) }
     ensures range { result ≤ 3 }
-    ensures unread { IsErr words → result ≡ 2 }
+    ensures unread { IsErr words → (result ≡ 2)
+        × IsUnread (reader_of R.to_come R.failed streams.old.input streams.new.input) }
     ensures quiet { result ≡ 0 → Keeps (E.contents streams.old.errors) (E.contents streams.new.errors) }
-    ensures usage { result ≡ 2 → Keeps (W.contents streams.old.output) (W.contents streams.new.output) }
+    ensures usage { result ≡ 2 → Keeps (⟦<Output<W> as Sink>⟧.taken streams.old.output)
+        (⟦<Output<W> as Sink>⟧.taken streams.new.output) }
 {
     let words = match words {
         Ok(words) => words,
@@ -87,7 +76,7 @@ fn perform<F: Files, R: Read, W: Write, E: Write>(
     match read_words(alloc, words.as_slice()) {
         Ok(Some(request)) => {
             let (input, output) = (&mut streams.input, &mut streams.output);
-            let outcome = answer_request(alloc, files, request, input, output);
+            let outcome = answer_request(alloc, shelf, request, input, output);
             finish(&outcome, &mut streams.errors)
         }
         Ok(None) => USAGE_STATUS,

@@ -1,13 +1,15 @@
 // What standard error and the program's status tell.
-ghost use Rattle.std.specs.Prelude.{◌≡◌, ◌≢◌, ◌⊎◌};
+ghost use Rattle.std.specs.Prelude.{◌≡◌, ◌≢◌, false};
 ghost use Rattle.std.specs.Io.KnownBytes.{Keeps};
 ghost use Rattle.clap.specs.Words.{kind_of};
+ghost use Rattle.ged_tool.specs.Devices.{failed_after};
 ghost use Rattle.ged_tool.specs.Faults.{status_of};
+ghost use Rattle.ged_cmd.specs.Program.{IsUnwritten, refusal_status, writer as writer_of};
 
 use crate::answers::failed;
 use clap::Error;
 use clap::error::ErrorKind;
-use ged_tool::{Fault, Outcome, Which};
+use ged_tool::{Failed, Fault, Outcome, Output, Sink, Which};
 use std::alloc::AllocError;
 use std::io;
 use std::io::{Cursor, Write};
@@ -60,14 +62,17 @@ fn write_line<W: Write>(which: Option<Which>, fault: &Fault, line: &mut W) -> io
 }
 
 /// Prints help on the output, or what is wrong with the words on the errors.
-pub(crate) fn refuse<W: Write, E: Write>(error: &Error, output: &mut W, errors: &mut E) -> u8
-    ensures memory { kind_of error.now ≡ ErrorKind.OutOfMemory → result ≡ 3 }
-    ensures help { (kind_of error.now ≡ ErrorKind.DisplayHelp) ⊎ (kind_of error.now ≡ ErrorKind.DisplayVersion)
-        → (result ≡ 0) ⊎ (result ≡ 3) }
-    ensures mistake { kind_of error.now ≢ ErrorKind.OutOfMemory → kind_of error.now ≢ ErrorKind.DisplayHelp
-        → kind_of error.now ≢ ErrorKind.DisplayVersion → result ≡ 2 }
+pub(crate) fn refuse<W: Write, E: Write>(
+    error: &Error,
+    output: &mut Output<W>,
+    errors: &mut E,
+) -> u8
+    requires { ⟦<Output<W> as Sink>⟧.failed output.old ≡ false }
+    ensures status { result ≡ refusal_status (kind_of error.now) (⟦<Output<W> as Sink>⟧.failed output.new) }
+    ensures unwritten { kind_of error.now ≢ ErrorKind.DisplayHelp → kind_of error.now ≢ ErrorKind.DisplayVersion
+        → IsUnwritten (writer_of ⟦<Output<W> as Sink>⟧.taken ⟦<Output<W> as Sink>⟧.failed output.old output.new) }
     ensures quiet { result ≡ 0 → Keeps (E.contents errors.old) (E.contents errors.new) }
-    ensures usage { result ≡ 2 → Keeps (W.contents output.old) (W.contents output.new) }
+    ensures usage { result ≡ 2 → Keeps (⟦<Output<W> as Sink>⟧.taken output.old) (⟦<Output<W> as Sink>⟧.taken output.new) }
 {
     if error.kind() == ErrorKind::OutOfMemory {
         return finish(&failed(Fault::Memory(AllocError)), errors);
@@ -76,10 +81,19 @@ pub(crate) fn refuse<W: Write, E: Write>(error: &Error, output: &mut W, errors: 
         let _ = write!(errors, "{error}");
         return USAGE_STATUS;
     }
-    match write!(output, "{error}").and_then(|()| output.flush()) {
+    match print_help(error, output) {
         Ok(()) => 0,
         Err(_) => finish(&failed(Fault::WriteFailed), errors),
     }
+}
+
+/// Prints help, and flushes it.
+fn print_help<W: Write>(error: &Error, output: &mut Output<W>) -> Result<(), Failed>
+    requires { ⟦<Output<W> as Sink>⟧.failed output.old ≡ false }
+    ensures { ⟦<Output<W> as Sink>⟧.failed output.new ≡ failed_after false result }
+{
+    output.print(error)?;
+    output.flush()
 }
 
 /// Tells why the words of the command line can't be had.

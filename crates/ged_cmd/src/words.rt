@@ -1,6 +1,14 @@
 // What the words of the command line ask for.
+ghost use Rattle.std.specs.Prelude.{◌≡◌, [], IfOk, IfErr, map, option_and_then, option_map, string_bytes, if◌then◌else◌};
+ghost use Rattle.clap.specs.Words.{rule_of, app_of, rows_of, found_of, subcommand_rows_of, fault_of, new_app, new_rule};
+ghost use Rattle.clap.specs.Kinds.{HasKind};
+ghost use Rattle.ged_cmd.specs.CommandLine as line;
+ghost use Rattle.ged_cmd.specs.CommandLine.{IsArg, IsCommand};
+ghost use Rattle.ged_tool.specs.Profiles.{profile_of, edition_of};
+ghost use Rattle.ged_cmd.specs.Tasks.{asked, command_of, edition_asked, is_set, profile_asked, run_asked, same_asked, task_of, task_of_match};
+
 use clap::{Arg, ArgAction, ArgMatches, Error};
-use ged_tool::{Command, Settings};
+use ged_tool::{Command, Edition, Profile, Settings};
 use std::alloc::{AllocError, Global};
 
 /// The name that help and usage give the program, whatever file it lies in.
@@ -35,54 +43,92 @@ pub(crate) enum Request<'a> {
 pub(crate) fn read_words<'a>(
     alloc: Global,
     words: &'a [String],
-) -> Result<Option<Request<'a>>, Error> {
+) -> Result<Option<Request<'a>>, Error>
+    ensures no_mistake { IfOk result (λ _. fault_of line.gedtool (map string_bytes words.entry.now) ≡ []) }
+    ensures asked { IfOk result (λ request. option_map task_of request ≡ asked (map string_bytes words.entry.now)) }
+    ensures refused { IfErr result (HasKind (fault_of line.gedtool (map string_bytes words.entry.now))) }
+{
     let matches = command_line(alloc)?.try_get_matches_from(words)?;
     Ok(request_of(&matches))
 }
 
-fn request_of<'a>(matches: &ArgMatches<'a>) -> Option<Request<'a>> {
+/// What the matches of the words ask for.
+fn request_of<'a>(matches: &ArgMatches<'a>) -> Option<Request<'a>>
+    ensures { option_map task_of result ≡ option_and_then task_of_match (subcommand_rows_of matches.now) }
+{
     let (name, inner) = matches.subcommand()?;
-    let settings = settings_of(inner);
-    let command = match name {
-        "lines" => Command::Lines,
-        "check" => Command::Check,
-        "show" => Command::Show,
-        "canon" => Command::Canon,
-        "same" => {
-            return Some(Request::Same {
-                settings,
-                first: inner.get_str("A")?,
-                second: inner.get_str("B"),
-            });
-        }
-        _ => return None,
-    };
-    Some(Request::Run {
-        command,
-        settings,
-        file: inner.get_str("FILE"),
+    if name == "same" {
+        return same_request(inner);
+    }
+    run_request(name, inner)
+}
+
+/// What `same` asks for.
+fn same_request<'a>(matches: &ArgMatches<'a>) -> Option<Request<'a>>
+    ensures { option_map task_of result ≡ same_asked (rows_of (found_of matches.now)) }
+{
+    Some(Request::Same {
+        settings: settings_of(matches),
+        first: matches.get_str("A")?,
+        second: matches.get_str("B"),
     })
+}
+
+/// What any other subcommand asks for.
+fn run_request<'a>(name: &str, matches: &ArgMatches<'a>) -> Option<Request<'a>>
+    ensures { option_map task_of result ≡ run_asked name.now (rows_of (found_of matches.now)) }
+{
+    Some(Request::Run {
+        command: command_named(name)?,
+        settings: settings_of(matches),
+        file: matches.get_str("FILE"),
+    })
+}
+
+/// The command over one file that has this name.
+fn command_named(name: &str) -> Option<Command>
+    ensures { result ≡ command_of name.now }
+{
+    match name {
+        "lines" => Some(Command::Lines),
+        "check" => Some(Command::Check),
+        "show" => Some(Command::Show),
+        "canon" => Some(Command::Canon),
+        _ => None,
+    }
 }
 
 /// The settings that the flags of a subcommand ask for: lenient and of the first edition where it
 /// has none.
-fn settings_of(matches: &ArgMatches<'_>) -> Settings {
-    let mut settings = Settings::new();
-    if matches.get_flag(STRICT) {
-        settings = settings.strict();
-    }
-    if matches.get_flag(SECOND) {
-        settings = settings.second();
-    }
-    settings
+fn settings_of(matches: &ArgMatches<'_>) -> Settings
+    ensures profile { profile_of result ≡ profile_asked (rows_of (found_of matches.now)) }
+    ensures edition { edition_of result ≡ edition_asked (rows_of (found_of matches.now)) }
+{
+    settings_asked(is_flagged(matches, STRICT), is_flagged(matches, SECOND))
+}
+
+/// The settings under these flags.
+fn settings_asked(strict: bool, second: bool) -> Settings
+    ensures profile { profile_of result ≡ (if strict then Profile.Strict else Profile.Lenient) }
+    ensures edition { edition_of result ≡ (if second then Edition.Second else Edition.First) }
+{
+    let settings = Settings::new();
+    let settings = if strict { settings.strict() } else { settings };
+    if second { settings.second() } else { settings }
+}
+
+/// Whether a flag is set.
+fn is_flagged(matches: &ArgMatches<'_>, flag: &str) -> bool
+    ensures { result ≡ is_set flag.now (rows_of (found_of matches.now)) }
+{
+    matches.get_one::<bool>(flag).unwrap_or(false)
 }
 
 /// What the program understands.
-fn command_line<'a>(alloc: Global) -> Result<clap::Command<'a>, AllocError> {
-    clap::Command::new(alloc, NAME)
-        .bin_name(NAME)?
-        .about("Reads FamilySearch GEDCOM 7.0 files")
-        .subcommand_required(true)
+fn command_line<'a>(alloc: Global) -> Result<clap::Command<'a>, AllocError>
+    ensures { IfOk result (IsCommand line.gedtool) }
+{
+    bare_program(alloc)?
         .subcommand(lines_command(alloc)?)?
         .subcommand(check_command(alloc)?)?
         .subcommand(show_command(alloc)?)?
@@ -90,7 +136,25 @@ fn command_line<'a>(alloc: Global) -> Result<clap::Command<'a>, AllocError> {
         .subcommand(same_command(alloc)?)
 }
 
-fn lines_command<'a>(alloc: Global) -> Result<clap::Command<'a>, AllocError> {
+/// The program without its commands, of which it needs one.
+fn bare_program<'a>(alloc: Global) -> Result<clap::Command<'a>, AllocError>
+    ensures { IfOk result (IsCommand line.bare_program) }
+{
+    named_command(alloc, NAME, "Reads FamilySearch GEDCOM 7.0 files")
+        .subcommand_required(true)
+        .bin_name(NAME)
+}
+
+/// A command that takes nothing.
+fn named_command<'a>(alloc: Global, name: &'a str, about: &'a str) -> clap::Command<'a>
+    ensures { IsCommand (new_app name.entry.now) result }
+{
+    clap::Command::new(alloc, name).about(about)
+}
+
+fn lines_command<'a>(alloc: Global) -> Result<clap::Command<'a>, AllocError>
+    ensures { IfOk result (IsCommand line.lines) }
+{
     file_command(
         alloc,
         "lines",
@@ -98,24 +162,32 @@ fn lines_command<'a>(alloc: Global) -> Result<clap::Command<'a>, AllocError> {
     )
 }
 
-fn check_command<'a>(alloc: Global) -> Result<clap::Command<'a>, AllocError> {
+fn check_command<'a>(alloc: Global) -> Result<clap::Command<'a>, AllocError>
+    ensures { IfOk result (IsCommand line.check) }
+{
     let about = "Tells the notices of a file, and that it is accepted";
     file_command(alloc, "check", about)?.arg(strict_flag(alloc))
 }
 
-fn show_command<'a>(alloc: Global) -> Result<clap::Command<'a>, AllocError> {
+fn show_command<'a>(alloc: Global) -> Result<clap::Command<'a>, AllocError>
+    ensures { IfOk result (IsCommand line.show) }
+{
     let about = "Writes the level, tag and kind of each structure of a file";
     file_command(alloc, "show", about)?.arg(strict_flag(alloc))
 }
 
-fn canon_command<'a>(alloc: Global) -> Result<clap::Command<'a>, AllocError> {
+fn canon_command<'a>(alloc: Global) -> Result<clap::Command<'a>, AllocError>
+    ensures { IfOk result (IsCommand line.canon) }
+{
     file_command(alloc, "canon", "Writes a file in its canonical form")?
         .arg(strict_flag(alloc))?
         .arg(second_flag(alloc))
 }
 
 /// The flag under which files are judged by the strict profile.
-fn strict_flag<'a>(alloc: Global) -> Arg<'a> {
+fn strict_flag<'a>(alloc: Global) -> Arg<'a>
+    ensures { IsArg line.strict_flag result }
+{
     Arg::new(alloc, STRICT)
         .long(STRICT)
         .action(ArgAction::SetTrue)
@@ -123,7 +195,9 @@ fn strict_flag<'a>(alloc: Global) -> Arg<'a> {
 }
 
 /// The flag for the second edition of the canonical form.
-fn second_flag<'a>(alloc: Global) -> Arg<'a> {
+fn second_flag<'a>(alloc: Global) -> Arg<'a>
+    ensures { IsArg line.second_flag result }
+{
     Arg::new(alloc, SECOND)
         .long(SECOND)
         .action(ArgAction::SetTrue)
@@ -135,25 +209,41 @@ fn file_command<'a>(
     alloc: Global,
     name: &'a str,
     about: &'a str,
-) -> Result<clap::Command<'a>, AllocError> {
-    let file = Arg::new(alloc, "FILE").help(
-        "The file to read; standard input where it is left out",
-    );
-    clap::Command::new(alloc, name).about(about).arg(file)
+) -> Result<clap::Command<'a>, AllocError>
+    ensures { IfOk result (IsCommand (line.over_file name.entry.now)) }
+{
+    let help = "The file to read; standard input where it is left out";
+    named_command(alloc, name, about).arg(file_argument(alloc, "FILE", help))
+}
+
+/// A file that may be left out.
+fn file_argument<'a>(alloc: Global, name: &'a str, help: &'a str) -> Arg<'a>
+    ensures { IsArg (new_rule name.entry.now) result }
+{
+    Arg::new(alloc, name).help(help)
+}
+
+/// The first of two files.
+fn first_argument<'a>(alloc: Global) -> Arg<'a>
+    ensures { IsArg line.first_file result }
+{
+    Arg::new(alloc, "A")
+        .required(true)
+        .help("The first file to read")
 }
 
 /// The subcommand over two files.
-fn same_command<'a>(alloc: Global) -> Result<clap::Command<'a>, AllocError> {
-    let first = Arg::new(alloc, "A")
-        .required(true)
-        .help("The first file to read");
-    let second = Arg::new(alloc, "B").help(
-        "The second file to read; standard input where it is left out",
-    );
-    clap::Command::new(alloc, "same")
-        .about("Tells whether two files have one canonical form")
-        .arg(first)?
-        .arg(second)?
-        .arg(strict_flag(alloc))?
-        .arg(second_flag(alloc))
+fn same_command<'a>(alloc: Global) -> Result<clap::Command<'a>, AllocError>
+    ensures { IfOk result (IsCommand line.same) }
+{
+    let help = "The second file to read; standard input where it is left out";
+    named_command(
+        alloc,
+        "same",
+        "Tells whether two files have one canonical form",
+    )
+    .arg(first_argument(alloc))?
+    .arg(file_argument(alloc, "B", help))?
+    .arg(strict_flag(alloc))?
+    .arg(second_flag(alloc))
 }

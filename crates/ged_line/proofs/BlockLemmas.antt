@@ -17,7 +17,7 @@ pub pieces_some : (bytes : List ℕ) → pieces_of bytes ≡ [] → bytes ≡ []
 pieces_some bytes e = subst (AreCutInto bytes) e (are_cut bytes)
 
 -- the byte at the front of the first of some pieces
-with_front-append : (b : ℕ) (xs ys : List (List ℕ)) → xs ≢ [] → with_front b (xs ++ ys) ≡ with_front b xs ++ ys
+pub with_front-append : (b : ℕ) (xs ys : List (List ℕ)) → xs ≢ [] → with_front b (xs ++ ys) ≡ with_front b xs ++ ys
 with_front-append b [] ys n = absurd (n refl)
 with_front-append b (x ∷ xs) ys n = refl
 
@@ -34,7 +34,7 @@ apart_other b front back f g h =
     ∙ with_front-append b (pieces_of (front ++ (10 ∷ []))) (pieces_of back) (λ e. feed_not_nil front (pieces_some (front ++ (10 ∷ [])) e))
     ∙ ap (λ ps. ps ++ pieces_of back) (sym (pieces_front b (front ++ (10 ∷ [])) f g))
 
-not_feed : (c : ℕ) (cs more : List ℕ) → c ≢ 10 → c ∷ cs ≢ 10 ∷ more
+pub not_feed : (c : ℕ) (cs more : List ℕ) → c ≢ 10 → c ∷ cs ≢ 10 ∷ more
 not_feed c cs more n e = n (cc)
 
 apart_carriage : (c : ℕ) (front back : List ℕ) → c ≢ 10 → AreApart (c ∷ front) back → AreApart (13 ∷ c ∷ front) back

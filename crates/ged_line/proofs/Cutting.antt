@@ -1,11 +1,11 @@
 -- How bytes are cut into pieces.
 use Rattle.std.proofs.Common.{◌≡◌, ◌≢◌, ℕ, suc, ◌+◌, ◌<◌, ◌≤◌, true, false, List, [], ◌∷◌, ◌++◌, ◌⊎◌, inl, inr, length, get_or, take, drop, refl, sym, ◌∙◌, ap, subst, arith, ◌==◌, ◌||◌, ◌-◌, get_or-take, length-append}
 use Rattle.std.proofs.lemmas.Bool.Decides.{nat_tests}
-use Rattle.std.proofs.lemmas.List.{take-append-drop, length-take-le, length-drop, get_or-drop}
+use Rattle.std.proofs.lemmas.List.{append-nil, take-append-drop, length-take-le, length-drop, get_or-drop}
 use Rattle.std.proofs.Math.Seq.{take-length}
 use Rattle.std.proofs.lemmas.List.Elements.{recursion_from_All, All-from_get_or}
 use native.Mathlib.Decide.{dec_lt}
-use Rattle.ged_line.specs.Pieces.{IsEnd, HasNoEnd, AreCutInto, with_front, pieces_of}
+use Rattle.ged_line.specs.Pieces.{IsEnd, HasNoEnd, IsFirstPiece, AreCutInto, with_front, pieces_of}
 
 not_same : (b c : ℕ) → b ≢ c → (b == c) ≡ false
 not_same b c h = grind (arith, nat_tests)
@@ -36,6 +36,17 @@ pieces_end end rest (inr (inr (e, f))) = ap (λ x. pieces_of (x ++ rest)) e ∙ 
 pub pieces_cut : (piece end rest : List ℕ) → HasNoEnd piece → IsEnd end rest → pieces_of (piece ++ (end ++ rest)) ≡ piece ∷ pieces_of rest
 pieces_cut [] end rest f e = pieces_end end rest e
 pieces_cut (b ∷ bs) end rest f e = pieces_front b (bs ++ (end ++ rest)) f.0.0 f.0.1 ∙ ap (with_front b) (pieces_cut bs end rest f.1 e)
+
+-- the same in one word
+pub first_of_pieces : (bytes piece rest : List ℕ) → IsFirstPiece bytes piece rest → pieces_of bytes ≡ piece ∷ pieces_of rest
+first_of_pieces bytes piece rest (f, inl (end, e, s)) = ap pieces_of s ∙ pieces_cut piece end rest f e
+first_of_pieces bytes piece rest (f, inr (e, none, n)) =
+    ap pieces_of e ∙ pieces_whole piece f n ∙ ap (λ x. piece ∷ pieces_of x) (sym none)
+
+-- what stands behind a first piece, and the rest
+pub parts_of_first : (bytes piece rest : List ℕ) → IsFirstPiece bytes piece rest → (end : List ℕ) × (bytes ≡ piece ++ (end ++ rest))
+parts_of_first bytes piece rest (f, inl (end, e, s)) = (end, s)
+parts_of_first bytes piece rest (f, inr (e, none, n)) = ([], e ∙ sym (ap (λ x. piece ++ x) none ∙ append-nil piece))
 
 -- the pieces are one list
 pub pieces_only : (pieces : List (List ℕ)) (bytes : List ℕ) → AreCutInto bytes pieces → pieces ≡ pieces_of bytes
@@ -142,7 +153,7 @@ pub last_piece : (bs : List ℕ) → false ≡ (length bs == 0) → ((k : ℕ) �
 last_piece [] e h = cc
 last_piece (b ∷ bs) e h = pieces_whole (b ∷ bs) (subst HasNoEnd (take-length (b ∷ bs)) (HasNoEnd-from_search (b ∷ bs) (length (b ∷ bs)) (omega arith) h)) (λ z. cc)
 
-is_end_first : (b : ℕ) → (b == 13 || b == 10) ≡ true → (b ≡ 13) ⊎ (b ≡ 10)
+pub is_end_first : (b : ℕ) → (b == 13 || b == 10) ≡ true → (b ≡ 13) ⊎ (b ≡ 10)
 is_end_first b h = elim (same_or_not b 13) [ inl e ↦ inl e | inr f ↦ inr (grind (arith, nat_tests)) ]
 
 pub at_end : (bs : List ℕ) (n : ℕ) → n < length bs → (get_or bs n 0 == 13 || get_or bs n 0 == 10) ≡ true
@@ -169,9 +180,10 @@ one_end_text bs l k n = subst (EndsWithRest bs) (rest_of bs 1 l) (one_end bs l k
 pub HasNoEnd-whole : (bs : List ℕ) → ((k : ℕ) → 0 ≤ k → k < length bs → ¬ ((get_or bs k 0 == 13 || get_or bs k 0 == 10) ≡ true)) → HasNoEnd bs
 HasNoEnd-whole bs h = subst HasNoEnd (take-length bs) (HasNoEnd-from_search bs (length bs) (omega arith) h)
 
-pub last_text : (bs : List ℕ) → 0 < length bs → ((k : ℕ) → 0 ≤ k → k < length bs → ¬ ((get_or bs k 0 == 13 || get_or bs k 0 == 10) ≡ true)) → pieces_of bs ≡ bs ∷ []
+-- a text in which no end is found is its only piece
+pub last_text : (bs : List ℕ) → 0 < length bs → ((k : ℕ) → 0 ≤ k → k < length bs → ¬ ((get_or bs k 0 == 13 || get_or bs k 0 == 10) ≡ true)) → IsFirstPiece bs bs []
 last_text [] l h = absurd (omega arith)
-last_text (b ∷ bs) l h = pieces_whole (b ∷ bs) (HasNoEnd-whole (b ∷ bs) h) (λ z. cc)
+last_text (b ∷ bs) l h = (HasNoEnd-whole (b ∷ bs) h, inr (refl, refl, λ z. cc))
 
 -- a text cut at its first line end
 pub parts_of_cut : (bs piece back end rest : List ℕ) (n : ℕ) → piece ≡ take n bs → back ≡ drop n bs → back ≡ end ++ rest → bs ≡ piece ++ (end ++ rest)

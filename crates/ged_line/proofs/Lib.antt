@@ -13,3 +13,5 @@ pub mod Respelling
 pub mod Fast
 pub mod EndLemmas
 pub mod BlockLemmas
+pub mod CallerLemmas
+pub mod WholeLemmas

@@ -6,6 +6,7 @@ pub mod Lines
 pub mod Views
 pub mod Faults
 pub mod Pieces
+pub mod WholeLines
 pub mod Files
 pub mod Spelling
 pub mod Reading

@@ -11,6 +11,13 @@ IsEnd end rest = (end ≡ carriage_return ∷ line_feed ∷ [])
 abbrev pub HasNoEnd : Bytes → Type 0
 HasNoEnd bytes = AllByRecursion (λ b. (b ≢ carriage_return) × (b ≢ line_feed)) bytes
 
+-- the first piece of bytes, which have no mark, and what is left of them: behind the piece stands one whole end and then
+-- the rest, or nothing
+abbrev pub IsFirstPiece : Bytes → Bytes → Bytes → Type 0
+IsFirstPiece bytes piece rest = HasNoEnd piece
+    × (((end : Bytes) × IsEnd end rest × (bytes ≡ piece ++ (end ++ rest)))
+    ⊎ ((bytes ≡ piece) × (rest ≡ []) × (piece ≢ [])))
+
 -- the bytes, which have no mark, are cut into these pieces at their line ends; nothing follows a last end
 abbrev pub AreCutInto : Bytes → List Bytes → Type 0
 AreCutInto bytes [] = bytes ≡ []

@@ -3,7 +3,7 @@
 ghost use Rattle.std.specs.Prelude.{◌≡◌, ◌<◌, ◌++◌, ◌∷◌, ◌⊎◌, length, slice_index, IsUtf8};
 ghost use Rattle.ged_line.specs.Bytes.{Bytes, carriage_return, line_feed};
 ghost use Rattle.ged_line.specs.Characters.{has_banned as tests_banned};
-ghost use Rattle.ged_line.specs.Pieces.{IsEnd, pieces_of};
+ghost use Rattle.ged_line.specs.Pieces.{IsEnd, IsFirstPiece, pieces_of};
 
 use crate::characters::has_banned;
 use crate::ends::{first_end, first_special};
@@ -36,8 +36,8 @@ fn text_after_end(text: &str) -> &str
 #[inline(always)]
 pub(crate) fn cut_line(text: &str) -> Cut<'_>
     requires { 0 < length text.now }
+    ensures first { IsFirstPiece text.now result.piece.now result.after.now }
     ensures pieces { pieces_of text.now ≡ result.piece.now ∷ pieces_of result.after.now }
-    ensures parts { (end : Bytes) × (text.now ≡ result.piece.now ++ (end ++ result.after.now)) }
     ensures banned { result.has_banned ≡ tests_banned result.piece.now }
     ensures utf8 { IsUtf8 result.after.now }
     ensures piece_utf8 { IsUtf8 result.piece.now }
@@ -66,8 +66,8 @@ pub(crate) fn cut_line(text: &str) -> Cut<'_>
 #[cold]
 fn cut_special_line(text: &str) -> Cut<'_>
     requires { 0 < length text.now }
+    ensures first { IsFirstPiece text.now result.piece.now result.after.now }
     ensures pieces { pieces_of text.now ≡ result.piece.now ∷ pieces_of result.after.now }
-    ensures parts { (end : Bytes) × (text.now ≡ result.piece.now ++ (end ++ result.after.now)) }
     ensures banned { result.has_banned ≡ tests_banned result.piece.now }
     ensures utf8 { IsUtf8 result.after.now }
     ensures piece_utf8 { IsUtf8 result.piece.now }

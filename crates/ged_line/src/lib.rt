@@ -20,6 +20,7 @@ mod spelled;
 mod text;
 mod view;
 mod views;
+mod whole;
 mod write;
 
 pub use characters::is_plain;
@@ -35,7 +36,5 @@ pub use spelled::SpelledLine;
 pub use text::Text;
 pub use view::{LineView, ValueView};
 pub use views::{LineViews, first_line, text_behind_mark, view_lines};
+pub use whole::{further_lines, one_whole_front, split_whole, whole_pieces_stay};
 pub use write::{write_head, write_line, write_lines, write_parts, write_view};
-
-#[cfg(test)]
-mod tests;

@@ -1,8 +1,8 @@
 // The lines of a file as slices of it, one after another.
-ghost use Rattle.std.specs.Prelude.{◌≡◌, ◌≤◌, ◌<◌, ◌∷◌, ◌++◌, [], length, MatchOption, IfSome, IsUtf8};
+ghost use Rattle.std.specs.Prelude.{◌≡◌, ◌≤◌, ◌<◌, ◌∷◌, [], length, MatchOption, IfSome, IsUtf8};
 ghost use Rattle.std.specs.Iterator.{item_count};
 ghost use Rattle.ged_line.specs.Bytes.{Bytes};
-ghost use Rattle.ged_line.specs.Pieces.{ArePiecesOf, IsBehindMark, pieces_of};
+ghost use Rattle.ged_line.specs.Pieces.{ArePiecesOf, IsBehindMark, IsFirstPiece, pieces_of};
 ghost use Rattle.ged_line.specs.Reading.{TellsSpelled, YieldsLine};
 
 use crate::blocks::split_block;
@@ -50,6 +50,17 @@ pub fn view_lines(bytes: &[u8]) -> LineViews<'_>
     }
 }
 
+/// The lines of bytes without a mark.
+pub(crate) fn lines_behind_mark(bytes: &[u8]) -> LineViews<'_>
+    ensures { result ≡ pieces_of bytes.now }
+{
+    LineViews {
+        text: "",
+        pieces: cut_pieces(&[]),
+        unread: bytes,
+    }
+}
+
 /// The whole text of a file behind an optional byte order mark, or `None` where it is not UTF-8. Many bytes are
 /// validated at a time. Takes no memory.
 pub fn text_behind_mark(bytes: &[u8]) -> Option<&str>
@@ -64,14 +75,12 @@ pub fn text_behind_mark(bytes: &[u8]) -> Option<&str>
 }
 
 /// What the first line of a text without a mark is, as [`view_line`] answers for its piece, and the text behind its end;
-/// `None` where the text is empty. The piece stands at the front of the text. Takes no memory
-/// (FamilySearch GEDCOM 7.0, "Lines").
+/// `None` where the text is empty. The piece stands at the front of the text, and behind it one whole line end or nothing.
+/// Takes no memory (FamilySearch GEDCOM 7.0, "Lines").
 #[inline(always)]
 pub fn first_line(text: &str) -> Option<(Result<SpelledLine<'_>, LineFault>, &str)>
-    ensures line { MatchOption result (pieces_of text.now ≡ []) (λ p. (piece : Bytes)
-        × (pieces_of text.now ≡ piece ∷ pieces_of p.1.now) × TellsSpelled p.0 piece) }
-    ensures front { IfSome result (λ p. (piece end : Bytes)
-        × (text.now ≡ piece ++ (end ++ p.1.now)) × TellsSpelled p.0 piece) }
+    ensures line { MatchOption result (text.now ≡ []) (λ p. (piece : Bytes)
+        × IsFirstPiece text.now piece p.1.now × TellsSpelled p.0 piece) }
     ensures shorter { IfSome result (λ p. length p.1.now < length text.now) }
     ensures utf8 { IfSome result (λ p. IsUtf8 p.1.now) }
 {

@@ -12,3 +12,4 @@ pub mod UseLemmas
 pub mod AnswerLemmas
 pub mod OneWayLemmas
 pub mod Deciding
+pub mod CallerLemmas

@@ -1,5 +1,5 @@
 -- The pairs of linked records, kept by their places in order; where each is told by both, no link goes in one direction only.
-use Rattle.std.proofs.Common.{◌≡◌, ℕ, ◌+◌, ◌≤◌, Bool, true, false, ◌&&◌, ◌||◌, nat_eq, nat_le, [], Option, Some, None, length, slice_get, unwrap_or, inl, inr, refl, sym, ap, ◌∙◌, arith}
+use Rattle.std.proofs.Common.{◌≡◌, ℕ, ◌+◌, ◌≤◌, Bool, true, false, ◌&&◌, ◌||◌, nat_eq, nat_le, [], ◌∷◌, ◌++◌, List, Option, Some, None, length, slice_get, unwrap_or, inl, inr, refl, sym, ap, ◌∙◌, arith}
 use Rattle.std.specs.HashMap.{get}
 use Rattle.std.specs.Str.{bytes_eq}
 use Rattle.std.proofs.lemmas.Bool.{cases_lt}
@@ -14,7 +14,7 @@ use Rattle.ged_link.specs.declared.pairs.Role.TheVariants.{Partner, Child}
 use Rattle.ged_link.specs.declared.pairs.Told.{Told}
 use Rattle.ged_link.specs.declared.pairs.Pairs.{Pairs}
 use Rattle.ged_link.specs.LinkWalks.{pair_eq, role_under, target, has_link_to, has_pair, other_tag, is_unanswered, is_one_way_for, is_one_way, one_way_below, one_way_places}
-use Rattle.ged_link.specs.PairSets.{PairMap, in_order, tells, told_more, links_to, AreBothBefore, ArePairs, AreAnswered}
+use Rattle.ged_link.specs.PairSets.{PairMap, is_listed, in_order, tells, told_more, links_to, AreBothBefore, ArePairs, AreAnswered}
 
 or_true : (b : Bool) → b || true ≡ true
 or_true true = refl
@@ -33,6 +33,27 @@ same_number n = grind (arith, nat_tests)
 pub told_of_new : (old : Option Told) (told : Told) (rising : Bool) → told ≡ unwrap_or old (record { by_lower = false; by_higher = false }) → told_more (Some told) rising ≡ told_more old rising
 told_of_new None told rising e = rw e refl
 told_of_new (Some other) told rising e = rw e refl
+
+-- ---- links in a list
+
+pub listed_more : (links : List (ℕ × ℕ)) (link pair : ℕ × ℕ) → is_listed (links ++ link ∷ []) pair ≡ (pair_eq pair link || is_listed links pair)
+listed_more [] link pair = refl
+listed_more (other ∷ links) link pair = rw (listed_more links link pair) (go (pair_eq pair other) (pair_eq pair link) (is_listed links pair))
+  where
+    go : (a b c : Bool) → (a || (b || c)) ≡ (b || (a || c))
+    go true true c = refl
+    go true false c = refl
+    go false b c = refl
+
+-- one more of them is told as a pair
+pub told_next : (here old rest : Bool) → (old || (here || rest)) ≡ ((here || old) || rest)
+told_next true true rest = refl
+told_next true false rest = refl
+told_next false old rest = refl
+
+pub told_last : (old : Bool) → old || false ≡ old
+told_last true = refl
+told_last false = refl
 
 -- ---- pairs that are told by both
 

@@ -4,7 +4,7 @@ use Rattle.std.proofs.lemmas.Bool.{cases_lt}
 use Rattle.ged_tree.specs.Trees.{Structure, Trees, none, tree, trees_count}
 use Rattle.ged_tree.specs.Places.{structure_at, place_after}
 use Rattle.ged_tree.specs.Runs.{trees_between, IsRun}
-use Rattle.ged_tree.proofs.PlaceLemmas.{from_below, from_next, run_unfolds, run_below, run_next, run_within}
+use Rattle.ged_tree.proofs.CallerLemmas.{from_below, from_next, run_unfolds, run_below, run_next, run_within}
 
 pub place_cases : (s : Structure) (b n : Trees) (p : ℕ) → p < trees_count (tree s b n)
     → (p ≡ 0) ⊎ (((i : ℕ) × (i < trees_count b) × (p ≡ 1 + i)) ⊎ ((i : ℕ) × (i < trees_count n) × (p ≡ 1 + trees_count b + i)))

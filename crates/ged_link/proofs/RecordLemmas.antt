@@ -13,7 +13,7 @@ use Rattle.ged_tree.specs.Trees.{Trees, none, tree, trees_count, records_of}
 use Rattle.ged_tree.specs.Documents.{is_document, are_at}
 use Rattle.ged_tree.specs.Places.{structure_at}
 use Rattle.ged_tree.specs.Runs.{trees_between, IsRun, IsStep}
-use Rattle.ged_tree.proofs.PlaceLemmas.{whole_is, run_whole, run_ends}
+use Rattle.ged_tree.proofs.CallerLemmas.{whole_is, run_whole, run_ends}
 use Rattle.ged_link.specs.declared.index.RecordPlace.{RecordPlace}
 use Rattle.ged_link.specs.Links.{identifiers, IsRecordNumber}
 use Rattle.ged_link.specs.declared.record_type.RecordType.{RecordType}

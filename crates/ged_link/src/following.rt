@@ -1,4 +1,4 @@
-// Where the pointers of a document lead: the records that they name, and the pairs of linked records.
+// Where the pointers of a document lead: the records that they name, and the links between records.
 ghost use Rattle.std.specs.Prelude.{◌≡◌, ◌<◌, ◌≤◌, ◌+◌, ◌⊎◌, ℕ, IfOk, IfErr, OnOk, length, nat_eq, ◌&&◌, ◌||◌, alloc_error};
 ghost use Rattle.ged_tree.specs.Trees.{records_of, trees_count};
 ghost use Rattle.ged_tree.specs.Places.{structure_at};
@@ -7,16 +7,16 @@ ghost use Rattle.ged_link.specs.Links.{identifiers};
 ghost use Rattle.ged_link.specs.LinkFaults.{HasLinkFault, IsRepeated, IsDangling};
 ghost use Rattle.ged_link.specs.Indexes.{AreRecords, place_in};
 ghost use Rattle.ged_link.specs.LinkWalks.{target, linked, is_place, has_link_to};
-ghost use Rattle.ged_link.specs.PairSets.{pairs_have, ArePairs};
+ghost use Rattle.ged_link.specs.PairSets.{lists_have, AreLinks};
 ghost use Rattle.ged_link.specs.Targets.{AreTargets};
 ghost use Rattle.ged_link.specs.Resolving.{AreFollowed, AreUsed};
 ghost use Rattle.ged_link.specs.declared.pairs.Role.{Role};
 ghost use Rattle.ged_link.specs.declared.fault.LinkFault.TheVariants.{Memory};
 
 use crate::fault::LinkFault;
+use crate::link_lists::LinkLists;
 use crate::links::role_of;
 use crate::names::Names;
-use crate::pairs::Pairs;
 use crate::targets::{Target, push_target};
 use ged_tree::{Forest, PayloadView, end_of_all, next_in_run};
 use std::alloc::{AllocError, Global};
@@ -88,8 +88,8 @@ fn follow_all<F: Forest>(
     Ok(())
 }
 
-/// Marks the record that a structure directly under a record with a tag points to, and adds the pair of both where it is a
-/// link.
+/// Marks the record that a structure directly under a record with a tag points to, and adds the link of both where it is
+/// one.
 #[tactic(auto, using(crate::proofs::WalkLemmas::one_link))]
 fn follow_link<F: Forest>(
     forest: &F,
@@ -98,7 +98,7 @@ fn follow_link<F: Forest>(
     record_tag: &str,
     place: usize,
     followed: &mut Followed,
-    pairs: &mut Pairs,
+    lists: &mut LinkLists,
 ) -> Result<(), LinkFault>
     requires record_tag { record_tag.now ≡ (structure_at (F.trees forest.now) from).tag }
     requires within { place < trees_count (F.trees forest.now) }
@@ -106,9 +106,9 @@ fn follow_link<F: Forest>(
     requires distinct { (place : ℕ) → IsRepeated (F.trees forest.now) place → ⊥ }
     requires used { AreFollowed (F.trees forest.now) place followed.old }
     ensures used { OnOk result (AreFollowed (F.trees forest.now) (place + 1) followed.new) }
-    ensures pairs { OnOk result ((role : Role) (pair : ℕ × ℕ) → pairs_have pairs.new role pair
+    ensures links { OnOk result ((role : Role) (pair : ℕ × ℕ) → lists_have lists.new role pair
         ≡ ((nat_eq pair.0 from && is_place (linked (place_in records.now) role (structure_at (F.trees forest.now) from).tag (structure_at (F.trees forest.now) place)) pair.1)
-        || pairs_have pairs.old role pair)) }
+        || lists_have lists.old role pair)) }
     ensures fault { IfErr result (λ fault. (fault ≡ Memory alloc_error) ⊎ HasLinkFault (F.trees forest.now) fault) }
 {
     let found = match follow(forest, records, place, followed) {
@@ -121,7 +121,7 @@ fn follow_link<F: Forest>(
     let Some(role) = role_of(record_tag, forest.tag(place)) else {
         return Ok(());
     };
-    match pairs.insert(role, from, to) {
+    match lists.push(role, from, to) {
         Ok(()) => Ok(()),
         Err(_) => Err(LinkFault::Memory(AllocError)),
     }
@@ -135,7 +135,7 @@ fn follow_record<F: Forest>(
     from: usize,
     end: usize,
     followed: &mut Followed,
-    pairs: &mut Pairs,
+    lists: &mut LinkLists,
 ) -> Result<(), LinkFault>
     requires from { from < trees_count (F.trees forest.now) }
     requires end { end ≤ trees_count (F.trees forest.now) }
@@ -144,9 +144,9 @@ fn follow_record<F: Forest>(
     requires distinct { (place : ℕ) → IsRepeated (F.trees forest.now) place → ⊥ }
     requires used { AreFollowed (F.trees forest.now) from followed.old }
     ensures used { OnOk result (AreFollowed (F.trees forest.now) end followed.new) }
-    ensures pairs { OnOk result ((role : Role) (pair : ℕ × ℕ) → pairs_have pairs.new role pair
+    ensures links { OnOk result ((role : Role) (pair : ℕ × ℕ) → lists_have lists.new role pair
         ≡ ((nat_eq pair.0 from && has_link_to (place_in records.now) role (structure_at (F.trees forest.now) from).tag pair.1 (trees_between (F.trees forest.now) (from + 1) end))
-        || pairs_have pairs.old role pair)) }
+        || lists_have lists.old role pair)) }
     ensures fault { IfErr result (λ fault. (fault ≡ Memory alloc_error) ⊎ HasLinkFault (F.trees forest.now) fault) }
 {
     if let Err(fault) = follow(forest, records, from, followed) {
@@ -155,7 +155,7 @@ fn follow_record<F: Forest>(
     let record_tag = forest.tag(from);
     let mut place = from + 1;
     while let Some(after) = next_in_run(forest, place, end) {
-        if let Err(fault) = follow_link(forest, records, from, record_tag, place, followed, pairs) {
+        if let Err(fault) = follow_link(forest, records, from, record_tag, place, followed, lists) {
             return Err(fault);
         }
         if let Err(fault) = follow_all(forest, records, place + 1, after, followed) {
@@ -166,7 +166,7 @@ fn follow_record<F: Forest>(
     Ok(())
 }
 
-/// Which records some pointer names, and the pairs of all linked records; or the fault of the first pointer that names
+/// Which records some pointer names, and the links of all records; or the fault of the first pointer that names
 /// no record.
 #[tactic(auto, using(crate::proofs::WalkLemmas::pairs))]
 pub(crate) fn follow_pointers<F: Forest>(
@@ -174,14 +174,14 @@ pub(crate) fn follow_pointers<F: Forest>(
     forest: &F,
     records: &Names,
     count: usize,
-) -> Result<(Followed, Pairs), LinkFault>
+) -> Result<(Followed, LinkLists), LinkFault>
     requires records { AreRecords (F.trees forest.now) records.now }
     requires count { count ≡ length (identifiers (records_of (F.trees forest.now))) }
     requires distinct { (place : ℕ) → IsRepeated (F.trees forest.now) place → ⊥ }
     ensures used { IfOk result (λ followed. AreUsed (F.trees forest.now) followed.0.used.items) }
     ensures targets { IfOk result (λ followed. AreTargets (F.trees forest.now) followed.0.targets.items) }
     ensures found { IfOk result (λ _. (place : ℕ) → IsDangling (F.trees forest.now) place → ⊥) }
-    ensures pairs { IfOk result (λ followed. ArePairs (place_in records.now) (F.trees forest.now) followed.1) }
+    ensures links { IfOk result (λ followed. AreLinks (place_in records.now) (F.trees forest.now) followed.1) }
     ensures fault { IfErr result (λ fault. (fault ≡ Memory alloc_error) ⊎ HasLinkFault (F.trees forest.now) fault) }
 {
     let Ok(used) = vec![in alloc; false; count] else {
@@ -189,7 +189,7 @@ pub(crate) fn follow_pointers<F: Forest>(
     };
     let targets = Vec::new(alloc);
     let mut followed = Followed { used, targets };
-    let mut pairs = Pairs::new(alloc);
+    let mut lists = LinkLists::new(alloc);
     let end = end_of_all(forest);
     let mut place = 0;
     while let Some(after) = next_in_run(forest, place, end) {
@@ -199,11 +199,11 @@ pub(crate) fn follow_pointers<F: Forest>(
             place,
             after,
             &mut followed,
-            &mut pairs,
+            &mut lists,
         ) {
             return Err(fault);
         }
         place = after;
     }
-    Ok((followed, pairs))
+    Ok((followed, lists))
 }

@@ -4,7 +4,9 @@
 mod fault;
 mod following;
 mod index;
+mod keys;
 mod laws;
+mod link_lists;
 mod links;
 mod names;
 mod notices;
@@ -25,6 +27,3 @@ pub use places::RecordCursor;
 pub use record_type::RecordType;
 pub use resolving::resolve;
 pub use targets::PointerCursor;
-
-#[cfg(test)]
-mod tests;

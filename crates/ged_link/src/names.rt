@@ -1,11 +1,12 @@
 // Records by the names of their cross-reference identifiers.
-ghost use Rattle.std.specs.Prelude.{◌≡◌, ◌<◌, IfOk, IfSome, OnOk, None, is_none};
+ghost use Rattle.std.specs.Prelude.{◌≡◌, ◌<◌, ℕ, IfOk, IfSome, OnOk, None, is_none};
 ghost use Rattle.std.specs.HashMap.{get_by_text};
-ghost use Rattle.ged_link.specs.Indexes.{found_in};
+ghost use Rattle.ged_link.specs.Indexes.{found_in, HasKey};
 ghost use Rattle.ged_link.specs.NameNumbers.{number_up_to, short_number};
 ghost use Rattle.ged_link.specs.Resolving.{AddsName};
 
 use crate::index::RecordPlace;
+use crate::keys::{Keyed, KeyedNumbers};
 use indexmap::IndexMap;
 use std::alloc::{AllocError, Global};
 
@@ -34,7 +35,7 @@ fn number_of_few(bytes: &[u8]) -> Option<u64>
 /// Each byte is a digit to the base 256, the first byte the lowest, and above them all stands a one. So no two names
 /// spell one number.
 #[inline(always)]
-fn number_of(name: &str) -> Option<u64>
+pub(crate) fn number_of(name: &str) -> Option<u64>
     ensures { result ≡ short_number name.now }
 {
     match name.as_bytes() {
@@ -54,19 +55,20 @@ fn number_of(name: &str) -> Option<u64>
 #[derive(Drop)]
 pub(crate) struct Names {
     /// Those whose names have at most seven bytes, by the numbers that the names spell.
-    short: IndexMap<u64, RecordPlace>,
+    short: IndexMap<u64, RecordPlace, KeyedNumbers>,
     /// All others.
-    long: IndexMap<String, RecordPlace>,
+    long: IndexMap<String, RecordPlace, Keyed>,
 }
 
 impl Names {
-    /// No records.
-    pub(crate) fn new(alloc: Global) -> Names
-        ensures { (name : _) → found_in result name ≡ None }
+    /// No records. The key is that of all names that are to come ([`crate::keys::names_key`]).
+    pub(crate) fn new(alloc: Global, key: u64) -> Names
+        ensures none { (name : _) → found_in result name ≡ None }
+        ensures keyed { HasKey result key }
     {
         Names {
-            short: IndexMap::new(alloc),
-            long: IndexMap::new(alloc),
+            short: IndexMap::with_hasher(alloc, KeyedNumbers { key }),
+            long: IndexMap::with_hasher(alloc, Keyed { key }),
         }
     }
 
@@ -98,6 +100,7 @@ impl Names {
     ) -> Result<bool, AllocError>
         ensures is_new { IfOk result (λ is_new. is_new ≡ is_none (found_in self.old name.now)) }
         ensures added { OnOk result (AddsName self.old self.new name.now found) }
+        ensures keyed { (key : ℕ) → HasKey self.old key → HasKey self.new key }
     {
         let before = match number_of(name) {
             Some(number) => self.short.insert(number, found)?,

@@ -1,9 +1,12 @@
 // The pairs of records that are linked with each other, and which of the two tells it.
-ghost use Rattle.std.specs.Prelude.{◌≡◌, ℕ, true, false, OnOk, Some, cond, ◌&&◌, ◌||◌};
-ghost use Rattle.std.specs.HashMap.{get};
-ghost use Rattle.ged_link.specs.LinkWalks.{pair_eq, role_eq};
-ghost use Rattle.ged_link.specs.PairSets.{in_order as order_of, told_more, links_to, pairs_have, AreAnswered};
+ghost use Rattle.std.specs.Prelude.{◌≡◌, ℕ, true, IfOk, OnOk, Some, cond, ◌||◌};
+ghost use Rattle.std.specs.HashMap.{get, hasher_of};
+ghost use Rattle.ged_link.specs.LinkWalks.{pair_eq};
+ghost use Rattle.ged_link.specs.PairSets.{in_order as order_of, told_more, links_to, is_listed, lists_have, pairs_have, AreAnswered};
+ghost use Rattle.ged_link.specs.Keys.{links_key as key_of_links};
 
+use crate::keys::{KeyedNumbers, links_key};
+use crate::link_lists::LinkLists;
 use indexmap::IndexMap;
 use std::alloc::{AllocError, Global};
 
@@ -32,7 +35,7 @@ fn in_order(from: usize, to: usize) -> (usize, usize)
 }
 
 /// Whether the record at the first place points to the one at the second.
-fn has_link(pairs: &IndexMap<(usize, usize), Told>, from: usize, to: usize) -> bool
+fn has_link(pairs: &IndexMap<(usize, usize), Told, KeyedNumbers>, from: usize, to: usize) -> bool
     ensures { result ≡ links_to pairs.now (from, to) }
 {
     match pairs.get(&in_order(from, to)) {
@@ -60,12 +63,13 @@ fn told_also(told: Told, by_lower: bool) -> Told
 /// Adds that of a pair the record at the lower place, or else the one at the higher place, points to the other.
 #[tactic(auto, using(crate::proofs::PairLemmas::told_of_new))]
 fn add_told(
-    pairs: &mut IndexMap<(usize, usize), Told>,
+    pairs: &mut IndexMap<(usize, usize), Told, KeyedNumbers>,
     pair: (usize, usize),
     by_lower: bool,
 ) -> Result<(), AllocError>
-    ensures { OnOk result ((other : ℕ × ℕ) → get pair_eq pairs.new other
+    ensures told { OnOk result ((other : ℕ × ℕ) → get pair_eq pairs.new other
         ≡ cond (pair_eq pair other) (Some (told_more (get pair_eq pairs.old pair) by_lower)) (get pair_eq pairs.old other)) }
+    ensures hashers { OnOk result (hasher_of pairs.new ≡ hasher_of pairs.old) }
 {
     let untold = Told {
         by_lower: false,
@@ -78,17 +82,18 @@ fn add_told(
 
 /// Adds that the record at the first place points to the one at the second.
 fn add_link(
-    pairs: &mut IndexMap<(usize, usize), Told>,
+    pairs: &mut IndexMap<(usize, usize), Told, KeyedNumbers>,
     from: usize,
     to: usize,
 ) -> Result<(), AllocError>
-    ensures { OnOk result ((pair : ℕ × ℕ) → links_to pairs.new pair ≡ (pair_eq pair (from, to) || links_to pairs.old pair)) }
+    ensures told { OnOk result ((pair : ℕ × ℕ) → links_to pairs.new pair ≡ (pair_eq pair (from, to) || links_to pairs.old pair)) }
+    ensures hashers { OnOk result (hasher_of pairs.new ≡ hasher_of pairs.old) }
 {
     add_told(pairs, in_order(from, to), from <= to)
 }
 
 /// Whether each record that is pointed to points back.
-fn are_answered(pairs: &IndexMap<(usize, usize), Told>) -> bool
+fn are_answered(pairs: &IndexMap<(usize, usize), Told, KeyedNumbers>) -> bool
     ensures { result ≡ true → (x y : ℕ) → links_to pairs.now (x, y) ≡ true → links_to pairs.now (y, x) ≡ true }
 {
     for index in 0..pairs.len() {
@@ -102,21 +107,40 @@ fn are_answered(pairs: &IndexMap<(usize, usize), Told>) -> bool
     true
 }
 
+/// The pairs of links. There are half as many where each record that is pointed to points back, as in most files.
+fn pairs_of(
+    alloc: Global,
+    links: &[(usize, usize)],
+) -> Result<IndexMap<(usize, usize), Told, KeyedNumbers>, AllocError>
+    ensures pairs { IfOk result (λ pairs. (pair : ℕ × ℕ) → links_to pairs pair ≡ is_listed links.now pair) }
+    ensures keyed { IfOk result (λ pairs. (hasher_of pairs).key ≡ key_of_links links.now) }
+{
+    let hashers = KeyedNumbers {
+        key: links_key(links),
+    };
+    let mut pairs = IndexMap::with_capacity_and_hasher(alloc, links.len() / 2, hashers)?;
+    for (from, to) in links {
+        add_link(&mut pairs, *from, *to)?;
+    }
+    Ok(pairs)
+}
+
 /// The pairs of places of linked records, by the role.
 #[derive(Drop)]
 pub(crate) struct Pairs {
-    partners: IndexMap<(usize, usize), Told>,
-    children: IndexMap<(usize, usize), Told>,
+    partners: IndexMap<(usize, usize), Told, KeyedNumbers>,
+    children: IndexMap<(usize, usize), Told, KeyedNumbers>,
 }
 
 impl Pairs {
-    pub(crate) fn new(alloc: Global) -> Pairs
-        ensures { (role : _) (pair : ℕ × ℕ) → pairs_have result role pair ≡ false }
+    /// The pairs of all links. Grows.
+    pub(crate) fn of_links(alloc: Global, lists: &LinkLists) -> Result<Pairs, AllocError>
+        ensures { IfOk result (λ pairs. (role : Role) (pair : ℕ × ℕ) → pairs_have pairs role pair ≡ lists_have lists.now role pair) }
     {
-        Pairs {
-            partners: IndexMap::new(alloc),
-            children: IndexMap::new(alloc),
-        }
+        Ok(Pairs {
+            partners: pairs_of(alloc, &lists.partners)?,
+            children: pairs_of(alloc, &lists.children)?,
+        })
     }
 
     /// Whether the record at the first place points to the one at the second.
@@ -126,17 +150,6 @@ impl Pairs {
         match role {
             Role::Partner => has_link(&self.partners, from, to),
             Role::Child => has_link(&self.children, from, to),
-        }
-    }
-
-    /// Adds that the record at the first place points to the one at the second.
-    pub(crate) fn insert(&mut self, role: Role, from: usize, to: usize) -> Result<(), AllocError>
-        ensures { OnOk result ((other : Role) (pair : ℕ × ℕ) → pairs_have self.new other pair
-            ≡ ((role_eq other role && pair_eq pair (from, to)) || pairs_have self.old other pair)) }
-    {
-        match role {
-            Role::Partner => add_link(&mut self.partners, from, to),
-            Role::Child => add_link(&mut self.children, from, to),
         }
     }
 

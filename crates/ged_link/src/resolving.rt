@@ -6,14 +6,17 @@ ghost use Rattle.ged_tree.specs.Runs.{trees_between, IsRun};
 ghost use Rattle.ged_link.specs.Links.{Resolved, identifiers};
 ghost use Rattle.ged_link.specs.LinkFaults.{HasLinkFault, IsRepeated};
 ghost use Rattle.ged_link.specs.Places.{ArePlaces};
-ghost use Rattle.ged_link.specs.Indexes.{IsIndexOf, AreRecords, AreTyped};
+ghost use Rattle.ged_link.specs.Indexes.{IsIndexOf, AreRecords, AreTyped, HasKey};
+ghost use Rattle.ged_link.specs.Keys.{names_key as key_of_names};
 ghost use Rattle.ged_link.specs.declared.fault.LinkFault.TheVariants.{Memory};
 
 use crate::fault::LinkFault;
 use crate::following::follow_pointers;
 use crate::index::{Index, RecordPlace};
+use crate::keys::names_key;
 use crate::links::find_one_way;
 use crate::names::Names;
+use crate::pairs::Pairs;
 use crate::places::kept_place;
 use crate::record_type::{RecordType, type_of};
 use ged_tree::{Forest, end_of_all, next_in_run};
@@ -27,7 +30,10 @@ pub fn resolve<F: Forest>(alloc: Global, forest: &F) -> Result<Index, LinkFault>
     ensures fault { IfErr result (λ fault. (fault ≡ Memory alloc_error) ⊎ HasLinkFault (F.trees forest.now) fault) }
 {
     let (records, types, places) = find_records(alloc, forest)?;
-    let (followed, pairs) = follow_pointers(alloc, forest, &records, types.len())?;
+    let (followed, lists) = follow_pointers(alloc, forest, &records, types.len())?;
+    let Ok(pairs) = Pairs::of_links(alloc, &lists) else {
+        return Err(LinkFault::Memory(AllocError));
+    };
     let Ok(one_way) = find_one_way(alloc, forest, &records, &pairs) else {
         return Err(LinkFault::Memory(AllocError));
     };
@@ -59,6 +65,7 @@ fn find_records<F: Forest>(
     forest: &F,
 ) -> Result<(Names, Vec<Option<RecordType>>, Vec<u32>), LinkFault>
     ensures records { IfOk result (λ found. AreRecords (F.trees forest.now) found.0) }
+    ensures keyed { IfOk result (λ found. HasKey found.0 (key_of_names (identifiers (records_of (F.trees forest.now))))) }
     ensures types { IfOk result (λ found. AreTyped (F.trees forest.now) found.0 found.1.items) }
     ensures places { IfOk result (λ found. ArePlaces (F.trees forest.now) found.2.items) }
     ensures count { IfOk result (λ found. length found.1.items ≡ length (identifiers (records_of (F.trees forest.now)))) }
@@ -66,11 +73,11 @@ fn find_records<F: Forest>(
     ensures distinct { IfOk result (λ _. (place : ℕ) → IsRepeated (F.trees forest.now) place → ⊥) }
     ensures fault { IfErr result (λ fault. (fault ≡ Memory alloc_error) ⊎ HasLinkFault (F.trees forest.now) fault) }
 {
-    let mut records = Names::new(alloc);
-    let mut types = Vec::new(alloc);
-    let mut places = Vec::new(alloc);
     let end = end_of_all(forest);
     let mut place = first_record(forest, end);
+    let mut records = Names::new(alloc, names_key(forest, place, end));
+    let mut types = Vec::new(alloc);
+    let mut places = Vec::new(alloc);
     while let Some(after) = next_in_run(forest, place, end) {
         if let Some(name) = forest.xref(place) {
             let found = RecordPlace {

@@ -1,3 +1,4 @@
+pub mod Decided
 pub mod Numbers
 pub mod Pointing
 pub mod FaultLaws
@@ -11,3 +12,5 @@ pub mod NoticeLaws
 pub mod Fitting
 pub mod CheckedOrFaulty
 pub mod ProfileOrFaulty
+pub mod Tags
+pub mod CallerLemmas

@@ -5,11 +5,11 @@ use Rattle.std.specs.Str.{bytes_eq}
 use Rattle.std.proofs.lemmas.List.{append_assoc, map-append}
 use Rattle.std.proofs.lemmas.Bool.{cases_lt}
 use Rattle.ged_line.specs.Names.{is_tag, is_standard_tag}
-use Rattle.ged_line.proofs.NameTests.{and_left, and_right}
+use Rattle.ged_schema.proofs.Decided.{and_left, and_right}
 use Rattle.ged_tree.specs.Trees.{Structure, Trees, none, tree, trees_count, lines_count}
 use Rattle.ged_tree.specs.Documents.{is_document, is_head, are_records, are_at, is_structure_at, is_xref_at, is_payload_at}
 use Rattle.ged_tree.specs.Places.{structure_at, line_at}
-use Rattle.ged_tree.proofs.PlaceLemmas.{from_first, from_below, from_next}
+use Rattle.ged_tree.proofs.CallerLemmas.{from_first, from_below, from_next}
 use Rattle.ged_link.specs.declared.notices.Notice.{Notice}
 use Rattle.ged_link.specs.declared.notices.NoticeKind.TheVariants as kinds
 use Rattle.ged_schema.specs.declared.context.Context.{Context}

@@ -9,7 +9,7 @@ use Rattle.std.proofs.lemmas.Nat.Bits.{bit_at-zero, bit_at-lt, bit_at_set_same, 
 use Rattle.std.proofs.lemmas.List.{length-map}
 use Rattle.std.proofs.lemmas.Slice.Eq.{bytes_eq-Decides}
 use Rattle.ged_line.specs.Bytes.{Bytes}
-use Rattle.ged_line.proofs.NameTests.{bool_cases, and_left, and_right}
+use Rattle.ged_schema.proofs.Decided.{bool_cases, and_left, and_right}
 use Rattle.ged_tree.specs.Trees.{Structure, Trees, none, tree, trees_count}
 use Rattle.ged_schema.specs.declared.context.Context.{Context}
 use Rattle.ged_schema.specs.declared.rule.Rule.{Rule}

@@ -4,10 +4,10 @@ use Rattle.std.specs.Prelude.{◌↔◌, MatchResult, Result, Ok, Err}
 use Rattle.std.proofs.lemmas.Bool.{cases_lt}
 use Rattle.ged_tree.specs.Trees.{Trees, none, tree, trees_count, Structure}
 use Rattle.ged_tree.specs.Places.{line_at}
-use Rattle.ged_tree.proofs.LineLemmas.{next_line}
+use Rattle.ged_tree.proofs.CallerLemmas.{next_line}
 use Rattle.ged_link.specs.LinkFaults.{IsLowest}
 use Rattle.ged_link.specs.Notices.{OneWay, OneWayAt, IsOneWay, SomeTreeFrom}
-use Rattle.ged_link.proofs.OneWayLemmas.{one_way_within, has_place}
+use Rattle.ged_link.proofs.CallerLemmas.{one_way_within, one_way_has_place}
 use Rattle.ged_schema.specs.declared.context.Context.TheVariants.{File}
 use Rattle.ged_schema.specs.declared.fault.FaultPlace.{FaultPlace}
 use Rattle.ged_schema.specs.declared.fault.SchemaAt.{SchemaAt}
@@ -16,19 +16,19 @@ use Rattle.ged_schema.specs.Tables.{row, rows, context_below}
 use Rattle.ged_schema.specs.Unlisted.{Unlisted, UnlistedFrom, UnlistedAt}
 use Rattle.ged_schema.specs.declared.profile.Profile.{Profile}
 use Rattle.ged_schema.specs.declared.profile.Profile.TheVariants.{Lenient, Strict}
-use Rattle.ged_schema.specs.Profiles.{CheckedAs, IsNotice, IsFirstNotice, IsFirstFaultAs}
+use Rattle.ged_schema.specs.Profiles.{CheckedAs, NoNotice, IsNotice, IsFirstNotice, IsFirstFaultAs}
 use Rattle.ged_schema.proofs.FaultLaws.{one_first_fault, no_first_fault}
 use Rattle.ged_schema.proofs.FirstUnlisted.{unlisted_within, place_has}
 
 -- of two places the lower stands on the lower line
 line_rises : (d : Trees) (p k : ℕ) → p + 1 + k < trees_count d → line_at 1 d p < line_at 1 d (p + 1 + k)
 line_rises d p zero inside =
-    let e = next_line 1 d p (omega (arith, inside)) in
+    let e = next_line d p (omega (arith, inside)) in
     let same : p + 1 + 0 ≡ p + 1 = omega arith in
     rw same (omega (arith, e))
 line_rises d p (suc k) inside =
     let more = line_rises d p k (omega (arith, inside)) in
-    let e = next_line 1 d (p + 1 + k) (omega (arith, inside)) in
+    let e = next_line d (p + 1 + k) (omega (arith, inside)) in
     let same : p + 1 + suc k ≡ p + 1 + k + 1 = omega arith in
     rw same (omega (arith, more, e))
 
@@ -84,7 +84,7 @@ module _ (d : Trees) (line : ℕ) where
   no_unlisted never q h = absurd (never (place_has File 0 d q h))
 
   pub no_one_way : (OneWay d → ⊥) → (q : ℕ) → OneWayAt d q → line ≤ line_at 1 d q
-  no_one_way never q h = absurd (never ((has_place d).1 (q, h)))
+  no_one_way never q h = absurd (never ((one_way_has_place d).1 (q, h)))
 
 -- ---- no place has two notices
 
@@ -174,9 +174,9 @@ one_first_notice d at other (f, h, low, e) (g, k, low', e') =
     let places : f.place ≡ g.place = same_line d f.place g.place (notice_inside d f h) (notice_inside d g k) lines in
     e ∙ rw (lines, same_notice d f g places h k) refl ∙ sym e'
 
-pub no_first_notice : (d : Trees) (at : SchemaAt) → (OneWay d → ⊥) → (Unlisted File d → ⊥) → IsFirstNotice d at → ⊥
-no_first_notice d at straight listed (f, inl h, low, e) = straight ((has_place d).1 (f.place, h.0))
-no_first_notice d at straight listed (f, inr h, low, e) = listed (place_has File 0 d f.place h.0)
+pub no_first_notice : (d : Trees) (at : SchemaAt) → NoNotice d → IsFirstNotice d at → ⊥
+no_first_notice d at without (f, inl h, low, e) = without.both_ways ((one_way_has_place d).1 (f.place, h.0))
+no_first_notice d at without (f, inr h, low, e) = without.all_listed (place_has File 0 d f.place h.0)
 
 -- ---- each profile
 
@@ -190,7 +190,7 @@ one_first_fault_as Strict d at other (inr h) (inr k) = one_first_notice d at oth
 pub no_fault_as : (profile : Profile) (d : Trees) (at : SchemaAt) → CheckedAs profile d → IsFirstFaultAs profile d at → ⊥
 no_fault_as Lenient d at checked h = no_first_fault d at checked h
 no_fault_as Strict d at checked (inl h) = no_first_fault d at checked.0 h
-no_fault_as Strict d at checked (inr h) = no_first_notice d at checked.1 checked.2 h.1
+no_fault_as Strict d at checked (inr h) = no_first_notice d at checked.1 h.1
 
 -- an answer that tells one or the other
 pub faulty : (profile : Profile) (d : Trees) (answer : Result (Unit {0}) SchemaAt) → MatchResult answer (λ _. CheckedAs profile d) (λ at. IsFirstFaultAs profile d at)

@@ -6,7 +6,7 @@ use Rattle.std.proofs.lemmas.List.{length-map, drop_more}
 use Rattle.std.proofs.lemmas.Slice.Eq.{bytes_eq-Decides}
 use Rattle.std.proofs.lemmas.Option.{slice_get-map, slice_get-get_or, slice_get_past, slice_get_within, get_or_from_slice_get}
 use Rattle.ged_line.specs.Bytes.{Bytes}
-use Rattle.ged_line.proofs.NameTests.{bool_cases, and_left, and_right}
+use Rattle.ged_schema.proofs.Decided.{bool_cases, and_left, and_right}
 use Rattle.ged_schema.specs.declared.context.Context.{Context}
 use Rattle.ged_schema.specs.declared.rule.Rule.{Rule}
 use Rattle.ged_schema.specs.Rows.{Row, as_row}

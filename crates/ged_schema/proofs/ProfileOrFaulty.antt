@@ -11,9 +11,7 @@ use Rattle.ged_tree.specs.Places.{line_at}
 use Rattle.ged_link.specs.Links.{SomeIn, SomeTree}
 use Rattle.ged_link.specs.LinkFaults.{IsLowest}
 use Rattle.ged_link.specs.Notices.{Link, links, PointsBack, IsUnanswered, IsOneWay, OneWay, OneWayAt, SomeTreeFrom}
-use Rattle.ged_link.proofs.LinkLemmas.{same_or_other, among_or_not}
-use Rattle.ged_link.proofs.OneWayLemmas.{one_way_within, has_place}
-use Rattle.ged_link.proofs.Deciding.{IsDecided, both_decided, one_decided, name_decided, lowest_or_none}
+use Rattle.ged_link.proofs.CallerLemmas.{one_way_within, one_way_has_place}
 use Rattle.ged_schema.specs.declared.context.Context.{Context}
 use Rattle.ged_schema.specs.declared.context.Context.TheVariants as contexts
 use Rattle.ged_schema.specs.declared.fault.SchemaAt.{SchemaAt}
@@ -25,7 +23,7 @@ use Rattle.ged_schema.specs.Profiles.{CheckedAs, IsFirstNotice, IsFirstFaultAs}
 use Rattle.ged_schema.specs.CheckedLaws.{CheckedOrFault}
 use Rattle.ged_schema.proofs.FirstUnlisted.{unlisted_within, has_place as unlisted_place}
 use Rattle.ged_schema.proofs.NoticeLaws.{first_link, first_tag, one_way_lines, unlisted_lines, no_one_way, no_unlisted}
-use Rattle.ged_schema.proofs.Fitting.{true_decided}
+use Rattle.ged_schema.proofs.Decided.{same_or_other, among_or_not, IsDecided, true_decided, both_decided, one_decided, name_decided, lowest_or_none}
 use Rattle.ged_schema.proofs.CheckedOrFaulty.{some_tree_decided, are_checked}
 
 not_decided : {P : Type 0} → IsDecided P → IsDecided (P → ⊥)
@@ -184,7 +182,7 @@ module _ (d : Trees) where
   one_way_lowest : ((p : ℕ) × IsLowest (OneWayAt d) p) ⊎ (OneWay d → ⊥)
   one_way_lowest = elim (lowest_or_none (OneWayAt d) (one_way_at_decided d) (trees_count d)) [
     | inl low ↦ inl low
-    | inr never ↦ inr (λ one. let (p, h) = (has_place d).0 one in never p (one_way_within d p h) h)
+    | inr never ↦ inr (λ one. let (p, h) = (one_way_has_place d).0 one in never p (one_way_within d p h) h)
   ]
 
   unlisted_lowest : ((p : ℕ) × IsLowest (UnlistedAt d) p) ⊎ (Unlisted contexts.File d → ⊥)
@@ -206,7 +204,7 @@ module _ (d : Trees) where
   strictly checked (inl (p, link)) (inl (q, tag)) = let first = first_of_both p q link tag in inr (first.0, inr (checked, first.1))
   strictly checked (inl (p, link)) (inr listed) = inr (_, inr (checked, first_link d (line_at 1 d p) (p, link, refl) (no_unlisted d (line_at 1 d p) listed)))
   strictly checked (inr straight) (inl (q, tag)) = inr (_, inr (checked, first_tag d (line_at 1 d q) (q, tag, refl) (no_one_way d (line_at 1 d q) straight)))
-  strictly checked (inr straight) (inr listed) = inl (checked, straight, listed)
+  strictly checked (inr straight) (inr listed) = inl (checked, record { both_ways = straight; all_listed = listed })
 
 pub checked_or_fault : CheckedOrFault
 checked_or_fault Lenient d = elim (are_checked d contexts.File 0 d) [

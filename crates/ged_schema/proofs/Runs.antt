@@ -4,7 +4,7 @@ use Rattle.std.specs.Str.{bytes_eq}
 use Rattle.std.proofs.lemmas.List.{get_or-set_same, get_or-set_other}
 use Rattle.std.proofs.lemmas.Slice.Eq.{bytes_eq-Decides}
 use Rattle.ged_line.specs.Bytes.{Bytes}
-use Rattle.ged_line.proofs.NameTests.{bool_cases}
+use Rattle.ged_schema.proofs.Decided.{bool_cases}
 use Rattle.ged_tree.specs.Trees.{Structure, Trees, none, tree, trees_count}
 use Rattle.ged_schema.specs.declared.context.Context.{Context}
 use Rattle.ged_schema.specs.declared.context.Context.TheVariants.{Unchecked}

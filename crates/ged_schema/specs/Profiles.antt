@@ -14,10 +14,15 @@ use Rattle.ged_schema.specs.Checked.{Checked}
 use Rattle.ged_schema.specs.Faults.{IsFirstFault}
 use Rattle.ged_schema.specs.Unlisted.{Unlisted, UnlistedAt}
 
--- the document is as the profile asks
+-- no link of the document goes in one direction only, and no standard tag stands where the tables do not list it
+pub record NoNotice (d : Trees) : Type 0 where
+  pub both_ways : ¬ (OneWay d)
+  pub all_listed : ¬ (Unlisted File d)
+
+-- the document is as the structure tables ask, and under the strict profile it has no notice
 abbrev pub CheckedAs : Profile → Trees → Type 0
 CheckedAs Lenient d = Checked d
-CheckedAs Strict d = Checked d × (OneWay d → ⊥) × (Unlisted File d → ⊥)
+CheckedAs Strict d = Checked d × NoNotice d
 
 -- the structure at the place gives this notice
 abbrev pub IsNotice : Trees → FaultPlace → Type 0

@@ -5,7 +5,7 @@ ghost use Rattle.ged_link.specs.Indexes.{IsIndexOf};
 ghost use Rattle.ged_schema.specs.declared.fault.SchemaAt.{SchemaAt};
 ghost use Rattle.ged_schema.specs.Profiles.{CheckedAs, IsFirstFaultAs};
 ghost use Rattle.ged_schema.specs.CheckedLaws.{CheckedOrFault};
-ghost use Rattle.ged_schema.specs.Laws.{HasDistinctTags, NoFaultOfChecked, NoneIsUnlisted, OneFirstFault, OneListing, OneNotice, UnlistedHasPlace};
+ghost use Rattle.ged_schema.specs.Laws.{HasDistinctTags, NoFaultOfChecked, NoneIsUnlisted, OneFirstFault, OneListing, OneNotice, TagsAgree, UnlistedHasPlace};
 
 use crate::context::Context;
 use crate::profile::{Profile, check_as};
@@ -33,7 +33,7 @@ pub fn no_fault_of_checked()
 /// A document has a first fault exactly where it is not as the profile asks.
 pub fn fault_of_unchecked<F: Forest>(profile: Profile, forest: &F, index: &Index)
     requires { IsIndexOf (F.trees forest.now) index.now }
-    ensures { ((at : SchemaAt) × IsFirstFaultAs profile (F.trees forest.now) at) ↔ (CheckedAs profile (F.trees forest.now) → ⊥) }
+    ensures { ((at : SchemaAt) × IsFirstFaultAs profile (F.trees forest.now) at) ↔ ¬ (CheckedAs profile (F.trees forest.now)) }
 {
     let _ = check_as(profile, forest, index);
 }
@@ -61,4 +61,9 @@ pub fn none_is_unlisted()
 /// A document is as a profile asks, or it has a first fault under it.
 pub fn checked_or_fault()
     ensures { CheckedOrFault }
+{}
+
+/// Lines and values mean the same by a tag: a text is a standard tag, or an extension tag, to both or to none.
+pub fn tags_agree()
+    ensures { TagsAgree }
 {}

@@ -84,7 +84,7 @@ fn first_between<F: Forest>(forest: &F, context: Context, start: usize, end: usi
     requires run { IsRun (F.trees forest.now) start end }
     requires document { is_document (F.trees forest.now) ≡ true }
     ensures { MatchOption result
-        ((place : ℕ) → UnlistedFrom context start (trees_between (F.trees forest.now) start end) place → ⊥)
+        ((place : ℕ) → ¬ (UnlistedFrom context start (trees_between (F.trees forest.now) start end) place))
         (λ place. IsLowest (UnlistedFrom context start (trees_between (F.trees forest.now) start end)) place) }
 {
     let rules = rows(context);
@@ -107,7 +107,7 @@ fn first_between<F: Forest>(forest: &F, context: Context, start: usize, end: usi
 /// The line of the first structure that gives a notice in [`unlisted`], counted from 1, or `None` where there is none. Takes no memory (FamilySearch GEDCOM 7.0, "Structure Organization").
 pub fn first_unlisted<F: Forest>(forest: &F) -> Option<u64>
     ensures { MatchOption result
-        (Unlisted File (F.trees forest.now) → ⊥)
+        (¬ (Unlisted File (F.trees forest.now)))
         (λ line. (place : ℕ) × IsLowest (UnlistedAt (F.trees forest.now)) place × (line ≡ line_at 1 (F.trees forest.now) place)) }
 {
     let place = first_between(forest, Context::File, 0, end_of_all(forest))?;

@@ -3,10 +3,9 @@ ghost use Rattle.std.specs.Prelude.{◌≡◌, ◌↔◌, ℕ, MatchOption, Matc
 ghost use Rattle.ged_tree.specs.Places.{line_at};
 ghost use Rattle.ged_link.specs.Indexes.{IsIndexOf};
 ghost use Rattle.ged_link.specs.LinkFaults.{IsLowest};
-ghost use Rattle.ged_link.specs.Notices.{OneWay};
 ghost use Rattle.ged_schema.specs.declared.context.Context.TheVariants.{File};
 ghost use Rattle.ged_schema.specs.Unlisted.{IsCoverage, Unlisted, UnlistedAt};
-ghost use Rattle.ged_schema.specs.Profiles.{CheckedAs, IsFirstFaultAs, IsFirstNotice};
+ghost use Rattle.ged_schema.specs.Profiles.{CheckedAs, IsFirstFaultAs, IsFirstNotice, NoNotice};
 
 use crate::checking::check_tables;
 use crate::fault::{SchemaAt, SchemaFault};
@@ -27,7 +26,7 @@ pub enum Profile {
 fn first_tag<F: Forest>(forest: &F, coverage: Coverage) -> Option<u64>
     requires { IsCoverage (F.trees forest.now) coverage }
     ensures { MatchOption result
-        (Unlisted File (F.trees forest.now) → ⊥)
+        (¬ (Unlisted File (F.trees forest.now)))
         (λ line. (place : ℕ) × IsLowest (UnlistedAt (F.trees forest.now)) place × (line ≡ line_at 1 (F.trees forest.now) place)) }
 {
     match coverage {
@@ -41,7 +40,7 @@ fn first_notice<F: Forest>(forest: &F, index: &Index, coverage: Coverage) -> Opt
     requires index { IsIndexOf (F.trees forest.now) index.now }
     requires coverage { IsCoverage (F.trees forest.now) coverage }
     ensures { MatchOption result
-        ((OneWay (F.trees forest.now) → ⊥) × (Unlisted File (F.trees forest.now) → ⊥))
+        (NoNotice (F.trees forest.now))
         (λ at. IsFirstNotice (F.trees forest.now) at) }
 {
     let (line, fault) = match (first_one_way(forest, index), first_tag(forest, coverage)) {

@@ -7,9 +7,9 @@ use Rattle.ged_tree.specs.WholeFiles.{HasDocumentOrFault}
 use Rattle.ged_link.specs.declared.fault.LinkFault.{LinkFault}
 use Rattle.ged_link.specs.declared.fault.LinkFault.TheVariants.{Duplicate, Dangling, Memory}
 use Rattle.ged_link.specs.LinkFaults.{HasLinkFault}
-use Rattle.ged_link.proofs.Deciding.{resolved_or_fault}
+use Rattle.ged_link.proofs.CallerLemmas.{resolved_or_fault}
 use Rattle.ged_schema.specs.declared.profile.Profile.{Profile}
-use Rattle.ged_schema.proofs.ProfileOrFaulty.{checked_or_fault}
+use Rattle.ged_schema.proofs.CallerLemmas.{checked_or_fault}
 use Rattle.ged_tool.specs.declared.faults.FileFault.TheVariants.{DuplicateXref, DanglingPointer}
 use Rattle.ged_tool.specs.Faults.{file_fault_of_tree, file_fault_of_tables}
 use Rattle.ged_tool.specs.Laws.{IsAcceptedOrFaulty}

@@ -6,30 +6,21 @@ use Rattle.ged_line.specs.Bytes.{Bytes}
 use Rattle.ged_line.specs.Lines.{LineParts, is_line}
 use Rattle.ged_line.specs.Files.{FileText}
 use Rattle.ged_line.specs.Spelling.{file_of}
-use Rattle.ged_line.proofs.FileLaws.{FileText-file_of as written_is_read}
+use Rattle.ged_line.proofs.CallerLemmas.{written_is_read}
 use Rattle.ged_tree.specs.Trees.{Trees}
 use Rattle.ged_tree.specs.Documents.{is_document}
 use Rattle.ged_tree.specs.DocumentLines.{document_lines, HasLines}
 use Rattle.ged_tree.specs.Building.{HasFile}
-use Rattle.ged_tree.proofs.Shown.{shown}
-use Rattle.ged_link.specs.Links.{Resolved}
+use Rattle.ged_tree.proofs.CallerLemmas.{are_lines}
 use Rattle.ged_schema.specs.declared.profile.Profile.{Profile}
 use Rattle.ged_schema.specs.declared.profile.Profile.TheVariants.{Lenient, Strict}
-use Rattle.ged_schema.specs.Checked.{Checked}
 use Rattle.ged_schema.specs.Profiles.{CheckedAs}
 use Rattle.ged_canon.specs.declared.edition.Edition.{Edition}
 use Rattle.ged_canon.specs.declared.edition.Edition.TheVariants.{First, Second}
-use Rattle.ged_canon.specs.Notices.{NoNotice}
 use Rattle.ged_canon.specs.Steps.{Equivalent, done}
 use Rattle.ged_canon.specs.Normal.{Normal, IsNormalForm}
 use Rattle.ged_canon.specs.CanonText.{CanonText}
-use Rattle.ged_canon.proofs.Chains.{both, back, kept}
-use Rattle.ged_canon.proofs.Undone.{step_back}
-use Rattle.ged_canon.proofs.Keeps.{step_resolved, step_checked}
-use Rattle.ged_canon.proofs.Noticed.{step_no_notice}
-use Rattle.ged_canon.proofs.Normality.{ends_in_document}
-use Rattle.ged_canon.proofs.Unique.{unique}
-use Rattle.ged_canon.proofs.Editions.{one_second, first_normal}
+use Rattle.ged_canon.proofs.CallerLemmas.{symmetric, transitive, normal_form_is_unique, document_kept, resolved_kept, checked_kept, no_notice_kept, one_second, normal_in_first}
 use Rattle.ged_tool.specs.Accepted.{IsAccepted}
 use Rattle.ged_tool.specs.Canon.{IsCanon}
 use Rattle.ged_tool.specs.Headline.{IsOwnCanon, Headline, AgreesWithFirst}
@@ -43,23 +34,21 @@ each_line (line ∷ lines) h = let parts = and_parts (is_line line) (list_all is
 has_file : (d : Trees) (bytes : Bytes) → is_document d ≡ true → CanonText d bytes → HasFile d bytes
 has_file d bytes allowed spelled =
     let has : HasLines d (document_lines d) = record { allowed = allowed; told = refl } in
-    let text = written_is_read (document_lines d) (each_line (document_lines d) (shown d (document_lines d) has).0) in
+    let text = written_is_read (document_lines d) (each_line (document_lines d) (are_lines d (document_lines d) has).0) in
     (document_lines d, subst (FileText (document_lines d)) (sym spelled) text, has)
 
 -- steps keep what a profile asks
 checked_on : (profile : Profile) (edition : Edition) (d e : Trees) → Equivalent edition d e → CheckedAs profile d → CheckedAs profile e
-checked_on Lenient edition d e steps h = kept Checked (step_checked edition) steps h
-checked_on Strict edition d e steps h =
-    let none : NoNotice e = kept NoNotice (step_no_notice edition) steps (record { both_ways = h.1; all_listed = h.2 }) in
-    (kept Checked (step_checked edition) steps h.0, none.both_ways, none.all_listed)
+checked_on Lenient edition d e steps h = checked_kept edition d e steps h
+checked_on Strict edition d e steps h = (checked_kept edition d e steps h.0, no_notice_kept edition d e steps h.1)
 
 -- the canonical file is accepted with the normal document
 accepted_again : (profile : Profile) (edition : Edition) (file canonical : Bytes) (h : IsCanon profile edition file canonical) → IsAccepted profile canonical h.normal
 accepted_again profile edition file canonical h =
     let steps : Equivalent edition h.document h.normal = h.normal_form.equivalent in
     record {
-      read = has_file h.normal canonical (ends_in_document h.document h.normal (of_document file h.document h.accepted.read) steps) h.spelled;
-      resolved = kept Resolved (step_resolved edition) steps h.accepted.resolved;
+      read = has_file h.normal canonical (document_kept edition h.document h.normal steps (of_document file h.document h.accepted.read)) h.spelled;
+      resolved = resolved_kept edition h.document h.normal steps h.accepted.resolved;
       checked = checked_on profile edition h.document h.normal steps h.accepted.checked;
     }
 
@@ -83,9 +72,12 @@ pub equal_canons : (profile : Profile) (edition : Edition) (file canonical other
 equal_canons profile edition file canonical other other_canonical h k = (
   λ same.
       let normal : h.normal ≡ k.normal = one_normal profile profile edition edition file other canonical h (subst (λ (bytes : Bytes). IsCanon profile edition other bytes) (sym same) k) in
-      both h.normal_form.equivalent (subst (λ (t : Trees). Equivalent edition t k.document) (sym normal) (back (step_back edition) k.normal_form.equivalent)),
+      transitive edition h.document h.normal k.document h.normal_form.equivalent
+      (subst (λ (t : Trees). Equivalent edition t k.document) (sym normal) (symmetric edition k.document k.normal k.normal_form.equivalent)),
   λ steps. one_spelling h.normal k.normal canonical other_canonical
-      (unique edition h.normal k.normal (both (back (step_back edition) h.normal_form.equivalent) (both steps k.normal_form.equivalent)) h.normal_form.normal k.normal_form.normal)
+      (normal_form_is_unique edition h.normal k.normal
+      (transitive edition h.normal h.document k.normal (symmetric edition h.document h.normal h.normal_form.equivalent)
+      (transitive edition h.document k.document k.normal steps k.normal_form.equivalent)) h.normal_form.normal k.normal_form.normal)
       h.spelled k.spelled,
 )
 
@@ -96,7 +88,7 @@ own_canon profile edition d bytes accepted normal spelled = record {
   no_other = λ again k.
       let same : k.document ≡ d = one_accepted profile profile bytes k.document d k.accepted accepted in
       one_spelling k.normal d again bytes
-      (sym (unique edition d k.normal (subst (λ (t : Trees). Equivalent edition t k.normal) same k.normal_form.equivalent) normal k.normal_form.normal))
+      (sym (normal_form_is_unique edition d k.normal (subst (λ (t : Trees). Equivalent edition t k.normal) same k.normal_form.equivalent) normal k.normal_form.normal))
       k.spelled spelled;
 }
 
@@ -124,5 +116,5 @@ agrees_with_first profile file canonical h = record {
       (subst (λ (t : Trees). IsNormalForm First k.document t) (sym m) (subst (λ (t : Trees). IsNormalForm First t b.normal) e b.normal_form))
       h.normal_form k.normal_form)
       h.spelled k.spelled;
-  own_first = own_canon profile First h.normal canonical (accepted_again profile Second file canonical h) (first_normal h.normal h.normal_form.normal) h.spelled;
+  own_first = own_canon profile First h.normal canonical (accepted_again profile Second file canonical h) (normal_in_first h.normal h.normal_form.normal) h.spelled;
 }

@@ -1,18 +1,16 @@
 -- A file has one document or one fault.
 use Rattle.std.proofs.Common.{◌≡◌, ℕ, true, ap, sym, ◌∙◌, inl, inr}
 use Rattle.ged_line.specs.Bytes.{Bytes}
-use Rattle.ged_line.proofs.FileLaws.{one_reading}
+use Rattle.ged_line.proofs.CallerLemmas.{one_reading}
 use Rattle.ged_tree.specs.Trees.{Trees}
 use Rattle.ged_tree.specs.Documents.{is_document}
 use Rattle.ged_tree.specs.Building.{HasFile}
-use Rattle.ged_tree.proofs.Law.{one_document}
-use Rattle.ged_tree.proofs.BuildLemmas.{none_of_file}
-use Rattle.ged_tree.proofs.FileFaultLaws.{one_in_file}
+use Rattle.ged_tree.proofs.CallerLemmas.{none_shared, one_fault_in_file, faulty_file_has_none}
 use Rattle.ged_link.specs.Links.{Resolved}
 use Rattle.ged_link.specs.declared.fault.LinkFault.TheVariants.{Duplicate, Dangling}
-use Rattle.ged_link.proofs.LawLemmas.{faultless, one_fault}
+use Rattle.ged_link.proofs.CallerLemmas.{resolved_is_faultless, one_link_fault}
 use Rattle.ged_schema.specs.declared.fault.SchemaAt.{SchemaAt}
-use Rattle.ged_schema.proofs.NoticeLaws.{one_first_fault_as, no_fault_as}
+use Rattle.ged_schema.proofs.CallerLemmas.{one_first_fault, no_fault_of_checked}
 use Rattle.ged_tool.specs.declared.faults.FileFault.{FileFault}
 use Rattle.ged_tool.specs.Faults.{file_fault_of_tree, file_fault_of_tables}
 use Rattle.ged_tool.specs.Accepted.{XrefFaultAt}
@@ -22,30 +20,30 @@ use Rattle.ged_tool.specs.Laws.{OneAccepted, AcceptedIsFaultless, OneFileFault}
 pub one_of_file : (file : Bytes) (d e : Trees) → HasFile d file → HasFile e file → d ≡ e
 one_of_file file d e (lines, text, has) (others, other_text, other_has) =
     let same = one_reading file lines others text other_text in
-    one_document d e others (rw same at has) other_has
+    none_shared d e others (rw same at has) other_has
 
 pub of_document : (file : Bytes) (d : Trees) → HasFile d file → is_document d ≡ true
 of_document file d (lines, text, has) = has.allowed
 
 -- resolved cross-references have no fault
 resolved_faultless : (d : Trees) (line : ℕ) (kind : FileFault) → is_document d ≡ true → Resolved d → XrefFaultAt d line kind → ⊥
-resolved_faultless d line kind doc h (inl k) = (faultless d doc).0 h (Duplicate line) k.0
-resolved_faultless d line kind doc h (inr k) = (faultless d doc).0 h (Dangling line) k.0
+resolved_faultless d line kind doc h (inl k) = (resolved_is_faultless d doc).0 h (Duplicate line) k.0
+resolved_faultless d line kind doc h (inr k) = (resolved_is_faultless d doc).0 h (Dangling line) k.0
 
 one_of_xrefs : (d : Trees) (line other_line : ℕ) (kind other : FileFault) → XrefFaultAt d line kind → XrefFaultAt d other_line other → (line ≡ other_line) × (kind ≡ other)
-one_of_xrefs d line other_line kind other (inl h) (inl k) = (same_duplicate line other_line (one_fault d (Duplicate line) (Duplicate other_line) h.0 k.0), h.1 ∙ sym k.1)
+one_of_xrefs d line other_line kind other (inl h) (inl k) = (same_duplicate line other_line (one_link_fault d (Duplicate line) (Duplicate other_line) h.0 k.0), h.1 ∙ sym k.1)
   where
     same_duplicate : (a b : ℕ) → Duplicate a ≡ Duplicate b → a ≡ b
     same_duplicate a b e = cc
-one_of_xrefs d line other_line kind other (inl h) (inr k) = absurd (apart line other_line (one_fault d (Duplicate line) (Dangling other_line) h.0 k.0))
+one_of_xrefs d line other_line kind other (inl h) (inr k) = absurd (apart line other_line (one_link_fault d (Duplicate line) (Dangling other_line) h.0 k.0))
   where
     apart : (a b : ℕ) → Duplicate a ≡ Dangling b → ⊥
     apart a b e = cc
-one_of_xrefs d line other_line kind other (inr h) (inl k) = absurd (apart line other_line (one_fault d (Dangling line) (Duplicate other_line) h.0 k.0))
+one_of_xrefs d line other_line kind other (inr h) (inl k) = absurd (apart line other_line (one_link_fault d (Dangling line) (Duplicate other_line) h.0 k.0))
   where
     apart : (a b : ℕ) → Dangling a ≡ Duplicate b → ⊥
     apart a b e = cc
-one_of_xrefs d line other_line kind other (inr h) (inr k) = (same_dangling line other_line (one_fault d (Dangling line) (Dangling other_line) h.0 k.0), h.1 ∙ sym k.1)
+one_of_xrefs d line other_line kind other (inr h) (inr k) = (same_dangling line other_line (one_link_fault d (Dangling line) (Dangling other_line) h.0 k.0), h.1 ∙ sym k.1)
   where
     same_dangling : (a b : ℕ) → Dangling a ≡ Dangling b → a ≡ b
     same_dangling a b e = cc
@@ -54,21 +52,21 @@ pub one_accepted : OneAccepted
 one_accepted profile other_profile file d e h k = one_of_file file d e h.read k.read
 
 pub accepted_faultless : AcceptedIsFaultless
-accepted_faultless profile file d h line kind (inl (fault, first, is)) = none_of_file file line fault first d h.read
+accepted_faultless profile file d h line kind (inl (fault, first, is)) = faulty_file_has_none file line fault first d h.read
 accepted_faultless profile file d h line kind (inr (e, read, inl k)) =
     let same = one_of_file file e d read h.read in
     resolved_faultless e line kind (of_document file e read) (rw same h.resolved) k
 accepted_faultless profile file d h line kind (inr (e, read, inr k)) =
     let same = one_of_file file e d read h.read in
     let (at, first, _, _) = k.1 in
-    no_fault_as profile e at (rw same h.checked) first
+    no_fault_of_checked profile e at (rw same h.checked) first
 
 pub one_fault_of_file : OneFileFault
 one_fault_of_file profile file line other_line kind other (inl (a, first, is)) (inl (b, second, equal)) =
-    let e = one_in_file file line other_line a b first second in
+    let e = one_fault_in_file file line other_line a b first second in
     (e.0, is ∙ ap file_fault_of_tree e.1 ∙ sym equal)
-one_fault_of_file profile file line other_line kind other (inl (a, first, is)) (inr (d, read, _)) = absurd (none_of_file file line a first d read)
-one_fault_of_file profile file line other_line kind other (inr (d, read, _)) (inl (b, second, equal)) = absurd (none_of_file file other_line b second d read)
+one_fault_of_file profile file line other_line kind other (inl (a, first, is)) (inr (d, read, _)) = absurd (faulty_file_has_none file line a first d read)
+one_fault_of_file profile file line other_line kind other (inr (d, read, _)) (inl (b, second, equal)) = absurd (faulty_file_has_none file other_line b second d read)
 one_fault_of_file profile file line other_line kind other (inr (d, read, inl h)) (inr (e, again, inl k)) =
     let same = one_of_file file e d again read in
     one_of_xrefs d line other_line kind other h (rw same at k)
@@ -82,5 +80,5 @@ one_fault_of_file profile file line other_line kind other (inr (d, read, inr h))
     let same = one_of_file file e d again read in
     let (a, first, line_is, is) = h.1 in
     let (b, second, other_is, equal) = k.1 in
-    let at = one_first_fault_as profile d a b first (rw same at second) in
+    let at = one_first_fault profile d a b first (rw same at second) in
     (line_is ∙ ap (λ (x : SchemaAt). x.line) at ∙ sym other_is, is ∙ ap (λ (x : SchemaAt). file_fault_of_tables x.fault) at ∙ sym equal)

@@ -5,6 +5,10 @@ pub mod Told
 pub mod Strict
 pub mod LineNumbers
 pub mod OneList
+pub mod Judging
+pub mod Feeding
 pub mod Accepting
 pub mod CanonLaws
 pub mod RunLemmas
+pub mod Respelt
+pub mod Comparing

@@ -5,11 +5,10 @@ use Rattle.ged_tree.specs.Places.{line_at}
 use Rattle.ged_link.specs.Links.{IsAmong}
 use Rattle.ged_link.specs.Notices.{AreRising, AreOneWayNotices, one_way_notice}
 use Rattle.ged_link.specs.declared.notices.Notice.{Notice}
-use Rattle.ged_link.proofs.OneWayLemmas.{one_way_within}
+use Rattle.ged_link.proofs.CallerLemmas.{one_way_within}
 use Rattle.ged_schema.specs.declared.context.Context.TheVariants.{File}
-use Rattle.ged_schema.specs.Unlisted.{Unlisted, UnlistedAt, AreUnlisted, AreUnlistedNotices, unlisted_notice}
-use Rattle.ged_schema.proofs.FirstUnlisted.{unlisted_within, place_has}
-use Rattle.ged_schema.proofs.NoticeLaws.{lower_line, two_lines}
+use Rattle.ged_schema.specs.Unlisted.{Unlisted, AreUnlisted, AreUnlistedNotices, unlisted_notice}
+use Rattle.ged_schema.proofs.CallerLemmas.{unlisted_within, unlisted_has_place, lower_line, one_notice}
 use Rattle.ged_tool.specs.Merges.{IsMerge, first_left, second_left, from_first, from_second}
 use Rattle.ged_tool.specs.Notices.{lines_told, AreNotices}
 
@@ -101,20 +100,17 @@ module _ (d : Trees) where
     rising_lines f lines ps h.1 (λ q later. within q (inr later)),
   )
 
-  unlisted_inside : (p : ℕ) → UnlistedAt d p → p < trees_count d
-  unlisted_inside p h = let k = unlisted_within File 0 d p h in omega (arith, k.1)
-
   pub are_notices : (links tags all : List Notice) → AreOneWayNotices d links → AreUnlistedNotices d tags → IsMerge links tags all → AreNotices d all
   are_notices links tags all (ps, one_way, are_links) (qs, listed, are_tags) m =
       let m : IsMerge (map (one_way_notice d) ps) (map (unlisted_notice d) qs) all = rw (are_links, are_tags) at m in
       record {
         rising = merge_rising _ _ all m
             (rising_lines (one_way_notice d) (λ p. refl) ps one_way.rising (λ p among. one_way_within d p ((one_way.each p).0 among)))
-            (rising_lines (unlisted_notice d) (λ p. refl) qs listed.rising (λ p among. unlisted_inside p ((listed.each p).0 among)))
+            (rising_lines (unlisted_notice d) (λ p. refl) qs listed.rising (λ p among. unlisted_within d p ((listed.each p).0 among)))
             (λ n o left right.
             let (p, link, n_is) = among_map (one_way_notice d) n ps left in
             let (q, tag, o_is) = among_map (unlisted_notice d) o qs right in
-            λ e. two_lines d p q ((one_way.each p).0 link) ((listed.each q).0 tag) (sym (ap (λ (n : Notice). n.line) n_is) ∙ e ∙ ap (λ (n : Notice). n.line) o_is));
+            λ e. one_notice d p q ((one_way.each p).0 link) ((listed.each q).0 tag) (sym (ap (λ (n : Notice). n.line) n_is) ∙ e ∙ ap (λ (n : Notice). n.line) o_is));
         each = λ n. (
           λ among. elim (merge_has n _ _ all m among) [
             | inl left ↦ (let (p, link, is) = among_map (one_way_notice d) n ps left in inl (p, (one_way.each p).0 link, is))
@@ -132,4 +128,4 @@ module _ (d : Trees) where
   are_links links one_way never = are_notices links [] links one_way ([], none_listed, refl) (first_left links)
     where
       none_listed : AreUnlisted d []
-      none_listed = record { rising = tt; each = λ p. (λ h. absurd h, λ h. absurd (never (place_has File 0 d p h))) }
+      none_listed = record { rising = tt; each = λ p. (λ h. absurd h, λ h. absurd (never ((unlisted_has_place d).1 (p, h)))) }

@@ -1,10 +1,9 @@
 -- The strict profile, and the notices of a document.
 use Rattle.std.proofs.Common.{refl, inl, inr}
 use Rattle.ged_link.specs.Notices.{one_way_notice}
-use Rattle.ged_link.proofs.OneWayLemmas.{has_place}
-use Rattle.ged_schema.specs.declared.context.Context.TheVariants.{File}
+use Rattle.ged_link.proofs.CallerLemmas.{one_way_has_place}
 use Rattle.ged_schema.specs.Unlisted.{unlisted_notice}
-use Rattle.ged_schema.proofs.FirstUnlisted.{place_has, has_place as unlisted_place}
+use Rattle.ged_schema.proofs.CallerLemmas.{unlisted_has_place}
 use Rattle.ged_tool.specs.Laws.{StrictRefusesNotices}
 
 pub strict_refuses : StrictRefusesNotices
@@ -16,8 +15,8 @@ strict_refuses file d = (
       each = λ n. (
         λ none. absurd none,
         λ notice. elim notice [
-          | inl (p, link, _) ↦ h.checked.1 ((has_place d).1 (p, link))
-          | inr (p, tag, _) ↦ h.checked.2 (place_has File 0 d p tag)
+          | inl (p, link, _) ↦ h.checked.1.both_ways ((one_way_has_place d).1 (p, link))
+          | inr (p, tag, _) ↦ h.checked.1.all_listed ((unlisted_has_place d).1 (p, tag))
         ],
       );
     },
@@ -27,8 +26,10 @@ strict_refuses file d = (
     resolved = h.0.resolved;
     checked = (
       h.0.checked,
-      λ one. let (p, link) = (has_place d).0 one in (h.1.each (one_way_notice d p)).1 (inl (p, link, refl)),
-      λ some. let (p, tag) = unlisted_place File 0 d some in (h.1.each (unlisted_notice d p)).1 (inr (p, tag, refl)),
+      record {
+        both_ways = λ one. let (p, link) = (one_way_has_place d).0 one in (h.1.each (one_way_notice d p)).1 (inl (p, link, refl));
+        all_listed = λ some. let (p, tag) = (unlisted_has_place d).0 some in (h.1.each (unlisted_notice d p)).1 (inr (p, tag, refl));
+      },
     );
   },
 )

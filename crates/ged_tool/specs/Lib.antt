@@ -10,6 +10,9 @@ pub mod Steps
 pub mod Shown
 pub mod Profiles
 pub mod Accepted
+pub mod Fed
+pub mod Judged
 pub mod Laws
+pub mod SameLaws
 pub mod Notices
 pub mod Merges

@@ -2,6 +2,8 @@
 // proved.
 ghost use Rattle.ged_tool.specs.Laws.{OneAccepted, AcceptedIsFaultless, OneFileFault, StrictRefusesNotices};
 ghost use Rattle.ged_tool.specs.Laws.{IsAcceptedOrFaulty, LinesFromOne, OneListOfNotices, OneVerdict, CanonIsPromised, SecondAgrees};
+ghost use Rattle.ged_tool.specs.SameLaws.{OneComparison, SameAsItself, SameBothWays, SameOnward, SameByCanon};
+ghost use Rattle.ged_tool.specs.SameLaws.{LinesKeepAcceptance, LinesKeepFault, LinesKeepCanon};
 
 use ged_schema::Profile;
 use ged_tree::document_or_fault_of_file;
@@ -52,4 +54,23 @@ pub fn one_verdict()
 pub fn headline()
     ensures promised { CanonIsPromised }
     ensures second_agrees { SecondAgrees }
+{}
+
+/// Being the same is reflexive, symmetric and transitive among the files that are accepted under a profile: what
+/// [`same_as`](crate::same_as) answers of two files is one answer, is true of a file and itself, holds in both orders, and
+/// goes on from the second file to a third. Files are the same exactly where their canonical bytes are equal.
+pub fn same_is_an_equivalence()
+    ensures one_answer { OneComparison }
+    ensures reflexive { SameAsItself }
+    ensures symmetric { SameBothWays }
+    ensures transitive { SameOnward }
+    ensures by_canon { SameByCanon }
+{}
+
+/// What [`Command::Lines`](crate::Command) writes of a file is accepted exactly where the file is, with the same document,
+/// has the same fault at the same line, and has the same canonical bytes, under each profile and in each edition.
+pub fn lines_keep_the_file()
+    ensures accepted { LinesKeepAcceptance }
+    ensures fault { LinesKeepFault }
+    ensures canon { LinesKeepCanon }
 {}

@@ -9,8 +9,8 @@ use Rattle.ged_line.specs.Pieces.{ArePiecesOf}
 use Rattle.ged_line.specs.Files.{FileText, AreTexts, StopsAt}
 use Rattle.ged_line.specs.declared.fault.LineAt.{LineAt}
 use Rattle.ged_line.specs.declared.fault.LineFault.{LineFault}
-use Rattle.ged_line.proofs.LineLaws.{one_line, no_fault}
-use Rattle.ged_line.proofs.FileLaws.{one_cut, one_reading, no_stop, FileText-texts, AreTexts-more, length-AreTexts}
+use Rattle.ged_line.proofs.CallerLemmas.{one_line, no_fault, one_cut, one_reading, no_stop, texts_of_file}
+use Rattle.ged_tree.proofs.ReadLemmas.{AreTexts-more, length-AreTexts}
 use Rattle.ged_tree.specs.DocumentLines.{HasLines}
 use Rattle.ged_tree.specs.TreeFaults.{Pass, start, FirstFault, no_lines, past_last}
 use Rattle.ged_tree.specs.TreeFaults.{at_line as at_line_of}
@@ -191,7 +191,7 @@ none_of_file file line fault f document (all, text, has) = go file line fault (t
   where
     go : (file : Bytes) (line : ℕ) (fault : TreeFault) → IsFileFault file line fault → (all : List LineParts) → FileText all file → HasLines document all → ⊥
     go _ _ _ (at_line file front line fault (before, after, cut, texts) f h) all text has =
-        let read = FileText-texts file all text in
+        let read = texts_of_file file all text in
         let whole : AreTexts all (before ++ after) = subst (λ (ps : List Bytes). AreTexts all ps) (one_cut file read.0 (before ++ after) read.1 cut) read.2 in
         let rest = front_is front all before after texts whole in
         let first : FirstFault all line fault = subst (λ (ls : List LineParts). FirstFault ls line fault) (sym rest.1) (first_of_more front rest.0 line fault f h) in
@@ -214,7 +214,7 @@ same_reading file lines others line number fault told (bytes, m, s) (own, n, t) 
 
 forth : (file : Bytes) (line : ℕ) (fault : TreeFault) → IsFileFault file line fault → (lines : List LineParts) (stop : Option LineAt) → ReadsAs file lines stop → IsBuildFault lines stop line fault
 forth _ _ _ (at_line file front line fault (before, after, cut, texts) f h) lines None text =
-    let read = FileText-texts file lines text in
+    let read = texts_of_file file lines text in
     let whole : AreTexts lines (before ++ after) = subst (λ (ps : List Bytes). AreTexts lines ps) (one_cut file read.0 (before ++ after) read.1 cut) read.2 in
     let rest = front_is front lines before after texts whole in
     subst (λ (ls : List LineParts). FirstFault ls line fault) (sym rest.1) (first_of_more front rest.0 line fault f h)
@@ -232,7 +232,7 @@ forth _ _ _ (of_lines file all line fault text f) lines (Some stop) read = absur
 
 texts_of_lines : (file : Bytes) (lines : List LineParts) (line : ℕ) (fault : TreeFault) → FileText lines file → FirstFault lines line fault → FirstFaultIn file line fault
 texts_of_lines file lines _ _ text (at_line_of front behind line fault p e) =
-    let read = FileText-texts file (front ++ line ∷ behind) text in
+    let read = texts_of_file file (front ++ line ∷ behind) text in
     line_told file (front ++ line ∷ behind) (length front + 1) fault read.0 [] (subst (λ (ps : List Bytes). ArePiecesOf file ps) (sym (append-nil read.0)) read.1) read.2 (at_line_of front behind line fault p e) (omega (arith, length-append front (line ∷ behind)))
 texts_of_lines file _ _ _ text no_lines = at_end file [] NoHeader text no_lines
 texts_of_lines file _ _ _ text (past_last lines p n t) = at_end file lines NoTrailer text (past_last lines p n t)

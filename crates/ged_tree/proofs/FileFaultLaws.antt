@@ -9,8 +9,7 @@ use Rattle.ged_line.specs.Pieces.{ArePiecesOf}
 use Rattle.ged_line.specs.Files.{AreTexts}
 use Rattle.ged_line.specs.declared.fault.LineFault.{LineFault}
 use Rattle.ged_line.specs.declared.fault.LineFault.TheVariants.{NotUtf8, BannedCharacter, EmptyLine, BadLevel, LevelTooLarge, BadXref, BadTag, BadValue}
-use Rattle.ged_line.proofs.LineLaws.{no_fault, one_line}
-use Rattle.ged_line.proofs.FileLaws.{one_cut, FileText-texts}
+use Rattle.ged_line.proofs.CallerLemmas.{no_fault, one_line, one_cut, texts_of_file}
 use Rattle.ged_tree.specs.TreeFaults.{fault_after, Pass, start, more, has_trailer, FirstFault, at_line, no_lines, past_last}
 use Rattle.ged_tree.specs.FileFaults.{ComesAfter, FirstFaultIn, at_piece, at_text, at_end}
 use Rattle.ged_tree.specs.TreeLaws.{OneFaultInFile, FaultyFileFails}
@@ -107,7 +106,7 @@ told_by : (file : Bytes) (n : ℕ) (f : TreeFault) → FirstFaultIn file n f →
 told_by _ _ _ (at_piece file lines piece fault c g) = told_at file lines piece (length lines + 1) (Line fault) c (inl (fault, g, refl, refl))
 told_by _ _ _ (at_text file lines piece line fault c t e) = told_at file lines piece (length lines + 1) fault c (inr (line, t, inl (e, refl)))
 told_by _ _ _ (at_end file lines fault t f) =
-    let cut = FileText-texts file lines t in
+    let cut = texts_of_file file lines t in
     let whole = tells_behind [] lines cut.0 [] (length lines + 1) fault cut.2 start (end_passes lines (length lines + 1) fault f refl) (f, refl) in
     record { pieces = cut.0; cut = cut.1; tells = subst (λ (ps : List Bytes). Tells [] ps (length lines + 1) fault) (append-nil cut.0) whole }
 
@@ -141,6 +140,6 @@ passing_none done (line ∷ lines) (piece ∷ pieces) n f a p q e (inr (other, t
 pub faulty_fails : FaultyFileFails
 faulty_fails file n f s (lines, t, p, e) =
     let told = told_by file n f s in
-    let cut = FileText-texts file lines t in
+    let cut = texts_of_file file lines t in
     let texts = subst (λ (ps : List Bytes). AreTexts lines ps) (one_cut file cut.0 told.pieces cut.1 told.cut) cut.2 in
     passing_none [] lines told.pieces n f texts start p e told.tells

@@ -10,7 +10,8 @@ use Rattle.ged_tree.specs.Trees.{Trees}
 use Rattle.ged_tree.specs.DocumentLines.{HasLines}
 use Rattle.ged_tree.specs.TreeFaults.{Pass, has_trailer}
 use Rattle.ged_tree.proofs.Law.{made}
-use Rattle.ged_line.proofs.FileLaws.{FileText-texts, length-AreTexts}
+use Rattle.ged_line.proofs.CallerLemmas.{texts_of_file}
+use Rattle.ged_tree.proofs.ReadLemmas.{length-AreTexts}
 
 some_end : {end rest : Bytes} → IsEnd end rest → 0 < length end
 some_end (inl e) = let size = ap (λ (bs : Bytes). length bs) e in omega (arith, size)
@@ -45,7 +46,7 @@ texts_are_lines (line ∷ lines) (piece ∷ pieces) a = and_from _ _ a.0.is_line
 -- what a file spells are lines, and no more than the file has bytes
 pub file_lines : (lines : List LineParts) (file : Bytes) → FileText lines file → (list_all is_line lines ≡ true) × (length lines ≤ length file)
 file_lines lines file t =
-    let cut = FileText-texts file lines t in
+    let cut = texts_of_file file lines t in
     (texts_are_lines lines cut.0 cut.2, omega (arith, length-AreTexts lines cut.0 cut.2, few_pieces file cut.0 cut.1))
 
 -- a file whose lines have no fault is a document's

@@ -8,8 +8,7 @@ use Rattle.std.proofs.Math.Nat.{min-le_left, min-le_right}
 use Rattle.ged_line.specs.Bytes.{Bytes}
 use Rattle.ged_line.specs.Lines.{LineParts, LineText, xref_part, is_value, Value, Empty, Void, Pointer, Text}
 use Rattle.ged_line.specs.Spelling.{value_part}
-use Rattle.ged_line.proofs.LineLaws.{line_is}
-use Rattle.ged_line.proofs.NameTests.{bool_cases}
+use Rattle.ged_tree.proofs.TestParts.{line_is, bool_cases}
 use Rattle.std.proofs.lemmas.Bool.Decides.{nat_tests}
 use Rattle.std.specs.Prelude.{nat_lt, nat_le}
 use Rattle.std.proofs.lemmas.Bool.{true≢false, cases_lt, ltb-false}

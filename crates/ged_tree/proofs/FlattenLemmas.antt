@@ -1,16 +1,16 @@
 -- Reading a file into a table.
-use Rattle.std.proofs.Common.{◌≡◌, ◌≢◌, ℕ, ◌+◌, ◌-◌, ◌<◌, ◌≤◌, take, drop, sym, ◌∙◌, append_assoc, List, [], ◌∷◌, ◌++◌, length, inl, inr, refl, subst, ap, arith, length-append}
+use Rattle.std.proofs.Common.{◌≡◌, ◌≢◌, ℕ, ◌+◌, ◌-◌, ◌<◌, ◌≤◌, take, drop, sym, ◌∙◌, append_assoc, append-nil, List, [], ◌∷◌, ◌++◌, length, inl, inr, refl, subst, ap, arith, length-append}
 use Rattle.std.specs.Str.{IsUtf8, IsCharBoundary}
 use Rattle.std.proofs.lemmas.List.{take_at, drop_at}
 use Rattle.std.proofs.lemmas.Str.{IsCharBoundary-at_seam, IsCharBoundary-from_take, IsCharBoundary-from_rest}
 use Rattle.ged_line.specs.Bytes.{Bytes}
 use Rattle.ged_line.specs.Lines.{LineParts, LineText}
 use Rattle.ged_line.specs.Faults.{IsFaultOf}
-use Rattle.ged_line.specs.Pieces.{AreCutInto, ArePiecesOf, IsEnd, IsBehindMark, pieces_of}
-use Rattle.ged_line.proofs.Cutting.{are_cut}
-use Rattle.ged_line.proofs.LineLaws.{line_plain}
+use Rattle.ged_line.specs.Pieces.{AreCutInto, ArePiecesOf, IsEnd, IsBehindMark, IsFirstPiece, pieces_of}
+use Rattle.ged_tree.proofs.TestParts.{plain_is_utf8}
+use Rattle.ged_line.proofs.CallerLemmas.{first_of_pieces, are_cut, line_plain}
+use Rattle.ged_tree.proofs.ReadLemmas.{HaveRead, HaveRead-start, HaveRead-more, HaveReadFile, HaveReadFile-start, HaveReadFile-more, HaveReadFile-end, length-AreTexts}
 use Rattle.ged_line.specs.declared.fault.LineFault.{LineFault}
-use Rattle.ged_line.proofs.FileLaws.{HaveRead, HaveRead-start, HaveRead-more, HaveReadFile, HaveReadFile-start, HaveReadFile-more, HaveReadFile-end, length-AreTexts}
 use Rattle.ged_line.specs.Files.{FileText}
 use Rattle.ged_tree.specs.TreeFaults.{FirstFault, Pass, no_lines, past_last}
 use Rattle.ged_tree.specs.TreeFaults.{at_line as at_line_of}
@@ -134,8 +134,20 @@ count_fits_in text table rest t = omega (arith, lines_fit_in text t.lines (piece
 pub lines_few_in : (text : Bytes) (table : TableBuilder) (rest : Bytes) (t : HasTakenIn text table rest) → length t.lines ≤ length text
 lines_few_in text table rest t = omega (arith, lines_fit_in text t.lines (pieces_of rest) t.read)
 
+-- what stands behind a first piece
+front_of : (bytes piece rest : Bytes) → IsFirstPiece bytes piece rest → (end : Bytes) × (bytes ≡ piece ++ (end ++ rest))
+front_of bytes piece rest (f, inl (end, e, s)) = (end, s)
+front_of bytes piece rest (f, inr (e, none, n)) = ([], e ∙ sym (ap (λ (bs : Bytes). piece ++ bs) none ∙ append-nil piece))
+
 -- a line at the front of what is left is a slice of the whole
-module _ (text : Bytes) (table : TableBuilder) (rest piece end after : Bytes) (line : LineParts) (t : HasTakenIn text table rest) (parts : rest ≡ piece ++ (end ++ after)) (spelled : LineText line piece) where
+module _ (text : Bytes) (table : TableBuilder) (rest piece after : Bytes) (line : LineParts) (t : HasTakenIn text table rest) (first : IsFirstPiece rest piece after) (spelled : LineText line piece) where
+  end : Bytes
+  end = (front_of rest piece after first).0
+
+  parts : rest ≡ piece ++ (end ++ after)
+  unfolding end
+  parts = (front_of rest piece after first).1
+
   start : ℕ
   start = length text - length rest
 
@@ -150,7 +162,7 @@ module _ (text : Bytes) (table : TableBuilder) (rest piece end after : Bytes) (l
       let here : take (length piece) rest ≡ piece = ap (λ (bs : Bytes). take (length piece) bs) parts ∙ take_at piece (end ++ after) (length piece) refl in
       let fits : length piece ≤ length rest = (let size = ap (λ (bs : Bytes). length bs) parts in omega (arith, size, length-append piece (end ++ after))) in
       let within : start ≤ length text = omega arith in
-      let plain : IsUtf8 (take (length piece) rest) = subst IsUtf8 (sym here) (line_plain line piece spelled).0 in
+      let plain : IsUtf8 (take (length piece) rest) = subst IsUtf8 (sym here) (plain_is_utf8 piece (line_plain line piece spelled)) in
       let cut : IsCharBoundary rest (length piece) = IsCharBoundary-from_take rest (length piece) u fits plain in
       rw t.file (record {
         begins = subst (λ (n : ℕ). IsCharBoundary text n) (sym begins) (IsCharBoundary-at_seam text t.front rest t.whole u);
@@ -158,10 +170,10 @@ module _ (text : Bytes) (table : TableBuilder) (rest piece end after : Bytes) (l
         text_is = ap (λ (bs : Bytes). take (length piece) bs) behind ∙ here;
       })
 
-  pub taken_more_in : (new : TableBuilder) → pieces_of rest ≡ piece ∷ pieces_of after → new.file.now ≡ table.file.now → HoldsLines new (t.lines ++ line ∷ []) → HasTakenIn text new after
-  taken_more_in new e f h = record {
+  pub taken_more_in : (new : TableBuilder) → new.file.now ≡ table.file.now → HoldsLines new (t.lines ++ line ∷ []) → HasTakenIn text new after
+  taken_more_in new f h = record {
     lines = t.lines ++ line ∷ [];
-    read = HaveRead-more text t.lines (t.lines ++ line ∷ []) (pieces_of rest) (pieces_of after) piece line e refl spelled t.read;
+    read = HaveRead-more text t.lines (t.lines ++ line ∷ []) (pieces_of rest) (pieces_of after) piece line (first_of_pieces rest piece after first) refl spelled t.read;
     holds = h;
     file = f ∙ t.file;
     front = t.front ++ (piece ++ end);

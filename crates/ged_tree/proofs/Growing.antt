@@ -9,7 +9,7 @@ use Rattle.std.proofs.lemmas.Bool.Decides.{nat_tests}
 use Rattle.ged_line.specs.Bytes.{Bytes}
 use Rattle.ged_line.specs.Lines.{LineParts, line_parts, is_line, Value, is_value}
 use Rattle.ged_line.specs.Lines as value
-use Rattle.ged_line.proofs.LineLaws.{line_is}
+use Rattle.ged_tree.proofs.TestParts.{line_is}
 use Rattle.ged_tree.specs.Trees.{Structure, Trees, none, tree, further_lines}
 use Rattle.ged_tree.specs.Spelled.{payload_from}
 use Rattle.ged_tree.specs.DocumentLines.{line_value, first_value, continued, lines_of}

@@ -5,14 +5,13 @@ use Rattle.std.specs.List.{list_any, list_all}
 use Rattle.std.specs.Str.{bytes_eq}
 use Rattle.std.proofs.lemmas.Bool.{true≢false, not-false, lt-ltb, le-leb, eq-eqb, cases_lt, cases_Bool, cases_order, and_parts, or_parts, and_from, not_from_false}
 use Rattle.std.proofs.lemmas.Bool.Decides.{nat_tests}
-use Rattle.std.proofs.lemmas.Str.{IsUtf8-nil}
 use Rattle.ged_line.specs.Bytes.{Bytes}
 use Rattle.ged_line.specs.Characters.{is_plain}
 use Rattle.ged_line.specs.Names.{is_tag, is_xref}
 use Rattle.ged_line.specs.Lines.{LineParts, is_line, is_line_text, may_be_xref, Value, is_value}
 use Rattle.ged_line.specs.Lines as value
-use Rattle.ged_line.proofs.Banned.{is_plain-from}
-use Rattle.ged_line.proofs.LineLaws.{line_is}
+use Rattle.ged_line.proofs.CallerLemmas.{nothing_plain}
+use Rattle.ged_tree.proofs.TestParts.{line_is}
 use Rattle.ged_tree.specs.Trees.{Trees, none, tree, further_lines, lines_count}
 use Rattle.ged_tree.specs.Documents.{is_payload_at, is_xref_at, is_structure_at, are_at, is_record_tag, are_records, is_head, is_document}
 use Rattle.ged_tree.specs.declared.payload.Payload.TheVariants.{Text}
@@ -33,10 +32,6 @@ no_room line (x ∷ xs) e l c a = elim (cases_Bool (is_cont x)) [
       absurd (omega arith))
   | inr k ↦ rw k refl
 ]
-
--- the empty text
-nothing_plain : is_plain [] ≡ true
-nothing_plain = is_plain-from [] IsUtf8-nil ([], refl, tt)
 
 pub text_plain : (v : Value) → is_value v ≡ true → is_plain (text_of v) ≡ true
 text_plain value.Empty h = nothing_plain

@@ -1,3 +1,5 @@
+pub mod TestParts
+pub mod ReadLemmas
 pub mod PlaceLemmas
 pub mod FoundLemmas
 pub mod LineTests
@@ -32,3 +34,6 @@ pub mod PushLemmas
 pub mod TakeLemmas
 pub mod FaultLemmas
 pub mod WholeFiles
+pub mod OneToOne
+pub mod CallerLemmas
+pub mod StayLemmas

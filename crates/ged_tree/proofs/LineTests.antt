@@ -8,7 +8,7 @@ use Rattle.ged_line.specs.Bytes.{Bytes}
 use Rattle.ged_line.specs.Characters.{is_plain}
 use Rattle.ged_line.specs.Lines.{is_value, may_be_xref}
 use Rattle.ged_line.specs.Names.{is_tag, is_xref}
-use Rattle.ged_line.proofs.NameTests.{and_left, and_right, and_true}
+use Rattle.ged_tree.proofs.TestParts.{and_left, and_right, and_true}
 use Rattle.ged_tree.specs.Trees.{Structure, Trees, none, tree, further_lines, lines_count}
 use Rattle.ged_tree.specs.Documents.{is_document, is_structure_at, is_head, are_records, is_xref_at, is_payload_at, are_at}
 use Rattle.ged_tree.specs.DocumentLines.{first_value, line_value}

@@ -5,8 +5,8 @@ use Rattle.std.proofs.lemmas.Bool.Decides.{nat_tests}
 use Rattle.std.specs.Str.{IsCharBoundary, bytes_eq}
 use Rattle.ged_line.specs.Bytes.{Bytes}
 use Rattle.ged_line.specs.Lines.{IsValuePart, is_value, Value, Empty, Void, Pointer, Text}
-use Rattle.ged_line.proofs.LineLaws.{part_ends}
-use Rattle.ged_line.proofs.NameTests.{xref_each, bool_cases}
+use Rattle.ged_line.proofs.CallerLemmas.{part_ends, xref_each}
+use Rattle.ged_tree.proofs.TestParts.{bool_cases}
 use Rattle.ged_tree.specs.Spelled.{shown_value, shown_pointer}
 use Rattle.ged_tree.specs.DocumentLines.{line_value}
 use Rattle.ged_tree.proofs.SpelledLemmas.{value_shown, pointer_shown}

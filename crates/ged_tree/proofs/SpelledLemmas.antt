@@ -1,5 +1,6 @@
 -- A text shows the line that it spells.
 use Rattle.std.proofs.Common.{◌≡◌, ◌≢◌, ℕ, ◌+◌, ◌==◌, true, false, [], ◌∷◌, ◌++◌, Option, Some, None, length, drop, codes, decimal, refl, sym, ◌∙◌, ap, arith, inl, inr, append_assoc}
+use Rattle.std.specs.List.{AllByRecursion}
 use Rattle.std.specs.Str.{bytes_eq}
 use Rattle.std.proofs.Math.Numerals.{one-add}
 use Rattle.std.proofs.Math.Seq.{drop-append_seam, drop-append-add}
@@ -9,22 +10,28 @@ use Rattle.ged_line.specs.Bytes.{Bytes}
 use Rattle.ged_line.specs.Faults.{word}
 use Rattle.ged_line.specs.Names.{is_tag, is_xref}
 use Rattle.ged_line.specs.Lines.{LineParts, line_parts, LineText, IsValuePart, is_value, may_be_xref, xref_part, Value, Empty, Void, Pointer, Text}
-use Rattle.ged_line.proofs.Cuts.{Lacks, AllByRecursion-weaker, tag_character_not_at}
-use Rattle.ged_line.proofs.NameTests.{tag_each, tag_some, xref_each, xref_apart, bool_cases}
-use Rattle.ged_line.proofs.LineLaws.{line_is, part_ends}
-use Rattle.ged_line.proofs.Scans.{word_tag}
+use Rattle.ged_tree.proofs.TestParts.{AreTagCharacters, tag_character_not_at, tag_some, xref_apart, bool_cases, line_is}
+use Rattle.ged_line.proofs.CallerLemmas.{tag_each, xref_each, part_ends, word_tag}
 use Rattle.ged_tree.specs.Spelled.{before_sign, shown_xref, from_tag, shown_pointer, shown_value, shown_rest, shown_line}
 
 no_sign : (c : ℕ) → c ≢ 64 → (c == 64) ≡ false
 no_sign c h = grind (arith, nat_tests)
 
+-- no sign stands in a name
+abbrev LacksSign : Bytes → Type 0
+LacksSign name = AllByRecursion (λ c. c ≢ 64) name
+
+all_lack : (name : Bytes) → AreTagCharacters name → LacksSign name
+all_lack [] a = tt
+all_lack (c ∷ cs) a = (tag_character_not_at c a.0, all_lack cs a.1)
+
 -- a name is what stands before the sign behind it
-name_cut : (name rest : Bytes) → Lacks 64 name → before_sign (name ++ (64 ∷ rest)) ≡ name
+name_cut : (name rest : Bytes) → LacksSign name → before_sign (name ++ (64 ∷ rest)) ≡ name
 name_cut [] rest f = refl
 name_cut (c ∷ cs) rest f = rw (no_sign c f.0, one-add) (ap (λ xs. c ∷ xs) (name_cut cs rest f.1))
 
-names_lack : (name : Bytes) → is_xref name ≡ true → Lacks 64 name
-names_lack name h = AllByRecursion-weaker _ _ tag_character_not_at name (xref_each name h)
+names_lack : (name : Bytes) → is_xref name ≡ true → LacksSign name
+names_lack name h = all_lack name (xref_each name h)
 
 pub pointer_shown : (name : Bytes) → is_xref name ≡ true → shown_pointer name ≡ Pointer name
 pointer_shown name h = rw (not-true (bytes_eq name (codes "VOID")) (xref_apart name h)) refl

@@ -1,18 +1,17 @@
 -- A structure's tag, identifier and payload, cut from its text where its tag is kept.
-use Rattle.std.proofs.Common.{◌≡◌, ◌≢◌, ℕ, ◌+◌, ◌-◌, ◌<◌, ◌≤◌, ◌==◌, true, [], ◌∷◌, ◌++◌, Option, Some, None, length, take, drop, get_or, decimal, refl, sym, ◌∙◌, ap, subst, arith, inl, inr, append_assoc, append-nil, length-append}
+use Rattle.std.proofs.Common.{◌≡◌, ◌≢◌, ℕ, ◌+◌, ◌-◌, ◌/◌, ◌%◌, ◌<◌, ◌≤◌, ◌==◌, true, [], ◌∷◌, ◌++◌, Option, Some, None, length, take, drop, get_or, decimal, refl, sym, ◌∙◌, ap, subst, arith, inl, inr, append_assoc, append-nil, length-append}
 use Rattle.std.proofs.lemmas.List.{take_at, drop_at, get_or-append_right}
 use Rattle.std.proofs.lemmas.Bool.{true≢false}
 use Rattle.std.proofs.lemmas.Bool.Decides.{nat_tests}
-use Rattle.std.proofs.lemmas.Fmt.{decimal_digit}
+use Rattle.std.proofs.lemmas.Fmt.{decimal_digit, decimal_step}
 use Rattle.std.proofs.lemmas.Str.{IsCharBoundary-end, IsCharBoundary-before_ascii}
 use Rattle.std.specs.Str.{IsCharBoundary}
 use Rattle.ged_line.specs.Bytes.{Bytes}
 use Rattle.ged_line.specs.Characters.{is_tag_character}
 use Rattle.ged_line.specs.Lines.{LineParts, LineText, IsValuePart, may_be_xref, xref_part, is_value, Value, Empty, Void, Pointer, Text}
 use Rattle.ged_line.specs.Spelling.{value_part}
-use Rattle.ged_line.proofs.Levels.{decimal_two}
-use Rattle.ged_line.proofs.LineLaws.{line_is, part_ends}
-use Rattle.ged_line.proofs.NameTests.{AreTagCharacters, tag_each, xref_each, bool_cases}
+use Rattle.ged_tree.proofs.TestParts.{line_is, AreTagCharacters, bool_cases}
+use Rattle.ged_line.proofs.CallerLemmas.{part_ends, tag_each, xref_each}
 use Rattle.ged_tree.specs.Spelled.{shown_value}
 use Rattle.ged_tree.proofs.SpelledLemmas.{value_shown}
 
@@ -61,7 +60,10 @@ pub length-decimal_one : (n : ℕ) → n < 10 → length (decimal n) ≡ 1
 length-decimal_one n h = ap (λ (ds : Bytes). length ds) (decimal_digit n h)
 
 pub length-decimal_two : (n : ℕ) → 10 ≤ n → n ≤ 99 → length (decimal n) ≡ 2
-length-decimal_two n l h = ap (λ (ds : Bytes). length ds) (decimal_two n l h)
+length-decimal_two n l h =
+    let one = length-decimal_one (n / 10) (omega arith) in
+    let both = ap (λ (ds : Bytes). length ds) (decimal_step n l (omega arith)) in
+    omega (arith, one, both, length-append (decimal (n / 10)) ((48 + n % 10) ∷ []))
 
 pub begins_characters : (name rest : Bytes) → AreTagCharacters name → BeginsAscii rest → BeginsAscii (name ++ rest)
 begins_characters [] rest a h = h

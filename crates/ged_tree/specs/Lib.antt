@@ -19,6 +19,7 @@ pub mod TreeFaults
 pub mod Judging
 pub mod TreeLaws
 pub mod FileFaults
+pub mod FaultsStay
 pub mod Building
 pub mod Copies
 pub mod Tables

@@ -1,5 +1,6 @@
-// Laws of what building answers for files. The functions do nothing: their contracts are proved.
+// Laws of what building answers for files, and of their first faults. The functions do nothing: their contracts are proved.
 ghost use Rattle.ged_tree.specs.Building.{FaultyFileHasNone, FileFaultIsBuildFault};
+ghost use Rattle.ged_tree.specs.FaultsStay.{FirstFaultStays};
 
 /// A file that has a fault has no document.
 pub fn faulty_file_has_none()
@@ -10,4 +11,9 @@ pub fn faulty_file_has_none()
 /// [`crate::build`] answers for what [`ged_line::read_lines`] reads.
 pub fn file_fault_is_build_fault()
     ensures { FileFaultIsBuildFault }
+{}
+
+/// The first fault of whole lines is that of the file, whatever comes behind them, unless it is that TRLR is missing.
+pub fn first_fault_stays()
+    ensures { FirstFaultStays }
 {}

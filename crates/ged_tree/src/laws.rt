@@ -1,5 +1,6 @@
 // Laws of the definitions that the contracts of this crate cite. The functions do nothing: their contracts are proved.
 ghost use Rattle.ged_tree.specs.Laws.{OneDocument, OneForEachPlace, ListedAtPlace, NextLine, BeginsOnLine, CountedLines, OnePlace};
+ghost use Rattle.ged_tree.specs.Laws.{NodesByTrees, RecordsByTrees, DocumentsByTrees};
 
 /// The list of a document's structures, in the order of the file, belongs to no other document.
 pub fn one_document()
@@ -34,4 +35,11 @@ pub fn counted_lines()
 /// A path leads to one structure at most.
 pub fn one_place()
     ensures { OnePlace }
+{}
+
+/// Nodes, records and whole documents are known by their trees: no two have the same.
+pub fn known_by_trees()
+    ensures nodes { NodesByTrees }
+    ensures records { RecordsByTrees }
+    ensures documents { DocumentsByTrees }
 {}

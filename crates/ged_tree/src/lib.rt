@@ -32,15 +32,15 @@ pub use copying::document_of;
 pub use document::Document;
 pub use document_lines::to_lines;
 pub use fault::{BuildFault, TreeAt, TreeFault};
-pub use file_laws::{faulty_file_has_none, file_fault_is_build_fault};
+pub use file_laws::{faulty_file_has_none, file_fault_is_build_fault, first_fault_stays};
 pub use flat::Flat;
 pub use flattening::flatten;
 pub use forest::{Forest, end_of_all, next_in_run};
 pub use further::FurtherLines;
 pub use judge::Judge;
 pub use laws::{
-    begins_on_line, counted_lines, listed_at_place, next_line, one_document, one_for_each_place,
-    one_place,
+    begins_on_line, counted_lines, known_by_trees, listed_at_place, next_line, one_document,
+    one_for_each_place, one_place,
 };
 pub use node::{Node, RecordNode};
 pub use paths::line_of;
@@ -50,10 +50,3 @@ pub use tree_laws::{
     one_fault_in_file, one_first_fault, one_list, pass_is_document,
 };
 pub use whole_files::document_or_fault_of_file;
-
-#[cfg(test)]
-mod tests;
-#[cfg(test)]
-mod tests_flatten;
-#[cfg(test)]
-mod tests_judge;

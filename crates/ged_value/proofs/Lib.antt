@@ -22,3 +22,5 @@ pub mod NameLaws
 pub mod RestrictionLaws
 pub mod ZeroKinds
 pub mod QuickLaws
+pub mod Fitting
+pub mod CallerLemmas

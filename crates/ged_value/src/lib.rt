@@ -32,14 +32,3 @@ pub use name::{PersonName, read_name};
 pub use time::{Time, read_time};
 pub use value::{DateValue, Period, read_date, read_period};
 pub use zeros::{fitting_without_zeros, leaving_out_zeros, trim_zeros, trimming};
-
-#[cfg(test)]
-mod tests;
-#[cfg(test)]
-mod tests_kinds;
-#[cfg(test)]
-mod tests_months;
-#[cfg(test)]
-mod tests_quick;
-#[cfg(test)]
-mod tests_zeros;

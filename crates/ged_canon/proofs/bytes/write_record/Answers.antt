@@ -6,7 +6,7 @@ use Rattle.ged_tree.specs.Documents.{are_at}
 use Rattle.ged_tree.specs.Places.{structure_at, below_at}
 use Rattle.ged_tree.specs.Runs.{IsRun, trees_between}
 use Rattle.ged_tree.specs.Walks.{HasLinesAt}
-use Rattle.ged_tree.proofs.PlaceLemmas.{below_run, run_below}
+use Rattle.ged_tree.proofs.CallerLemmas.{below_run, run_below}
 use Rattle.ged_schema.specs.declared.context.Context.TheVariants.{File}
 use Rattle.ged_schema.specs.Rows.{as_row}
 use Rattle.ged_schema.specs.Tables.{row, below_row}

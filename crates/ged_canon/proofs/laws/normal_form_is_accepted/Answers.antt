@@ -1,6 +1,6 @@
 use Rattle.ged_link.specs.Links.{Resolved}
 use Rattle.ged_schema.specs.Checked.{Checked}
-use Rattle.ged_canon.specs.Notices.{NoNotice}
+use Rattle.ged_schema.specs.Profiles.{NoNotice}
 use Rattle.ged_canon.proofs.Chains.{kept}
 use Rattle.ged_canon.proofs.Keeps.{step_resolved, step_checked}
 use Rattle.ged_canon.proofs.Noticed.{step_no_notice}

@@ -2,7 +2,7 @@ use Rattle.std.proofs.Common.{◌+◌, refl, sym, ap, ◌∙◌, subst, arith}
 use Rattle.ged_tree.specs.Trees.{tree}
 use Rattle.ged_tree.specs.Places.{structure_at}
 use Rattle.ged_tree.specs.Runs.{trees_between}
-use Rattle.ged_tree.proofs.PlaceLemmas.{run_ends}
+use Rattle.ged_tree.proofs.CallerLemmas.{run_ends}
 use Rattle.ged_canon.specs.Normal.{InOrder, tags}
 use Rattle.ged_canon.proofs.normal.are_in_order.Goals as goal
 

@@ -4,11 +4,14 @@ use Rattle.ged_tree.specs.Trees.{tree}
 use Rattle.ged_tree.specs.Places.{structure_at}
 use Rattle.ged_tree.specs.Runs.{trees_between}
 use Rattle.ged_schema.specs.declared.context.Context.TheVariants.{File}
-use Rattle.ged_schema.proofs.Runs.{tested}
+use Rattle.std.specs.Prelude.{◌≡◌, ◌↔◌, Bool, true, refl, IsTrue}
 use Rattle.ged_canon.specs.Normal.{AreNormal}
 use Rattle.ged_canon.proofs.NumberTests.{seen_as, normal_from, numbers_of_normal}
 use Rattle.ged_canon.proofs.normal.is_normal_in.Goals as goal
 use Rattle.ged_canon.proofs.normal.is_normal_in.Goals.{then-are_normal, else-are_normal}
+
+tested : {P : Type 0} (b : Bool) → IsTrue b ↔ P → b ≡ true → P
+tested b h e = h.0 (rw e refl)
 
 pub returns-then-are_in_order : goal.returns-then-are_in_order
 returns-then-are_in_order g c =

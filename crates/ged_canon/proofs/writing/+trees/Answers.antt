@@ -9,7 +9,7 @@ use Rattle.ged_tree.specs.DocumentLines.{structure_lines, lines_of}
 use Rattle.ged_tree.specs.Places.{structure_at, below_at}
 use Rattle.ged_tree.specs.Runs.{IsRun, trees_between}
 use Rattle.ged_tree.specs.Walks.{HasLinesAt}
-use Rattle.ged_tree.proofs.PlaceLemmas.{below_run, run_below, run_ends}
+use Rattle.ged_tree.proofs.CallerLemmas.{below_run, run_below, run_ends}
 use Rattle.ged_schema.specs.Rows.{as_row}
 use Rattle.ged_schema.specs.Tables.{row, below_row}
 use Rattle.ged_canon.specs.declared.siblings.Sibling.{Sibling}

@@ -1,7 +1,7 @@
 use Rattle.std.proofs.Common.{◌<◌, ◌++◌, length, arith, ap, sym, ◌∙◌}
 use Rattle.std.proofs.lemmas.List.{append_assoc}
 use Rattle.ged_line.specs.Pieces.{pieces_of}
-use Rattle.ged_line.proofs.Cutting.{nil_of, pieces_of_nil}
+use Rattle.ged_line.proofs.Cutting.{parts_of_first, nil_of, pieces_of_nil}
 use Rattle.ged_line.proofs.Respelling.{IsRespelledTo-start, IsRespelledTo-kept, IsRespelledTo-copied, IsRespelledTo-end, HaveRespelled-fault, HaveRespelled-room}
 use Rattle.ged_line.specs.declared.fault.LineFault.TheVariants.{BannedCharacter}
 use Rattle.ged_line.proofs.Scans.{banned_character}
@@ -26,9 +26,9 @@ pub is_line_before-requires : goal.is_line_before-requires
 is_line_before-requires c =
     let spelled = c.canonical_text-spelled.result.now in
     let blank = c.canonical_text-spelled.ensures.front.0 in
-    let end = c.cut_line-has_banned.ensures.parts.0 in (
+    let (end, parts) = parts_of_first c.loop-rest.rest.now c.cut_line-has_banned.result.piece.now c.cut_line-has_banned.result.after.now c.cut_line-has_banned.ensures.first in (
       blank ++ end,
-      c.cut_line-has_banned.ensures.parts.1 ∙ ap (λ x. x ++ (end ++ c.cut_line-has_banned.result.after.now)) c.canonical_text-spelled.ensures.front.1
+      parts ∙ ap (λ x. x ++ (end ++ c.cut_line-has_banned.result.after.now)) c.canonical_text-spelled.ensures.front.1
           ∙ append_assoc spelled blank (end ++ c.cut_line-has_banned.result.after.now) ∙ ap (λ x. spelled ++ x) (sym (append_assoc blank end c.cut_line-has_banned.result.after.now)),
     )
 

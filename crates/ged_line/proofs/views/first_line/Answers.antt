@@ -5,10 +5,4 @@ use Rattle.ged_line.proofs.views.first_line.Goals as goal
 pub returns-then-has_banned-clause-line : goal.returns-then-has_banned-clause-line
 returns-then-has_banned-clause-line c =
     let piece = c.cut_line-has_banned.result.piece.now in
-    (piece, c.cut_line-has_banned.ensures.pieces, banned_character piece c.cut_line-has_banned.ensures.piece_utf8 (sym c.cut_line-has_banned.ensures.banned ∙ c.if-has_banned.true))
-
-pub returns-then-has_banned-clause-front : goal.returns-then-has_banned-clause-front
-returns-then-has_banned-clause-front c =
-    let piece = c.cut_line-has_banned.result.piece.now in
-    let parts = c.cut_line-has_banned.ensures.parts in
-    (piece, parts.0, parts.1, banned_character piece c.cut_line-has_banned.ensures.piece_utf8 (sym c.cut_line-has_banned.ensures.banned ∙ c.if-has_banned.true))
+    (piece, c.cut_line-has_banned.ensures.first, banned_character piece c.cut_line-has_banned.ensures.piece_utf8 (sym c.cut_line-has_banned.ensures.banned ∙ c.if-has_banned.true))

@@ -1,6 +1,6 @@
 use Rattle.std.proofs.Common.{sym, ◌∙◌, ap, ◌∷◌, ◌++◌}
 use Rattle.ged_line.specs.Pieces.{pieces_of}
-use Rattle.ged_line.proofs.Cutting.{pieces_only}
+use Rattle.ged_line.proofs.Cutting.{first_of_pieces, pieces_only}
 use Rattle.ged_line.proofs.BlockLemmas.{no_pieces, none_before, first_of_block}
 use Rattle.ged_line.proofs.views.first_of_blocks.Goals as goal
 
@@ -16,7 +16,7 @@ returns-in_default c =
 
 pub returns-in_default-first_line : goal.returns-in_default-first_line
 returns-in_default-first_line c =
-    no_pieces c.args.bytes.now c.split_block.result.0.now c.split_block.ensures.some (rw c.in-Ok.ensures.0 at c.in_default-first_line.ensures.line)
+    no_pieces c.args.bytes.now c.split_block.result.0.now c.split_block.ensures.some (ap pieces_of (rw c.in-Ok.ensures.0 at c.in_default-first_line.ensures.line))
 
 pub returns : goal.returns
 returns c =
@@ -25,7 +25,7 @@ returns c =
     let rest = pieces_of c.split_block.result.1.now in
     let first = c.in-Some-first_line.ensures.line in (
       first.0,
-      first_of_block c.args.bytes.now block first.0 after rest c.split_block.ensures.pieces (ap pieces_of (sym c.in-Ok.ensures.0) ∙ first.1)
+      first_of_block c.args.bytes.now block first.0 after rest c.split_block.ensures.pieces (ap pieces_of (sym c.in-Ok.ensures.0) ∙ first_of_pieces c.in-Ok.text.now first.0 c.in-Some-first_line.text.now first.1)
           ∙ ap (λ ps. first.0 ∷ (after ++ ps)) (sym (none_before c.cut_pieces.result rest c.cut_pieces.ensures)),
       first.2,
     )

@@ -3,7 +3,7 @@ use Rattle.ged_tree.specs.Trees.{trees_count}
 use Rattle.ged_tree.specs.Runs.{trees_between, IsRun}
 use Rattle.ged_link.specs.Indexes.{place_in}
 use Rattle.ged_link.specs.LinkWalks.{has_pair}
-use Rattle.ged_link.specs.PairSets.{pairs_have}
+use Rattle.ged_link.specs.PairSets.{lists_have}
 use Rattle.ged_link.specs.Resolving.{AreFollowed}
 use Rattle.ged_link.specs.declared.pairs.Role.{Role}
 use Rattle.ged_link.proofs.following.follow_pointers.Given as goal
@@ -15,7 +15,7 @@ invariant-loop-after g l =
       whole : l.end ≡ trees_count trees;
       run : IsRun trees l.place l.end;
       used : AreFollowed trees l.place l.followed;
-      told : (role : Role) (pair : ℕ × ℕ) → (has_pair (place_in l.records) role l.place (trees_between trees l.place l.end) pair || pairs_have l.pairs role pair) ≡ has_pair (place_in l.records) role 0 trees pair;
+      told : (role : Role) (pair : ℕ × ℕ) → (has_pair (place_in l.records) role l.place (trees_between trees l.place l.end) pair || lists_have l.lists role pair) ≡ has_pair (place_in l.records) role 0 trees pair;
     }
 
 abbrev pub decreases-loop-after : goal.decreases-loop-after

@@ -3,7 +3,7 @@ use Rattle.ged_tree.specs.Places.{structure_at}
 use Rattle.ged_tree.specs.Runs.{trees_between, IsRun}
 use Rattle.ged_link.specs.Indexes.{place_in}
 use Rattle.ged_link.specs.LinkWalks.{has_link_to}
-use Rattle.ged_link.specs.PairSets.{pairs_have}
+use Rattle.ged_link.specs.PairSets.{lists_have}
 use Rattle.ged_link.specs.Resolving.{AreFollowed}
 use Rattle.ged_link.specs.declared.pairs.Role.{Role}
 use Rattle.ged_link.proofs.following.follow_record.Given as goal
@@ -15,8 +15,8 @@ invariant-loop-after g l =
       run : IsRun trees l.place l.end;
       used : AreFollowed trees l.place l.followed;
       told : (role : Role) (pair : ℕ × ℕ) →
-          ((nat_eq pair.0 l.from && has_link_to (place_in l.records) role (structure_at trees l.from).tag pair.1 (trees_between trees l.place l.end)) || pairs_have l.pairs role pair)
-          ≡ ((nat_eq pair.0 l.from && has_link_to (place_in l.records) role (structure_at trees l.from).tag pair.1 (trees_between trees (l.from + 1) l.end)) || pairs_have l.fn.pairs role pair);
+          ((nat_eq pair.0 l.from && has_link_to (place_in l.records) role (structure_at trees l.from).tag pair.1 (trees_between trees l.place l.end)) || lists_have l.lists role pair)
+          ≡ ((nat_eq pair.0 l.from && has_link_to (place_in l.records) role (structure_at trees l.from).tag pair.1 (trees_between trees (l.from + 1) l.end)) || lists_have l.fn.lists role pair);
     }
 
 abbrev pub decreases-loop-after : goal.decreases-loop-after

@@ -1,6 +1,7 @@
 use Rattle.std.proofs.Common.{◌≡◌, ◌+◌, ◌++◌, ◌∷◌, [], List, Option, Some, inr, sym, ap, ◌∙◌, refl, arith, subst, length, ℕ, length-append}
 use Rattle.std.specs.Option.{option_copied}
 use Rattle.ged_line.specs.Bytes.{Bytes}
+use Rattle.ged_tree.specs.Trees.{records_of}
 use Rattle.ged_tree.specs.Places.{structure_at}
 use Rattle.ged_tree.specs.Documents.{are_at}
 use Rattle.ged_tree.specs.Runs.{IsStep}
@@ -9,7 +10,8 @@ use Rattle.ged_link.specs.declared.names.Names.{Names}
 use Rattle.ged_link.specs.declared.index.RecordPlace.{RecordPlace}
 use Rattle.ged_link.specs.declared.record_type.RecordType.{RecordType}
 use Rattle.ged_link.specs.RecordTypes.{IsTypeOf}
-use Rattle.ged_link.specs.Indexes.{found_in, AreTyped}
+use Rattle.ged_link.specs.Indexes.{found_in, AreTyped, HasKey}
+use Rattle.ged_link.specs.Keys.{names_key}
 use Rattle.ged_link.specs.Resolving.{AreRecordsBefore}
 use Rattle.ged_link.proofs.RecordLemmas.{whole_end, records_start, typed_start, records_level, records_kept, records_more, numbered_here, typed_kept, typed_more, level_next, left_after, number_within, records_all, records_count, none_repeated_all, first_repeated, none_of_new, some_of_old}
 use Rattle.ged_link.proofs.KeptPlaces.{none_placed, placed_more}
@@ -31,8 +33,9 @@ loop-after-init g c =
       left = rw empty (ap identifiers (sym is));
       few = omega (arith, empty);
       fits = omega (arith, empty);
-      found = rw empty (records_start w document c.first_record-place.result c.end_of_all-end.result whole run is c.new-records.result c.new-records.ensures);
-      typed = typed_start w c.new-records.result c.new-types.result.items c.new-records.ensures;
+      found = rw empty (records_start w document c.first_record-place.result c.end_of_all-end.result whole run is c.new-records.result c.new-records.ensures.none);
+      typed = typed_start w c.new-records.result c.new-types.result.items c.new-records.ensures.none;
+      keyed = subst (λ (key : ℕ). HasKey c.new-records.result key) (c.names_key.ensures ∙ ap (λ trees. names_key (identifiers trees)) is) c.new-records.ensures.keyed;
       long = omega (arith, empty, c.new-places.ensures.len, c.new-places.result.ok);
       at_places = none_placed w c.new-places.result.items c.new-places.ensures.items;
     }
@@ -59,7 +62,8 @@ loop-after-preserved g c =
     let step : IsStep w p e a = c.in-Some.ensures in
     let more = c.type_of.result in
     let of_type : IsTypeOf more (structure_at w p).tag = subst (λ (tag : Bytes). IsTypeOf more tag) c.tag.ensures c.type_of.ensures in
-    let found : AreRecordsBefore w a (k + 1) c.match-xref.records × AreTyped w c.match-xref.records (types ++ more ∷ []) = elim c.match-xref.branch [
+    let key = names_key (identifiers (records_of w)) in
+    let found : AreRecordsBefore w a (k + 1) c.match-xref.records × (AreTyped w c.match-xref.records (types ++ more ∷ []) × HasKey c.match-xref.records key) = elim c.match-xref.branch [
       | in-Some-xref+in-Ok-true v ↦ (
           let name = v.in-Some-xref.name.now in
           let here : (structure_at w p).xref ≡ Some name = sym c.xref.ensures ∙ ap option_copied v.in-Some-xref.is in
@@ -70,11 +74,14 @@ loop-after-preserved g c =
           let adds = v.in-Ok-true.ensures.added in
           rw v.records-is (
             records_more w p e a k step inv.level inv.left old new name one refl at_number here fresh adds inv.found,
-            typed_more w p e a k step inv.level inv.left old new types more name one refl refl at_number of_type adds inv.found inv.typed,
+            (
+              typed_more w p e a k step inv.level inv.left old new types more name one refl refl at_number of_type adds inv.found inv.typed,
+              v.in-Ok-true.ensures.keyed key inv.keyed,
+            ),
           ))
       | in_default-xref v ↦ rw v.records-is (
         records_kept w p e a k step inv.level inv.left old (sym c.xref.ensures ∙ ap option_copied v.in_default-xref.is) inv.found,
-        typed_kept w p e a k step inv.level inv.left old types more refl inv.found inv.typed,
+        (typed_kept w p e a k step inv.level inv.left old types more refl inv.found inv.typed, inv.keyed),
       )
     ] in
     let pushed : c.push-in-Some.new.self.items ≡ types ++ more ∷ [] = c.in-Ok-push.ensures.items in
@@ -89,7 +96,8 @@ loop-after-preserved g c =
       few = rw long (number_within w p e a k step inv.level inv.left);
       fits = omega (arith, long, inv.fits, step.forth);
       found = rw long found.0;
-      typed = rw pushed found.1;
+      typed = rw pushed found.1.0;
+      keyed = found.1.1;
       long = omega (arith, long, placed_long, inv.long);
       at_places = rw placed (placed_more w c.loop-after.places.items c.kept_place.result p c.kept_place.ensures (λ name has. rw inv.long (numbered_here w p e a k step inv.level inv.left name has)) inv.at_places);
     }

@@ -3,7 +3,8 @@ use Rattle.ged_tree.specs.Trees.{records_of, trees_count}
 use Rattle.ged_tree.specs.Documents.{are_at}
 use Rattle.ged_tree.specs.Runs.{trees_between, IsRun}
 use Rattle.ged_link.specs.Links.{identifiers}
-use Rattle.ged_link.specs.Indexes.{AreTyped}
+use Rattle.ged_link.specs.Indexes.{AreTyped, HasKey}
+use Rattle.ged_link.specs.Keys.{names_key}
 use Rattle.ged_link.specs.Places.{ArePlaces}
 use Rattle.ged_link.specs.Resolving.{AreRecordsBefore}
 use Rattle.ged_link.proofs.resolving.find_records.Given as goal
@@ -20,6 +21,7 @@ invariant-loop-after g l =
       fits : length l.types.items ≤ l.place;
       found : AreRecordsBefore trees l.place (length l.types.items) l.records;
       typed : AreTyped trees l.records l.types.items;
+      keyed : HasKey l.records (names_key (identifiers (records_of trees)));
       long : length l.places.items ≡ length l.types.items;
       at_places : ArePlaces trees l.places.items;
     }

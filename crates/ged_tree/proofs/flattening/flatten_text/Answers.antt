@@ -1,7 +1,7 @@
-use Rattle.std.proofs.Common.{rules, ◌≡◌, ◌<◌, ◌^◌, ◌∷◌, ◌++◌, ◌∙◌, ap, sym, length, arith}
-use Rattle.ged_line.specs.Bytes.{Bytes}
+use Rattle.std.proofs.Common.{rules, ◌<◌, ◌^◌, ap, length, arith}
 use Rattle.ged_line.specs.Lines.{LineText}
-use Rattle.ged_line.specs.Pieces.{pieces_of}
+use Rattle.ged_line.specs.Pieces.{IsFirstPiece, pieces_of}
+use Rattle.ged_line.proofs.CallerLemmas.{first_of_pieces}
 use Rattle.ged_tree.proofs.FlattenLemmas.{taken_in, begun_in, count_fits_in, lines_few_in, slice_of_rest, taken_more_in, fault_told, stopped, read_all, unended}
 use Rattle.ged_tree.proofs.flattening.flatten_text.Goals as goal
 
@@ -15,15 +15,15 @@ take-requires-clause-few c =
 
 pub take-requires-clause-slice : goal.take-requires-clause-slice
 take-requires-clause-slice c =
-    let front = rw c.in-Ok.is at c.in-Some.ensures.front in
-    rw front.3.1 (slice_of_rest c.args.text.now c.loop-line.table c.loop-line.rest.now front.0 front.1 c.in-Some.after.now c.in-Ok.line.line c.loop-line.invariant.taken front.2 front.3.0 c.loop-line.invariant.utf8)
+    let step = rw c.in-Ok.is at c.in-Some.ensures.line in
+    rw step.2.1 (slice_of_rest c.args.text.now c.loop-line.table c.loop-line.rest.now step.0 c.in-Some.after.now c.in-Ok.line.line c.loop-line.invariant.taken step.1 step.2.0 c.loop-line.invariant.utf8)
 
 pub returns-in-Err-take-clause-fault : goal.returns-in-Err-take-clause-fault
 returns-in-Err-take-clause-fault c = λ file mark.
     let taken = taken_in c.args.text.now c.loop-line.table c.loop-line.rest.now c.loop-line.invariant.taken file mark in
     let step = c.in-Some.ensures.line in
     let text = rw c.in-Ok.is at step.2 in
-    fault_told file c.loop-line.table (pieces_of c.loop-line.rest.now) (pieces_of c.in-Some.after.now) step.0 c.in-Ok.line.line taken step.1 text.0 c.in-Err-take.fault (c.in-Err-take.ensures.lines taken.lines taken.holds)
+    fault_told file c.loop-line.table (pieces_of c.loop-line.rest.now) (pieces_of c.in-Some.after.now) step.0 c.in-Ok.line.line taken (first_of_pieces c.loop-line.rest.now step.0 c.in-Some.after.now step.1) text.0 c.in-Err-take.fault (c.in-Err-take.ensures.lines taken.lines taken.holds)
 
 pub overflow_add-line : goal.overflow_add-line
 overflow_add-line c =
@@ -35,7 +35,7 @@ returns-in-Err-clause-fault c = λ file mark.
     let taken = taken_in c.args.text.now c.loop-line.table c.loop-line.rest.now c.loop-line.invariant.taken file mark in
     let step = c.in-Some.ensures.line in
     let fault = rw c.in-Err.is at step.2 in
-    stopped file c.loop-line.table (pieces_of c.loop-line.rest.now) (pieces_of c.in-Some.after.now) step.0 c.in-Err.fault step.1 fault taken
+    stopped file c.loop-line.table (pieces_of c.loop-line.rest.now) (pieces_of c.in-Some.after.now) step.0 c.in-Err.fault (first_of_pieces c.loop-line.rest.now step.0 c.in-Some.after.now step.1) fault taken
 
 pub loop-line-preserved : goal.loop-line-preserved
 loop-line-preserved c =
@@ -45,13 +45,11 @@ loop-line-preserved c =
     let line = c.in-Ok.line in
     let step = c.in-Some.ensures.line in
     let text = rw c.in-Ok.is at step.2 in
-    let front = rw c.in-Ok.is at c.in-Some.ensures.front in
-    let first : pieces_of rest ≡ line.text.now ∷ pieces_of after = step.1 ∙ ap (λ (piece : Bytes). piece ∷ pieces_of after) (sym text.1) in
-    let parts : rest ≡ line.text.now ++ (front.1 ++ after) = front.2 ∙ ap (λ (piece : Bytes). piece ++ (front.1 ++ after)) (sym front.3.1) in
+    let first : IsFirstPiece rest line.text.now after = rw text.1 step.1 in
     let spelled : LineText line.line line.text.now = rw text.1 text.0 in
     record {
       utf8 = c.in-Some.ensures.utf8;
-      taken = taken_more_in c.args.text.now c.loop-line.table rest line.text.now front.1 after line.line taken parts spelled c.take.new.self first c.in_default-take.ensures.file (c.in_default-take.ensures.lines taken.lines taken.holds);
+      taken = taken_more_in c.args.text.now c.loop-line.table rest line.text.now after line.line taken first spelled c.take.new.self c.in_default-take.ensures.file (c.in_default-take.ensures.lines taken.lines taken.holds);
     }
 
 pub finish-requires-clause-few : goal.finish-requires-clause-few
@@ -71,7 +69,7 @@ returns-in-Ok-finish-clause-document c = λ file mark.
     let taken = taken_in c.args.text.now c.loop-line.table c.loop-line.rest.now all file mark in
     let small : length c.args.text.now < 2 ^ 63 = search rules in
     let few : length all.lines < 2 ^ 63 = omega (arith, lines_few_in c.args.text.now c.loop-line.table c.loop-line.rest.now all, small) in
-    (all.lines, read_all file c.loop-line.table (pieces_of c.loop-line.rest.now) taken c.in_default.ensures.line, c.in-Ok-finish.ensures all.lines all.holds few)
+    (all.lines, read_all file c.loop-line.table (pieces_of c.loop-line.rest.now) taken (ap pieces_of c.in_default.ensures.line), c.in-Ok-finish.ensures all.lines all.holds few)
 
 pub returns-in-Err-finish-clause-fault : goal.returns-in-Err-finish-clause-fault
 returns-in-Err-finish-clause-fault c = λ file mark.
@@ -79,4 +77,4 @@ returns-in-Err-finish-clause-fault c = λ file mark.
     let taken = taken_in c.args.text.now c.loop-line.table c.loop-line.rest.now all file mark in
     let small : length c.args.text.now < 2 ^ 63 = search rules in
     let few : length all.lines < 2 ^ 63 = omega (arith, lines_few_in c.args.text.now c.loop-line.table c.loop-line.rest.now all, small) in
-    unended file all.lines c.in-Err-finish.at.line c.in-Err-finish.at.fault (read_all file c.loop-line.table (pieces_of c.loop-line.rest.now) taken c.in_default.ensures.line) (c.in-Err-finish.ensures all.lines all.holds few) all.holds.pass
+    unended file all.lines c.in-Err-finish.at.line c.in-Err-finish.at.fault (read_all file c.loop-line.table (pieces_of c.loop-line.rest.now) taken (ap pieces_of c.in_default.ensures.line)) (c.in-Err-finish.ensures all.lines all.holds few) all.holds.pass

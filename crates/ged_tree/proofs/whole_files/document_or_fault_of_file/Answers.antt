@@ -1,5 +1,5 @@
 use Rattle.std.proofs.Common.{◌<◌, ◌^◌, ◌+◌, [], ◌∷◌, ◌++◌, length, refl, rules}
-use Rattle.ged_line.proofs.FileLaws.{HaveReadFile-start, HaveReadFile-more, HaveReadFile-end, HaveReadFile-fault}
+use Rattle.ged_tree.proofs.ReadLemmas.{HaveReadFile-start, HaveReadFile-more, HaveReadFile-end, HaveReadFile-fault}
 use Rattle.ged_tree.proofs.WholeFiles.{of_lines, of_stop}
 use Rattle.ged_tree.proofs.whole_files.document_or_fault_of_file.Goals as goal
 

@@ -1,7 +1,7 @@
 use Rattle.std.proofs.Common.{◌<◌, ◌∙◌, ap, sym, subst, arith}
 use Rattle.ged_line.specs.Bytes.{Bytes}
 use Rattle.ged_line.specs.Lines.{IsValuePart}
-use Rattle.ged_line.proofs.LineLaws.{line_is}
+use Rattle.ged_tree.proofs.TestParts.{line_is}
 use Rattle.ged_tree.specs.Rows.{line_shown, shown_of, IsSpelled}
 use Rattle.ged_tree.specs.Spelled.{shown_value}
 use Rattle.ged_tree.proofs.TagLemmas.{part_boundary, part_is, part_shown}

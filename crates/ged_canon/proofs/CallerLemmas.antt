@@ -1,0 +1,42 @@
+-- What the proofs of the crates above cite of this crate, and they cite nothing else of its proofs: laws, as functions in
+-- src/ state them.
+use Rattle.std.specs.Prelude.{◌≡◌, true}
+use Rattle.ged_tree.specs.Documents.{is_document}
+use Rattle.ged_link.specs.Links.{Resolved}
+use Rattle.ged_schema.specs.Checked.{Checked}
+use Rattle.ged_schema.specs.Profiles.{NoNotice}
+use Rattle.ged_canon.specs.Laws.{NormalFormIsUnique, IsKept, EquivalentIsSymmetric, EquivalentIsTransitive, EditionsAgree, SecondIsNormalInFirst}
+use Rattle.ged_canon.proofs.Chains.{both, back, kept}
+use Rattle.ged_canon.proofs.Editions as editions
+use Rattle.ged_canon.proofs.Keeps.{step_resolved, step_checked}
+use Rattle.ged_canon.proofs.Normality.{ends_in_document}
+use Rattle.ged_canon.proofs.Noticed.{step_no_notice}
+use Rattle.ged_canon.proofs.Undone.{step_back}
+use Rattle.ged_canon.proofs.Unique as normal
+
+pub symmetric : EquivalentIsSymmetric
+symmetric edition d e h = back (step_back edition) h
+
+pub transitive : EquivalentIsTransitive
+transitive edition d e f h k = both h k
+
+pub normal_form_is_unique : NormalFormIsUnique
+normal_form_is_unique = normal.unique
+
+pub document_kept : IsKept (λ d. is_document d ≡ true)
+document_kept edition d e h p = ends_in_document d e p h
+
+pub resolved_kept : IsKept Resolved
+resolved_kept edition d e h = kept Resolved (step_resolved edition) h
+
+pub checked_kept : IsKept Checked
+checked_kept edition d e h = kept Checked (step_checked edition) h
+
+pub no_notice_kept : IsKept NoNotice
+no_notice_kept edition d e h = kept NoNotice (step_no_notice edition) h
+
+pub one_second : EditionsAgree
+one_second = editions.one_second
+
+pub normal_in_first : SecondIsNormalInFirst
+normal_in_first = editions.first_normal

@@ -1,0 +1,89 @@
+-- What a run says once its answer is flushed.
+use Rattle.std.proofs.Common.{◌≡◌, ◌↔◌, ◌∙◌, Bool, true, false, IsTrue, List, ℕ, Option, Some, None, refl, sym, subst, inl, inr}
+use Rattle.std.specs.Io.{StartsWith}
+use Rattle.std.specs.Io.KnownBytes.{Appends, Keeps}
+use Rattle.std.proofs.Math.Seq.{take-length}
+use Rattle.ged_tool.specs.declared.Profile.{Profile}
+use Rattle.ged_tool.specs.declared.Edition.{Edition}
+use Rattle.ged_tool.specs.Same.{AreCompared}
+use Rattle.ged_tool.specs.SameRun.{IsAllOf, same_line}
+use Rattle.ged_tool.specs.declared.faults.Which.{Which}
+use Rattle.ged_tool.specs.declared.faults.Which.TheVariants.{First, Second}
+use Rattle.ged_tool.specs.declared.faults.Fault.TheVariants.{ReadFailed, WriteFailed}
+use Rattle.ged_tool.specs.declared.faults.Outcome.{Outcome}
+use Rattle.ged_tool.specs.declared.faults.Outcome.TheVariants.{Done, Different, Failed}
+use Rattle.ged_cmd.specs.Program.{IsCompared, IsFlushed, Reader, limit}
+
+-- what a writer took stays taken where what it holds is kept
+pub keeps_appended : (before between after : Option (List ℕ)) (written : List ℕ) → Appends before between written → Keeps between after
+    → Appends before after written
+keeps_appended None between after written took kept = tt
+keeps_appended (Some x) None after written took kept = absurd took
+keeps_appended (Some x) (Some y) None written took kept = absurd kept
+keeps_appended (Some x) (Some y) (Some z) written took kept = kept ∙ took
+
+-- the flush went well, or nothing was to be flushed
+kept_compared : (profile : Profile) (edition : Edition) (first second : Reader) (taken between holds : Option (List ℕ)) (failed_before failed : Bool)
+    (before after : Outcome)
+    → IsCompared profile edition first second (record { taken = taken; holds = between; failed = failed_before }) before
+    → Keeps between holds → failed ≡ failed_before → after ≡ before
+    → IsCompared profile edition first second (record { taken = taken; holds = holds; failed = failed }) after
+kept_compared profile edition first second taken between holds failed_before failed before after compared keeps stays same =
+    subst (IsCompared profile edition first second (record { taken = taken; holds = holds; failed = failed })) (sym same) (record {
+      bytes = record {
+        first = compared.bytes.first;
+        second = compared.bytes.second;
+        written = compared.bytes.written;
+        first_gave = compared.bytes.first_gave;
+        second_gave = compared.bytes.second_gave;
+        took = keeps_appended taken between holds compared.bytes.written compared.bytes.took keeps;
+        means = compared.bytes.means;
+      };
+      first_failed = compared.first_failed;
+      second_failed = compared.second_failed;
+      write_failed = subst (λ b. IsTrue b ↔ (before ≡ Failed None WriteFailed)) (sym stays) compared.write_failed;
+    })
+
+-- the flush failed: what was written is the whole line
+unflushed_compared : (profile : Profile) (edition : Edition) (first second : Reader) (taken between holds : Option (List ℕ)) (failed_before failed : Bool)
+    (before after : Outcome) (same : Bool)
+    → (compared : IsCompared profile edition first second (record { taken = taken; holds = between; failed = failed_before }) before)
+    → IsAllOf limit (record { bytes = compared.bytes.first; left = first.left }) × IsAllOf limit (record { bytes = compared.bytes.second; left = second.left })
+    × AreCompared profile edition compared.bytes.first compared.bytes.second same × (compared.bytes.written ≡ same_line same)
+    → ((which : Which) → before ≡ Failed (Some which) ReadFailed → ⊥)
+    → Keeps between holds → failed ≡ true → after ≡ Failed None WriteFailed
+    → IsCompared profile edition first second (record { taken = taken; holds = holds; failed = failed }) after
+unflushed_compared profile edition first second taken between holds failed_before failed before after same compared (whole, other_whole, are, line) no_read keeps fails gave =
+    subst (IsCompared profile edition first second (record { taken = taken; holds = holds; failed = failed })) (sym gave) (record {
+      bytes = record {
+        first = compared.bytes.first;
+        second = compared.bytes.second;
+        written = compared.bytes.written;
+        first_gave = compared.bytes.first_gave;
+        second_gave = compared.bytes.second_gave;
+        took = keeps_appended taken between holds compared.bytes.written compared.bytes.took keeps;
+        means = (refl, whole, other_whole, (same, are, subst (λ w. StartsWith (same_line same) w) (sym line) (take-length (same_line same))));
+      };
+      first_failed = (λ t. absurd (no_read First (compared.first_failed.0 t)), λ e. cc);
+      second_failed = (λ t. absurd (no_read Second (compared.second_failed.0 t)), λ e. cc);
+      write_failed = (λ t. refl, λ e. fails);
+    })
+
+-- two files compared, once the line is flushed
+pub flushed_compared : (profile : Profile) (edition : Edition) (first second : Reader) (taken between holds : Option (List ℕ)) (failed_before failed : Bool)
+    (before after : Outcome)
+    → IsCompared profile edition first second (record { taken = taken; holds = between; failed = failed_before }) before
+    → IsFlushed (record { taken = between; holds = holds; failed = failed }) failed_before before after
+    → IsCompared profile edition first second (record { taken = taken; holds = holds; failed = failed }) after
+flushed_compared profile edition first second taken between holds failed_before failed Done after compared (inl (same, (keeps, stays))) =
+    kept_compared profile edition first second taken between holds failed_before failed Done after compared keeps stays same
+flushed_compared profile edition first second taken between holds failed_before failed Done after compared (inr (gave, (keeps, fails))) =
+    unflushed_compared profile edition first second taken between holds failed_before failed Done after true compared compared.bytes.means
+    (λ which e. cc) keeps fails gave
+flushed_compared profile edition first second taken between holds failed_before failed Different after compared (inl (same, (keeps, stays))) =
+    kept_compared profile edition first second taken between holds failed_before failed Different after compared keeps stays same
+flushed_compared profile edition first second taken between holds failed_before failed Different after compared (inr (gave, (keeps, fails))) =
+    unflushed_compared profile edition first second taken between holds failed_before failed Different after false compared compared.bytes.means
+    (λ which e. cc) keeps fails gave
+flushed_compared profile edition first second taken between holds failed_before failed (Failed which fault) after compared (same, (keeps, stays)) =
+    kept_compared profile edition first second taken between holds failed_before failed (Failed which fault) after compared keeps stays same

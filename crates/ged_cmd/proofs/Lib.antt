@@ -1,0 +1,2 @@
+pub mod ClapLemmas
+pub mod FlushLemmas

@@ -1,0 +1,59 @@
+-- The words that the program understands, as clap is told of them.
+use Rattle.std.specs.Prelude.{◌≡◌, Some, true, false, codes}
+use Rattle.clap.specs.Words.{App, Rule, Text, app_of, rule_of, new_app, new_rule, with_rule, with_subcommand}
+use Rattle.clap.specs.Simple.{on_top}
+use Rattle.clap.specs.declared.builder.arg.Arg.{Arg}
+use Rattle.clap.specs.declared.builder.command.Command.TheViews.{out-Command as fields_of}
+use Rattle.clap.specs.declared.builder.command.Command.{Command}
+use Rattle.clap.specs.declared.builder.action.ArgAction.TheVariants.{SetTrue}
+
+-- a flag `--name`
+abbrev pub flag : Text → Rule
+flag name = record (new_rule name) { long = Some name; action = Some SetTrue }
+
+abbrev pub strict_flag : Rule
+strict_flag = flag (codes "strict")
+
+abbrev pub second_flag : Rule
+second_flag = flag (codes "second")
+
+-- a command over one file, which may be left out
+abbrev pub over_file : Text → App
+over_file name = with_rule (new_app name) (new_rule (codes "FILE"))
+
+abbrev pub lines : App
+lines = over_file (codes "lines")
+
+abbrev pub check : App
+check = with_rule (over_file (codes "check")) strict_flag
+
+abbrev pub show : App
+show = with_rule (over_file (codes "show")) strict_flag
+
+abbrev pub canon : App
+canon = with_rule (with_rule (over_file (codes "canon")) strict_flag) second_flag
+
+-- the first of two files, which may not be left out
+abbrev pub first_file : Rule
+first_file = record (new_rule (codes "A")) { required = true }
+
+-- over two files, of which the second may be left out
+abbrev pub same : App
+same = with_rule (with_rule (with_rule (with_rule (new_app (codes "same")) first_file) (new_rule (codes "B"))) strict_flag) second_flag
+
+-- the program without its commands, of which it needs one
+abbrev pub bare_program : App
+bare_program = on_top (λ top. record top { subcommand_required = true }) (new_app (codes "gedtool"))
+
+-- one of these five commands
+abbrev pub gedtool : App
+gedtool = with_subcommand (with_subcommand (with_subcommand (with_subcommand (with_subcommand bare_program
+    lines.top) check.top) show.top) canon.top) same.top
+
+-- the argument has this rule, and stands for one command alone
+abbrev pub IsArg : Rule → Arg → Type 0
+IsArg rule arg = (rule_of arg ≡ rule) × (arg.global ≡ false)
+
+-- the command, as clap keeps it, is this one
+abbrev pub IsCommand : App → Command → Type 0
+IsCommand app command = (app_of command ≡ app) × ((fields_of command).has_globals ≡ false)

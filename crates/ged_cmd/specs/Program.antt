@@ -1,0 +1,144 @@
+-- What the program does, for the words, the files and the streams that it has.
+use Rattle.std.specs.Prelude.{◌≡◌, ◌≢◌, ◌↔◌, ◌⊎◌, ℕ, List, [], Bool, true, false, IsTrue, Option, Some, None, if◌then◌else◌}
+use Rattle.std.specs.Io.KnownBytes.{Keeps}
+use Rattle.clap.specs.Words.{Text, fault_of}
+use Rattle.clap.specs.Kinds.{IsAmong}
+use Rattle.clap.specs.declared.error.kind.ErrorKind.{ErrorKind}
+use Rattle.clap.specs.declared.error.kind.ErrorKind.TheVariants.{DisplayHelp, DisplayVersion, OutOfMemory}
+use Rattle.ged_tool.specs.declared.Profile.{Profile}
+use Rattle.ged_tool.specs.declared.Edition.{Edition}
+use Rattle.ged_tool.specs.Run.{IsRun}
+use Rattle.ged_tool.specs.SameRun.{IsSameRun}
+use Rattle.ged_tool.specs.Faults.{status_of}
+use Rattle.ged_tool.specs.declared.answers.Command.{Command}
+use Rattle.ged_tool.specs.declared.faults.Which.{Which}
+use Rattle.ged_tool.specs.declared.faults.Which.TheVariants.{First, Second}
+use Rattle.ged_tool.specs.declared.faults.Fault.TheVariants.{ReadFailed, WriteFailed}
+use Rattle.ged_tool.specs.declared.faults.Outcome.{Outcome}
+use Rattle.ged_tool.specs.declared.faults.Outcome.TheVariants.{Done, Different, Failed}
+use Rattle.ged_cmd.specs.CommandLine.{gedtool}
+use Rattle.ged_cmd.specs.Tasks.{Task, asked, run, same}
+
+-- the most bytes that a file may have
+abbrev pub limit : ℕ
+limit = 1073741824
+
+-- what was done with a reader: the bytes to come before and after, where it tells them, and whether it has failed
+pub record Reader : Type 0 where
+  pub to_come : Option (List ℕ)
+  pub left : Option (List ℕ)
+  pub failed : Bool
+
+-- what was done with a writer: the bytes taken before and after, where it tells them, and whether it has failed
+pub record Writer : Type 0 where
+  pub taken : Option (List ℕ)
+  pub holds : Option (List ℕ)
+  pub failed : Bool
+
+module _ {D : Type 0} where
+  -- the reader between two states of a device, by what the device tells
+  abbrev pub reader : (D → Option (List ℕ)) → (D → Bool) → D → D → Reader
+  reader to_come failed old new = record { to_come = to_come old; left = to_come new; failed = failed new }
+
+  -- the writer between two states of a device
+  abbrev pub writer : (D → Option (List ℕ)) → (D → Bool) → D → D → Writer
+  writer taken failed old new = record { taken = taken old; holds = taken new; failed = failed new }
+
+abbrev pub IsUnread : Reader → Type 0
+IsUnread reader = (reader.left ≡ reader.to_come) × (reader.failed ≡ false)
+
+-- the bytes that the writer holds, if it tells them, stay, and so does whether it has failed
+abbrev pub IsKept : Writer → (failed_before : Bool) → Type 0
+IsKept writer failed_before = Keeps writer.taken writer.holds × (writer.failed ≡ failed_before)
+
+abbrev pub IsFlushedTo : Writer → (failed_before : Bool) → (before after : Outcome) → Type 0
+IsFlushedTo writer failed_before before after =
+    ((after ≡ before) × IsKept writer failed_before)
+    ⊎ ((after ≡ Failed None WriteFailed) × IsKept writer true)
+
+abbrev pub IsUnwritten : Writer → Type 0
+IsUnwritten writer = (writer.holds ≡ writer.taken) × (writer.failed ≡ false)
+
+-- The outcome once the answer is flushed. Where there is an answer and the flush fails the writer has failed, and the
+-- outcome is WriteFailed; else both stay. What the writer holds stays.
+abbrev pub IsFlushed : Writer → (failed_before : Bool) → (before after : Outcome) → Type 0
+IsFlushed writer failed_before (Failed which fault) after = (after ≡ Failed which fault) × IsKept writer failed_before
+IsFlushed writer failed_before Done after = IsFlushedTo writer failed_before Done after
+IsFlushed writer failed_before Different after = IsFlushedTo writer failed_before Different after
+
+-- A command over one input, its answer written and flushed. The reader has failed exactly where the outcome says so, and
+-- so has the writer, by a write or by the flush.
+pub record IsAnswered (profile : Profile) (edition : Edition) (command : Command) (reader : Reader) (writer : Writer) (outcome : Outcome) : Type 0 where
+  pub bytes : IsRun profile edition command limit reader.to_come reader.left writer.taken writer.holds outcome
+  pub read_failed : IsTrue reader.failed ↔ (outcome ≡ Failed None ReadFailed)
+  pub write_failed : IsTrue writer.failed ↔ (outcome ≡ Failed None WriteFailed)
+
+-- two files compared, in the same way
+pub record IsCompared (profile : Profile) (edition : Edition) (first second : Reader) (writer : Writer) (outcome : Outcome) : Type 0 where
+  pub bytes : IsSameRun profile edition limit first.to_come first.left second.to_come second.left writer.taken writer.holds outcome
+  pub first_failed : IsTrue first.failed ↔ (outcome ≡ Failed (Some First) ReadFailed)
+  pub second_failed : IsTrue second.failed ↔ (outcome ≡ Failed (Some Second) ReadFailed)
+  pub write_failed : IsTrue writer.failed ↔ (outcome ≡ Failed None WriteFailed)
+
+module _ {D : Type 0} where
+  -- A file that was opened, and what was then done with it. `opens` says which devices the name of a file opens.
+  abbrev pub SomeFile : (opens : D → Type 0) → (to_come : D → Option (List ℕ)) → (failed : D → Bool) → (Reader → Type 0) → Type 0
+  SomeFile opens to_come failed done = (device left : D) × opens device × done (reader to_come failed device left)
+
+-- the file with this name, if it is one of two, can't be opened, and nothing is written
+abbrev pub IsNotOpened : Type 0 → Option Which → Writer → Outcome → Type 0
+IsNotOpened refuses which writer outcome = refuses × IsUnwritten writer × (outcome ≡ Failed which ReadFailed)
+
+module _ {D : Type 0} where
+  -- What the program does for a task, over files that `opens` and `refuses` tell of, and standard input. Both files are
+  -- opened before one is read.
+  abbrev pub IsDone : (opens : Text → D → Type 0) → (refuses : Text → Type 0) → (to_come : D → Option (List ℕ)) → (failed : D → Bool)
+      → Task → (input : Reader) → Writer → Outcome → Type 0
+  IsDone opens refuses to_come failed (run profile edition command None) input writer outcome =
+      IsAnswered profile edition command input writer outcome
+  IsDone opens refuses to_come failed (run profile edition command (Some name)) input writer outcome =
+      IsUnread input × (IsNotOpened (refuses name) None writer outcome
+      ⊎ SomeFile (opens name) to_come failed (λ file. IsAnswered profile edition command file writer outcome))
+  IsDone opens refuses to_come failed (same profile edition first None) input writer outcome =
+      (IsUnread input × IsNotOpened (refuses first) (Some First) writer outcome)
+      ⊎ SomeFile (opens first) to_come failed (λ file. IsCompared profile edition file input writer outcome)
+  IsDone opens refuses to_come failed (same profile edition first (Some second)) input writer outcome =
+      IsUnread input × (IsNotOpened (refuses first) (Some First) writer outcome
+      ⊎ ((device : D) × opens first device × IsNotOpened (refuses second) (Some Second) writer outcome)
+      ⊎ SomeFile (opens first) to_come failed (λ file. SomeFile (opens second) to_come failed (λ other.
+      IsCompared profile edition file other writer outcome)))
+
+-- The status for words that clap refuses: 3 for want of memory, and for help that can't be written, which else is 0; 2 for
+-- a mistake.
+abbrev pub refusal_status : ErrorKind → (write_failed : Bool) → ℕ
+refusal_status OutOfMemory failed = 3
+refusal_status DisplayHelp failed = if failed then 3 else 0
+refusal_status DisplayVersion failed = if failed then 3 else 0
+refusal_status kind failed = 2
+
+-- The words are refused: memory is wanting, or they have one of the faults that clap finds in them. Nothing is read, and
+-- only help is written.
+pub record IsRefused (words : List Text) (input : Reader) (writer : Writer) (status : ℕ) : Type 0 where
+  pub kind : ErrorKind
+  pub found : (kind ≡ OutOfMemory) ⊎ IsAmong kind (fault_of gedtool words)
+  pub unread : IsUnread input
+  pub unwritten : kind ≢ DisplayHelp → kind ≢ DisplayVersion → IsUnwritten writer
+  pub told : status ≡ refusal_status kind writer.failed
+
+module _ {D : Type 0} where
+  -- what the words ask for is done, and the status is the outcome's
+  pub record IsObeyed (opens : Text → D → Type 0) (refuses : Text → Type 0) (to_come : D → Option (List ℕ)) (failed : D → Bool) (words : List Text) (input : Reader) (writer : Writer) (status : ℕ) : Type 0 where
+    pub task : Task
+    pub outcome : Outcome
+    pub faultless : fault_of gedtool words ≡ []
+    pub task_asked : asked words ≡ Some task
+    pub done : IsDone opens refuses to_come failed task input writer outcome
+    pub told : status ≡ status_of outcome
+
+  -- What the program does for the words of its command line. Words without a fault that ask for nothing would be a mistake.
+  abbrev pub Performs : (opens : Text → D → Type 0) → (refuses : Text → Type 0) → (to_come : D → Option (List ℕ)) → (failed : D → Bool)
+      → (words : List Text) → (input : Reader) → Writer → (status : ℕ) → Type 0
+  Performs opens refuses to_come failed words input writer status =
+      IsRefused words input writer status
+      ⊎ IsObeyed opens refuses to_come failed words input writer status
+      ⊎ ((fault_of gedtool words ≡ []) × (asked words ≡ None) × IsUnread input × IsUnwritten writer × (status ≡ 2))

@@ -1,0 +1,120 @@
+// The calls that take no memory, whose answers are the same where every growth is refused.
+ghost use Rattle.ged_link.specs.Indexes.{IsIndexOf};
+
+use crate::growing::{Made, made_fault, text};
+use crate::growths::Marks;
+use ged_canon::{Edition, is_normal_in};
+use ged_line::{LineFault, ParseFault, parse_line};
+use ged_link::Index;
+use ged_schema::check;
+use ged_tool::accept;
+use ged_tree::{Document, Flat, Forest, PayloadView, flatten};
+use ged_value::{Given, Kind, fits};
+use std::alloc::Global;
+use std::io;
+use std::io::Write;
+
+/// A number for many answers, in their order. It takes no memory.
+#[derive(Clone, Copy)]
+struct Digest(u64);
+
+impl Digest {
+    /// Takes in a number.
+    fn add(&mut self, number: u64) {
+        self.0 = (self.0 ^ number).wrapping_mul(0x0100_0000_01B3);
+    }
+
+    /// Takes in a text, and that it ends.
+    fn add_text(&mut self, text: &str) {
+        for byte in text.as_bytes() {
+            self.add(u64::from(*byte));
+        }
+        self.add(256);
+    }
+}
+
+/// The kinds that are asked of each payload.
+const KINDS: [Kind; 8] = [
+    Kind::Nothing,
+    Kind::Text,
+    Kind::EventFlag,
+    Kind::Integer,
+    Kind::Version,
+    Kind::DateValue,
+    Kind::Name,
+    Kind::EnumAny,
+];
+
+fn add_payload(payload: PayloadView<'_>, digest: &mut Digest) {
+    let given = match payload {
+        PayloadView::Void => Given::Void,
+        PayloadView::Pointer(name) => {
+            digest.add_text(name);
+            Given::Pointer
+        }
+        PayloadView::Text(line) => {
+            digest.add_text(line);
+            Given::One(line)
+        }
+    };
+    for kind in KINDS {
+        digest.add(u64::from(fits(kind, given)));
+    }
+}
+
+/// What a forest answers at each of its places.
+fn add_forest<F: Forest>(forest: &F, digest: &mut Digest) {
+    for place in 0..forest.size() {
+        digest.add(u64::from(forest.level(place)));
+        digest.add(forest.after(place) as u64);
+        digest.add(forest.line(place));
+        digest.add_text(forest.tag(place));
+        digest.add_text(forest.xref(place).unwrap_or(""));
+        add_payload(forest.payload(place), digest);
+        digest.add(u64::from(forest.points(place)));
+        digest.add_text(forest.rest_of_line(place).unwrap_or(""));
+        for number in 0..forest.further(place) {
+            digest.add_text(forest.further_line(place, number));
+        }
+        digest.add(forest.further_lines(place).count() as u64);
+    }
+}
+
+/// What takes no memory, of a file and its document.
+fn digest_of(document: &Document, index: &Index, flat: &Flat<'_>) -> u64
+    requires { IsIndexOf document.now index.now }
+{
+    let mut digest = Digest(0xCBF2_9CE4_8422_2325);
+    add_forest(document, &mut digest);
+    add_forest(flat, &mut digest);
+    digest.add(u64::from(check(document, index).is_ok()));
+    digest.add(u64::from(is_normal_in(Edition::First, document, index)));
+    digest.add(u64::from(is_normal_in(Edition::Second, document, index)));
+    digest.0
+}
+
+/// Makes all calls that take no memory on a file.
+pub(crate) fn no_growth<E: Write>(
+    alloc: Global,
+    file: &[u8],
+    marks: &mut Marks<E>,
+) -> io::Result<Made> {
+    let accepted = match accept(alloc, file) {
+        Ok(accepted) => accepted,
+        Err(fault) => return made_fault(alloc, fault),
+    };
+    let Ok(flat) = flatten(alloc, file) else {
+        return text(alloc, b"a fault");
+    };
+    let document = accepted.document(alloc)?;
+    let index = accepted.index();
+    marks.begin()?;
+    let empty = parse_line(alloc, b"");
+    let digest = digest_of(&document, index, &flat);
+    marks.end()?;
+    let Err(ParseFault::Bad(LineFault::EmptyLine)) = empty else {
+        return text(alloc, b"the empty line has another fault");
+    };
+    let told = format!(in alloc; "{digest}")?;
+    text(alloc, told.as_bytes())
+}

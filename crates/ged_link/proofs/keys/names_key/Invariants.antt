@@ -1,0 +1,17 @@
+use Rattle.std.proofs.Common.{◌≡◌, ◌-◌, fold}
+use Rattle.std.specs.Hash.DefaultHasher.{initial}
+use Rattle.ged_tree.specs.Runs.{trees_between, IsRun}
+use Rattle.ged_link.specs.Links.{identifiers}
+use Rattle.ged_link.specs.Keys.{fed_name}
+use Rattle.ged_link.proofs.keys.names_key.Given as goal
+
+abbrev pub invariant-loop-after : goal.invariant-loop-after
+invariant-loop-after g l =
+    let trees = g.F.Forest.trees l.forest in
+    record {
+      run : IsRun trees l.place l.end;
+      fed : fold fed_name l.hasher (identifiers (trees_between trees l.place l.end)) ≡ fold fed_name initial (identifiers (trees_between trees l.start l.end));
+    }
+
+abbrev pub decreases-loop-after : goal.decreases-loop-after
+decreases-loop-after g l = l.end - l.place

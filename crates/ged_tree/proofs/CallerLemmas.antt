@@ -1,0 +1,86 @@
+-- What the proofs of the crates above cite of this crate, and they cite nothing else of its proofs.
+use Rattle.std.specs.Prelude.{◌≡◌, ℕ, ◌+◌, ◌-◌, ◌<◌, ◌≤◌, true}
+use Rattle.ged_tree.specs.Trees.{Structure, Trees, none, tree, trees_count, line_count}
+use Rattle.ged_tree.specs.Places.{trees_from, structure_at, below_at, place_after, line_at}
+use Rattle.ged_tree.specs.Runs.{trees_between, IsRun}
+use Rattle.ged_tree.specs.Documents.{is_document, are_at}
+use Rattle.ged_tree.specs.TreeLaws.{NoneShared, OneFaultInFile, AreLines}
+use Rattle.ged_tree.specs.Building.{FaultyFileHasNone, FileFaultIsBuildFault}
+use Rattle.ged_tree.proofs.BuildLemmas as building
+use Rattle.ged_tree.proofs.FileFaultLaws as file_faults
+use Rattle.ged_tree.proofs.Law as lines
+use Rattle.ged_tree.proofs.LineLemmas as numbers
+use Rattle.ged_tree.proofs.LineTests as tests_of_lines
+use Rattle.ged_tree.proofs.PlaceLemmas as places
+use Rattle.ged_tree.proofs.Shown as shown_lines
+
+-- ---- the trees from a place on
+
+pub from_first : (s : Structure) (below next : Trees) (place : ℕ) → place ≡ 0 → trees_from (tree s below next) place ≡ tree s below next
+from_first = places.from_first
+
+pub from_below : (s : Structure) (below next : Trees) (place : ℕ) → 0 < place → place ≤ trees_count below
+    → trees_from (tree s below next) place ≡ trees_from below (place - 1)
+from_below = places.from_below
+
+pub from_next : (s : Structure) (below next : Trees) (place : ℕ) → trees_count below < place
+    → trees_from (tree s below next) place ≡ trees_from next (place - 1 - trees_count below)
+from_next = places.from_next
+
+-- ---- runs of places
+
+-- what stands below a structure is a run of its own
+pub below_run : (d : Trees) (place : ℕ) → place < trees_count d → trees_between d (place + 1) (place_after d place) ≡ below_at d place
+below_run = places.below_run
+
+pub run_below : (d : Trees) (place : ℕ) → place < trees_count d → IsRun d (place + 1) (place_after d place)
+run_below = places.run_below
+
+-- a run lies within the document
+pub run_within : (d : Trees) (start end : ℕ) → IsRun d start end → start < end → start < trees_count d
+run_within = places.run_within
+
+-- it is its first structure, the run below it, and the run of the others
+pub run_unfolds : (d : Trees) (start end : ℕ) → IsRun d start end → start < end
+    → trees_between d start end ≡ tree (structure_at d start) (trees_between d (start + 1) (place_after d start)) (trees_between d (place_after d start) end)
+run_unfolds = places.run_unfolds
+
+pub run_next : (d : Trees) (start end : ℕ) → IsRun d start end → start < end → IsRun d (place_after d start) end
+run_next = places.run_next
+
+-- at its end it has no tree
+pub run_ends : (d : Trees) (start end : ℕ) → end ≤ start → trees_between d start end ≡ none
+run_ends = places.run_ends
+
+-- all the trees are a run
+pub whole_is : (d : Trees) → trees_between d 0 (trees_count d) ≡ d
+whole_is = places.whole_is
+
+pub run_whole : (d : Trees) → IsRun d 0 (trees_count d)
+run_whole = places.run_whole
+
+-- ---- documents and files
+
+-- the trees of a document may stand where they do
+pub at_of_document : (d : Trees) → is_document d ≡ true → are_at 0 d ≡ true
+at_of_document = tests_of_lines.at_of_document
+
+-- the line of a place follows from that of the place before it
+pub next_line : (d : Trees) (place : ℕ) → place < trees_count d → line_at 1 d (place + 1) ≡ line_at 1 d place + line_count (structure_at d place).payload
+next_line = numbers.next_line 1
+
+-- laws, as the functions of these names in src/ state them
+pub are_lines : AreLines
+are_lines = shown_lines.shown
+
+pub none_shared : NoneShared
+none_shared = lines.one_document
+
+pub one_fault_in_file : OneFaultInFile
+one_fault_in_file = file_faults.one_in_file
+
+pub faulty_file_has_none : FaultyFileHasNone
+faulty_file_has_none = building.none_of_file
+
+pub file_fault_is_build_fault : FileFaultIsBuildFault
+file_fault_is_build_fault = building.file_fault
