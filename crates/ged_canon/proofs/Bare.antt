@@ -10,7 +10,7 @@ use Rattle.ged_schema.specs.declared.context.Context.{Context}
 use Rattle.ged_schema.specs.declared.context.Context.TheVariants.{File}
 use Rattle.ged_schema.specs.Tables.{context_below}
 use Rattle.ged_canon.specs.declared.edition.Edition.{Edition}
-use Rattle.ged_canon.specs.Working.{falls, put, used_trees, brief_structure, sorted, sorted_document}
+use Rattle.ged_canon.specs.inner.Working.{falls, put, used_trees, brief_structure, sorted, sorted_document}
 use Rattle.std.specs.Prelude.{⊤, nat_le, not, codes, bytes_eq}
 use Rattle.ged_canon.proofs.Heads.{parts}
 use Rattle.ged_canon.proofs.Fixed.{with_others}

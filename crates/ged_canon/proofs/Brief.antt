@@ -10,8 +10,8 @@ use Rattle.std.proofs.lemmas.List.{map-append}
 use Rattle.std.proofs.lemmas.List.Elements.{filter-append}
 use Rattle.std.proofs.lemmas.List.Splits.{join_with_byte-slice_split}
 use Rattle.ged_line.specs.Bytes.{Bytes}
-use Rattle.ged_tree.specs.declared.payload.Payload.{Payload}
-use Rattle.ged_tree.specs.declared.payload.Payload.TheVariants.{Void, Pointer, Text}
+use Rattle.ged_tree.specs.declared.owned.payload.Payload.{Payload}
+use Rattle.ged_tree.specs.declared.owned.payload.Payload.TheVariants.{Void, Pointer, Text}
 use Rattle.ged_value.specs.declared.kind.Kind.{Kind}
 use Rattle.ged_value.specs.declared.kind.Kind.TheVariants.{DateValue, DatePeriod}
 use Rattle.ged_value.specs.Words.{words_of, joined}
@@ -25,7 +25,7 @@ use Rattle.ged_canon.specs.declared.edition.Edition.{Edition}
 use Rattle.ged_canon.specs.declared.edition.Edition.TheVariants.{First, Second}
 use Rattle.ged_canon.specs.Steps.{has_calendar, is_dated, is_numeric, Shortened, LeavesZero, calendar, leading_zero, Respelt, respelt, Chain, done, then}
 use Rattle.ged_canon.specs.Normal.{IsBrief, IsBriefPayload}
-use Rattle.ged_canon.specs.Working.{kept_words, is_second, trimmed_words, brief_words, brief_line, brief}
+use Rattle.ged_canon.specs.inner.Working.{kept_words, is_second, trimmed_words, brief_words, brief_line, brief}
 use Rattle.ged_canon.proofs.Texts.{same_bytes, equal_bytes}
 use Rattle.ged_canon.proofs.Chains.{both, under}
 

@@ -12,7 +12,7 @@ use Rattle.ged_schema.specs.Rows.{Row}
 use Rattle.ged_canon.specs.declared.edition.Edition.{Edition}
 use Rattle.ged_canon.specs.Steps.{is_dated, is_numeric}
 use Rattle.ged_canon.specs.Normal.{IsBrief}
-use Rattle.ged_canon.specs.Working.{is_second, is_brief_word}
+use Rattle.ged_canon.specs.inner.Working.{is_second, is_brief_word}
 use Rattle.ged_canon.proofs.Texts.{same_bytes, equal_bytes, other_bytes}
 use Rattle.ged_canon.proofs.Brief.{trims, trims_from, second_is, trim_same, trimmed_none}
 

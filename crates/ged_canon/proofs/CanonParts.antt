@@ -7,14 +7,14 @@ use Rattle.ged_line.specs.Bytes.{Bytes}
 use Rattle.ged_tree.specs.Trees.{Trees, none, tree, Tree, structure_of, records_of}
 use Rattle.ged_tree.specs.Documents.{is_document}
 use Rattle.ged_tree.specs.Records.{record_trees, document_trees}
-use Rattle.ged_tree.specs.declared.node.RecordNode.{RecordNode}
+use Rattle.ged_tree.specs.declared.owned.node.RecordNode.{RecordNode}
 use Rattle.ged_link.specs.declared.index.Index.{Index}
 use Rattle.ged_link.specs.Indexes.{IsIndexOf}
 use Rattle.ged_link.specs.Links.{IsAmong, AreDistinct, with_xref, xrefs, Resolved}
 use Rattle.ged_canon.specs.declared.edition.Edition.{Edition}
 use Rattle.ged_schema.specs.Checked.{Checked}
 use Rattle.ged_canon.specs.Steps.{renamed}
-use Rattle.ged_canon.specs.Working.{used_document, sorted_document, number_of, AreNumbersOf, IsNumbering, renamed_tree, canon}
+use Rattle.ged_canon.specs.inner.Working.{used_document, sorted_document, number_of, AreNumbersOf, IsNumbering, renamed_tree, canon}
 use Rattle.ged_canon.proofs.Heads.{parts}
 use Rattle.ged_canon.proofs.Used.{sorted_xrefs, used_xrefs}
 use Rattle.ged_canon.proofs.Normality.{canon_reached, ends_in_document}

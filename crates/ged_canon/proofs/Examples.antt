@@ -3,15 +3,15 @@ use Rattle.std.proofs.Common.{◌≡◌, Bool, true, false, [], ◌∷◌, Optio
 use Rattle.std.specs.Str.{bytes_eq, is_utf8, chars}
 use Rattle.std.proofs.lemmas.Bool.{true≢false}
 use Rattle.ged_line.specs.Bytes.{Bytes}
-use Rattle.ged_tree.specs.declared.payload.Payload.{Payload}
-use Rattle.ged_tree.specs.declared.payload.Payload.TheVariants.{Pointer, Text}
+use Rattle.ged_tree.specs.declared.owned.payload.Payload.{Payload}
+use Rattle.ged_tree.specs.declared.owned.payload.Payload.TheVariants.{Pointer, Text}
 use Rattle.ged_tree.specs.Trees.{Trees, none, tree, records_of}
 use Rattle.ged_tree.specs.Documents.{is_document}
 use Rattle.ged_link.specs.Notices.{OneWay}
 use Rattle.ged_schema.specs.Tables.{row, rows}
 use Rattle.ged_canon.specs.declared.edition.Edition.TheVariants.{First, Second}
 use Rattle.ged_canon.specs.Steps.{Equivalent}
-use Rattle.ged_canon.specs.Working.{canon, falls}
+use Rattle.ged_canon.specs.inner.Working.{canon, falls}
 use Rattle.ged_canon.proofs.Unique.{canon_equivalent}
 
 abbrev empty : Payload

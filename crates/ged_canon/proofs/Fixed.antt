@@ -3,8 +3,8 @@ use Rattle.std.proofs.Common.{◌≡◌, ℕ, ◌+◌, Bool, true, false, ◌||�
 use Rattle.std.specs.Prelude.{bytes_eq}
 use Rattle.std.proofs.lemmas.Bool.{or_left, or_right}
 use Rattle.ged_line.specs.Bytes.{Bytes}
-use Rattle.ged_tree.specs.declared.payload.Payload.{Payload}
-use Rattle.ged_tree.specs.declared.payload.Payload.TheVariants.{Void, Pointer, Text}
+use Rattle.ged_tree.specs.declared.owned.payload.Payload.{Payload}
+use Rattle.ged_tree.specs.declared.owned.payload.Payload.TheVariants.{Void, Pointer, Text}
 use Rattle.ged_tree.specs.Trees.{Trees, none, tree}
 use Rattle.ged_link.specs.Links.{IsAmong, with_xref, xrefs, Names, IsNamed}
 use Rattle.ged_schema.specs.declared.context.Context.{Context}
@@ -13,7 +13,7 @@ use Rattle.ged_schema.specs.Tables.{row, context_below}
 use Rattle.ged_canon.specs.declared.edition.Edition.{Edition}
 use Rattle.ged_canon.specs.Steps.{renamed_xref, renamed_payload, renamed, with_payload}
 use Rattle.ged_canon.specs.Normal.{InOrder, tags, AreNormal, AreNumbered, Normal}
-use Rattle.ged_canon.specs.Working.{names, is_named, used_xref, used_trees, used_document, brief_structure, sorted, sorted_document, number_of, numbered_document, canon}
+use Rattle.ged_canon.specs.inner.Working.{names, is_named, used_xref, used_trees, used_document, brief_structure, sorted, sorted_document, number_of, numbered_document, canon}
 use Rattle.ged_canon.proofs.Texts.{same_bytes, equal_bytes}
 use Rattle.ged_canon.proofs.Sorting.{put_first}
 use Rattle.ged_canon.proofs.Brief.{brief_payload_same}

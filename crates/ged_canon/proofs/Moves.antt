@@ -1,8 +1,8 @@
 -- What a change at one place leaves as it is.
 use Rattle.std.proofs.Common.{◌≡◌, Bool, true, false, ◌||◌, [], ◌∷◌, Option, refl, sym, ap, ◌∙◌}
 use Rattle.ged_line.specs.Bytes.{Bytes}
-use Rattle.ged_tree.specs.declared.payload.Payload.{Payload}
-use Rattle.ged_tree.specs.declared.payload.Payload.TheVariants.{Text}
+use Rattle.ged_tree.specs.declared.owned.payload.Payload.{Payload}
+use Rattle.ged_tree.specs.declared.owned.payload.Payload.TheVariants.{Text}
 use Rattle.ged_tree.specs.Trees.{Trees, tree}
 use Rattle.ged_tree.specs.Documents.{is_document}
 use Rattle.ged_schema.specs.declared.context.Context.{Context}
@@ -11,7 +11,7 @@ use Rattle.ged_schema.specs.Rows.{Row}
 use Rattle.ged_schema.specs.Tables.{row, context_below}
 use Rattle.ged_canon.specs.declared.edition.Edition.{Edition}
 use Rattle.ged_canon.specs.Steps.{Respelt, respelt, with_payload, Change, exchange, leave_out, put_in, Somewhere, here, under, later}
-use Rattle.ged_canon.specs.Working.{put, brief, brief_structure, names, is_named, used_structure, used_trees, sorted, sorted_document, numbered_document, canon}
+use Rattle.ged_canon.specs.inner.Working.{put, brief, brief_structure, names, is_named, used_structure, used_trees, sorted, sorted_document, numbered_document, canon}
 use Rattle.ged_canon.proofs.Sorting.{put-put}
 use Rattle.ged_canon.proofs.Brief.{brief_alike}
 use Rattle.ged_canon.proofs.Heads.{head_tag}

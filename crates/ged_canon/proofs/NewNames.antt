@@ -4,11 +4,11 @@ use Rattle.std.specs.Prelude.{bytes_eq}
 use Rattle.ged_line.specs.Bytes.{Bytes}
 use Rattle.ged_tree.specs.Trees.{Tree, tree, structure_of, trees_of}
 use Rattle.ged_tree.specs.Records.{record_trees}
-use Rattle.ged_tree.specs.declared.node.RecordNode.{RecordNode}
+use Rattle.ged_tree.specs.declared.owned.node.RecordNode.{RecordNode}
 use Rattle.ged_link.specs.Links.{IsAmong}
 use Rattle.ged_canon.specs.Normal.{numbered}
 use Rattle.ged_canon.specs.Steps.{renamed_xref, renamed}
-use Rattle.ged_canon.specs.Working.{number_among, number_of, renamed_tree, renamed_record}
+use Rattle.ged_canon.specs.inner.Working.{number_among, number_of, renamed_tree, renamed_record}
 use Rattle.ged_canon.proofs.Texts.{other_bytes}
 
 pub unnumbered : (name : Bytes) (n : ℕ) (names : List Bytes) → (IsAmong name names → ⊥) → number_among n names name ≡ 0

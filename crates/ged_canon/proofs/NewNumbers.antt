@@ -8,9 +8,9 @@ use Rattle.std.proofs.lemmas.List.{take-append-drop, take_more}
 use Rattle.ged_line.specs.Bytes.{Bytes}
 use Rattle.ged_tree.specs.Trees.{Trees, none, tree}
 use Rattle.ged_tree.specs.Records.{record_trees}
-use Rattle.ged_tree.specs.declared.node.RecordNode.{RecordNode}
+use Rattle.ged_tree.specs.declared.owned.node.RecordNode.{RecordNode}
 use Rattle.ged_link.specs.Links.{IsAmong, AreDistinct, with_xref, xrefs, identifiers, IsRecordNumber}
-use Rattle.ged_canon.specs.Working.{number_among}
+use Rattle.ged_canon.specs.inner.Working.{number_among}
 use Rattle.ged_canon.proofs.Texts.{same_bytes, other_bytes}
 
 same_or_not : (k n : ℕ) → (k ≡ n) ⊎ (k ≢ n)

@@ -3,8 +3,8 @@ use Rattle.std.proofs.Common.{◌≡◌, ◌≢◌, ℕ, ◌+◌, Bool, true, fa
 use Rattle.std.specs.declared.cmp.Ordering.TheVariants.{Greater}
 use Rattle.ged_line.specs.Bytes.{Bytes}
 use Rattle.ged_line.specs.Names.{tag_order}
-use Rattle.ged_tree.specs.declared.payload.Payload.{Payload}
-use Rattle.ged_tree.specs.declared.payload.Payload.TheVariants.{Void, Pointer, Text}
+use Rattle.ged_tree.specs.declared.owned.payload.Payload.{Payload}
+use Rattle.ged_tree.specs.declared.owned.payload.Payload.TheVariants.{Void, Pointer, Text}
 use Rattle.ged_tree.specs.Trees.{Structure, Trees, none, tree, records_of}
 use Rattle.ged_tree.specs.Documents.{is_document}
 use Rattle.ged_link.specs.Links.{IsAmong, AreDistinct, xrefs, Names, IsNamed, Resolved}
@@ -16,7 +16,7 @@ use Rattle.ged_schema.specs.Checked.{AreChecked, Checked}
 use Rattle.ged_canon.specs.declared.edition.Edition.{Edition}
 use Rattle.ged_canon.specs.Steps.{Equivalent, done, then, renamed_payload, renamed}
 use Rattle.ged_canon.specs.Normal.{InOrder, tags, IsBriefPayload, AreNormal, numbered, AreNumbered, Normal, IsNormalForm}
-use Rattle.ged_canon.specs.Working.{falls, put, is_named, used_trees, used_document, brief_structure, sorted, sorted_document, number_of, canon}
+use Rattle.ged_canon.specs.inner.Working.{falls, put, is_named, used_trees, used_document, brief_structure, sorted, sorted_document, number_of, canon}
 use Rattle.ged_canon.proofs.Texts.{same_bytes, other_bytes}
 use Rattle.ged_canon.proofs.Sorting.{not_greater, after_falling}
 use Rattle.ged_canon.proofs.Used.{is_named-from, document_names_sorted, sorted_xrefs, used_xrefs, names_used}

@@ -12,7 +12,7 @@ use Rattle.ged_link.specs.Links.{IsAmong, with_xref, xrefs, IsNamed, identifiers
 use Rattle.ged_schema.specs.declared.context.Context.TheVariants.{File}
 use Rattle.ged_canon.specs.declared.edition.Edition.{Edition}
 use Rattle.ged_canon.specs.Normal.{InOrder, tags, AreNormal, AreNumbered, numbered, Normal}
-use Rattle.ged_canon.specs.Working.{HasOwnNumber, HaveOwnNumbers, xref_count}
+use Rattle.ged_canon.specs.inner.Working.{HasOwnNumber, HaveOwnNumbers, xref_count}
 use Rattle.ged_canon.proofs.Texts.{same_bytes, equal_bytes}
 use Rattle.ged_canon.proofs.Heads.{parts}
 

@@ -8,8 +8,8 @@ use Rattle.std.proofs.lemmas.Bool.{true≢false, false≢true, and_parts, and_fr
 use Rattle.ged_line.specs.Bytes.{Bytes}
 use Rattle.ged_line.specs.Characters.{is_capital, is_digit, is_tag_character}
 use Rattle.ged_line.specs.Names.{is_tag, is_xref}
-use Rattle.ged_tree.specs.declared.payload.Payload.{Payload}
-use Rattle.ged_tree.specs.declared.payload.Payload.TheVariants.{Void, Pointer, Text}
+use Rattle.ged_tree.specs.declared.owned.payload.Payload.{Payload}
+use Rattle.ged_tree.specs.declared.owned.payload.Payload.TheVariants.{Void, Pointer, Text}
 use Rattle.ged_tree.specs.Trees.{Structure, Trees, none, tree, line_count, lines_count}
 use Rattle.ged_tree.specs.Documents.{is_document, is_head, is_record_tag, are_records, are_at, is_structure_at, is_xref_at, is_payload_at}
 use Rattle.ged_link.specs.Links.{SomeTree, IsAmong, AreDistinct, with_xref, xrefs, Names, Resolved}
@@ -19,7 +19,7 @@ use Rattle.ged_schema.specs.Tables.{context_below}
 use Rattle.ged_canon.specs.declared.edition.Edition.{Edition}
 use Rattle.ged_canon.specs.Steps.{Step, rename, lose, Chain, done, then, new_name, olds, news, Renamed, renamed_xref, renamed_payload, renamed_structure, renamed, with_identifier, Gains, gains, after}
 use Rattle.ged_canon.specs.Normal.{numbered}
-use Rattle.ged_canon.specs.Working.{falls, put, is_named, used_xref, used_structure, used_trees, used_document, brief_structure, sorted, sorted_document, number_of, numbered_document}
+use Rattle.ged_canon.specs.inner.Working.{falls, put, is_named, used_xref, used_structure, used_trees, used_document, brief_structure, sorted, sorted_document, number_of, numbered_document}
 use Rattle.ged_canon.proofs.Texts.{same_bytes, equal_bytes}
 use Rattle.ged_canon.proofs.Fixed.{is_named-true, with_others}
 use Rattle.ged_canon.proofs.Heads.{parts}

@@ -1,11 +1,11 @@
 -- Trees that are made one by one, and then put in order.
 use Rattle.std.proofs.Common.{◌≡◌, List, [], ◌∷◌, map, None, refl, ap, ◌∙◌}
-use Rattle.ged_tree.specs.declared.payload.Payload.{Payload}
-use Rattle.ged_tree.specs.declared.payload.Payload.TheVariants.{Void, Pointer, Text}
+use Rattle.ged_tree.specs.declared.owned.payload.Payload.{Payload}
+use Rattle.ged_tree.specs.declared.owned.payload.Payload.TheVariants.{Void, Pointer, Text}
 use Rattle.ged_tree.specs.Trees.{tree, Tree, structure_of, trees_of}
 use Rattle.ged_schema.specs.declared.context.Context.{Context}
 use Rattle.ged_canon.specs.declared.edition.Edition.{Edition}
-use Rattle.ged_canon.specs.Working.{brief, grouped, sorted, each_sorted, placed}
+use Rattle.ged_canon.specs.inner.Working.{brief, grouped, sorted, each_sorted, placed}
 use Rattle.ged_canon.proofs.Brief.{brief_payload_same, brief_anyway}
 use Rattle.ged_canon.proofs.StableSort.{grouped_is_sorted}
 

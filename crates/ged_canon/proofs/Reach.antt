@@ -1,6 +1,6 @@
 -- A checked document becomes its sorted document by steps.
 use Rattle.std.proofs.Common.{◌≡◌, Bool, true, false, cond, Option, Some, None, refl, sym, ◌∙◌}
-use Rattle.ged_tree.specs.declared.payload.Payload.{Payload}
+use Rattle.ged_tree.specs.declared.owned.payload.Payload.{Payload}
 use Rattle.ged_tree.specs.Trees.{Structure, Trees, none, tree}
 use Rattle.ged_tree.specs.Documents.{is_document}
 use Rattle.ged_schema.specs.declared.context.Context.{Context}
@@ -11,7 +11,7 @@ use Rattle.ged_schema.specs.Payloads.{Fits}
 use Rattle.ged_schema.specs.Checked.{MeetsRow, AreChecked}
 use Rattle.ged_canon.specs.declared.edition.Edition.{Edition}
 use Rattle.ged_canon.specs.Steps.{Respelt, with_payload, Change, exchange, leave_out, Somewhere, here, under, later, change, Step, Chain, done, then}
-use Rattle.ged_canon.specs.Working.{falls, put, brief_structure, sorted, sorted_document}
+use Rattle.ged_canon.specs.inner.Working.{falls, put, brief_structure, sorted, sorted_document}
 use Rattle.ged_canon.proofs.Sorting.{falls_itself}
 use Rattle.ged_canon.proofs.Chains.{both}
 use Rattle.ged_canon.proofs.Chains as chains

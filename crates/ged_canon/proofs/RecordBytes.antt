@@ -10,7 +10,7 @@ use Rattle.ged_tree.specs.Documents.{is_document, is_structure_at, are_at}
 use Rattle.ged_tree.specs.DocumentLines.{structure_lines, lines_of, trailer_line}
 use Rattle.ged_tree.specs.Places.{structure_at, below_at}
 use Rattle.ged_tree.specs.Runs.{trees_between, IsRun, IsStep}
-use Rattle.ged_tree.specs.Walks.{HasLinesAt}
+use Rattle.ged_tree.specs.inner.Walks.{HasLinesAt}
 use Rattle.ged_tree.proofs.CallerLemmas.{at_of_document}
 use Rattle.ged_link.specs.Links.{IsAmong, with_xref, xrefs, Resolved}
 use Rattle.ged_schema.specs.declared.context.Context.{Context}
@@ -18,14 +18,14 @@ use Rattle.ged_schema.specs.declared.context.Context.TheVariants.{File}
 use Rattle.ged_schema.specs.Tables.{row, context_below}
 use Rattle.ged_schema.specs.Checked.{Checked}
 use Rattle.ged_canon.specs.declared.edition.Edition.{Edition}
-use Rattle.ged_canon.specs.declared.siblings.Sibling.{Sibling}
+use Rattle.ged_canon.specs.declared.writer.siblings.Sibling.{Sibling}
 use Rattle.ged_canon.specs.Steps.{renamed_xref, renamed_structure, renamed}
 use Rattle.ged_canon.specs.Normal.{numbered, IsNormalForm}
 use Rattle.ged_canon.specs.CanonText.{CanonText}
-use Rattle.ged_canon.specs.Working.{is_named, used_xref, used_structure, used_trees, used_document, brief_structure, sorted, sorted_document, number_among, number_of, canon}
-use Rattle.ged_canon.specs.Siblings.{sibling_structure, sibling_trees, sibling_names}
-use Rattle.ged_canon.specs.Writing.{brief_sibling, renamed_sibling}
-use Rattle.ged_canon.specs.CanonBytes.{AreNamed, number_at, numbered_siblings, spelled_siblings}
+use Rattle.ged_canon.specs.inner.Working.{is_named, used_xref, used_structure, used_trees, used_document, brief_structure, sorted, sorted_document, number_among, number_of, canon}
+use Rattle.ged_canon.specs.inner.Siblings.{sibling_structure, sibling_trees, sibling_names}
+use Rattle.ged_canon.specs.inner.Writing.{brief_sibling, renamed_sibling}
+use Rattle.ged_canon.specs.inner.CanonBytes.{AreNamed, number_at, numbered_siblings, spelled_siblings}
 use Rattle.ged_canon.proofs.Texts.{same_bytes, equal_bytes}
 use Rattle.ged_canon.proofs.Fixed.{canon_same}
 use Rattle.ged_canon.proofs.Unique.{canon_equivalent}

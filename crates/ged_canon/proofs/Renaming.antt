@@ -3,8 +3,8 @@ use Rattle.std.proofs.Common.{◌≡◌, ℕ, ◌+◌, Bool, true, false, cond, 
 use Rattle.std.specs.Prelude.{bytes_eq}
 use Rattle.std.proofs.lemmas.Bool.{true≢false, cases_Bool}
 use Rattle.ged_line.specs.Bytes.{Bytes}
-use Rattle.ged_tree.specs.declared.payload.Payload.{Payload}
-use Rattle.ged_tree.specs.declared.payload.Payload.TheVariants.{Void, Pointer, Text}
+use Rattle.ged_tree.specs.declared.owned.payload.Payload.{Payload}
+use Rattle.ged_tree.specs.declared.owned.payload.Payload.TheVariants.{Void, Pointer, Text}
 use Rattle.ged_tree.specs.Trees.{Structure, Trees, none, tree}
 use Rattle.ged_tree.specs.Documents.{is_document}
 use Rattle.ged_link.specs.Links.{IsAmong, AreDistinct, with_xref, xrefs, Names, IsNamed}
@@ -14,7 +14,7 @@ use Rattle.ged_schema.specs.Rows.{Row}
 use Rattle.ged_schema.specs.Tables.{row, context_below}
 use Rattle.ged_canon.specs.declared.edition.Edition.{Edition}
 use Rattle.ged_canon.specs.Steps.{new_name, renamed_xref, renamed_payload, renamed_structure, renamed, olds, news, Renamed, Gains, gains, after, GainsName}
-use Rattle.ged_canon.specs.Working.{put, names, is_named, used_xref, used_structure, used_trees, used_document, brief, brief_structure, sorted, sorted_document, number_of, numbered_document, canon}
+use Rattle.ged_canon.specs.inner.Working.{put, names, is_named, used_xref, used_structure, used_trees, used_document, brief, brief_structure, sorted, sorted_document, number_of, numbered_document, canon}
 use Rattle.ged_canon.proofs.Texts.{same_bytes, equal_bytes, other_bytes}
 use Rattle.ged_canon.proofs.Sorting.{put_renamed}
 use Rattle.ged_canon.proofs.Fixed.{is_named-true, with_others}

@@ -6,9 +6,9 @@ use Rattle.ged_tree.specs.Trees.{Trees, records_of}
 use Rattle.ged_tree.specs.Documents.{is_document}
 use Rattle.ged_tree.specs.Places.{structure_at}
 use Rattle.ged_link.specs.Links.{IsAmong, AreDistinct, with_xref, IsRecordNumber, Resolved}
-use Rattle.ged_canon.specs.declared.siblings.Sibling.{Sibling}
-use Rattle.ged_canon.specs.Siblings.{sibling_names}
-use Rattle.ged_canon.specs.Working.{is_named, used_xref}
+use Rattle.ged_canon.specs.declared.writer.siblings.Sibling.{Sibling}
+use Rattle.ged_canon.specs.inner.Siblings.{sibling_names}
+use Rattle.ged_canon.specs.inner.Working.{is_named, used_xref}
 use Rattle.ged_canon.proofs.NewNumbers.{among_front, among_back, distinct_front, distinct_apart, numbered_among}
 use Rattle.ged_canon.proofs.Used.{unused}
 use Rattle.ged_canon.proofs.CanonParts.{document_xrefs}

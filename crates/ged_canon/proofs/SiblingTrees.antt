@@ -12,9 +12,9 @@ use Rattle.ged_tree.proofs.CallerLemmas.{run_unfolds, below_run}
 use Rattle.ged_schema.specs.declared.context.Context.{Context}
 use Rattle.ged_schema.specs.Tables.{context_below}
 use Rattle.ged_canon.specs.declared.edition.Edition.{Edition}
-use Rattle.ged_canon.specs.declared.siblings.Sibling.{Sibling}
-use Rattle.ged_canon.specs.Working.{used_structure, used_trees, brief_structure, sorted, each_sorted}
-use Rattle.ged_canon.specs.Siblings.{sibling_structure, sibling_trees}
+use Rattle.ged_canon.specs.declared.writer.siblings.Sibling.{Sibling}
+use Rattle.ged_canon.specs.inner.Working.{used_structure, used_trees, brief_structure, sorted, each_sorted}
+use Rattle.ged_canon.specs.inner.Siblings.{sibling_structure, sibling_trees}
 use Rattle.ged_canon.proofs.StableSort.{AreListed}
 
 same_below : (s : Structure) (b n c m : Trees) → tree s b n ≡ tree s c m → b ≡ c

@@ -2,7 +2,7 @@
 use Rattle.std.proofs.Common.{◌≡◌, ℕ, ◌-◌, ◌≤◌, List, [], ◌∷◌, ◌++◌, length, take, drop, sym, ap, ◌∙◌, append-nil, arith, length-append, length-drop}
 use Rattle.std.proofs.lemmas.List.{length-take, length-take-le, length_push, take-append-le, drop-append-le, take-append-drop, take_all, drop_all, drop_at}
 use borrow.Rule.Slice.PartMut.{post_of, put_mid}
-use Rattle.ged_canon.specs.declared.siblings.Sibling.{Sibling}
+use Rattle.ged_canon.specs.declared.writer.siblings.Sibling.{Sibling}
 
 -- one more behind those that stand at the start
 module _ (start now next : List Sibling) (last : Sibling) (long : length start ≤ length now) (is : next ≡ now ++ last ∷ []) where

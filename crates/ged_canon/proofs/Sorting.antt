@@ -15,7 +15,7 @@ use Rattle.ged_line.specs.Names.{tag_order}
 use Rattle.ged_tree.specs.Trees.{Structure, Trees, none, tree}
 use Rattle.ged_canon.specs.Steps.{renamed_structure, renamed}
 use Rattle.ged_canon.specs.Normal.{InOrder, tags}
-use Rattle.ged_canon.specs.Working.{falls, put}
+use Rattle.ged_canon.specs.inner.Working.{falls, put}
 
 abbrev gedc : Bytes
 gedc = codes "GEDC"
@@ -49,7 +49,7 @@ equal_tags a b h = exact_bytes a b (second (on rank nat_cmp a b) (slice_cmp nat_
 
 -- of two different tags one falls to the other, and not both ways
 pub one_way : (a b : Bytes) → a ≢ b → ((falls a b ≡ true) × (falls b a ≡ false)) ⊎ ((falls a b ≡ false) × (falls b a ≡ true))
-unfolding Rattle.ged_canon.specs.Working.falls
+unfolding Rattle.ged_canon.specs.inner.Working.falls
 one_way a b ne = by (tag_order a b) refl
   where
     by : (o : Ordering) → tag_order a b ≡ o → ((is_gt (tag_order a b) ≡ true) × (is_gt (tag_order b a) ≡ false)) ⊎ ((is_gt (tag_order a b) ≡ false) × (is_gt (tag_order b a) ≡ true))
@@ -58,16 +58,16 @@ one_way a b ne = by (tag_order a b) refl
     by Greater e = inl (ap is_gt e, ap is_gt (tags_total.antisymm b a ∙ ap ordering_reverse e))
 
 pub between : (a b x : Bytes) → falls a x ≡ true → falls b x ≡ false → falls a b ≡ true
-unfolding Rattle.ged_canon.specs.Working.falls
+unfolding Rattle.ged_canon.specs.inner.Working.falls
 between a b x p q = true_from_ne_false (is_gt (tag_order a b)) (λ h. true≢false (sym p ∙ upto tags_total a b x h q))
 
 -- a tag doesn't fall to itself
 pub falls_itself : (a b : Bytes) → falls a b ≡ true → a ≢ b
-unfolding Rattle.ged_canon.specs.Working.falls
+unfolding Rattle.ged_canon.specs.inner.Working.falls
 falls_itself a b h e = true≢false (sym h ∙ ap (λ t. is_gt (tag_order a t)) (sym e) ∙ ap is_gt (tied_itself tags_total a))
 
 pub not_falling : (a b : Bytes) → (tag_order a b ≢ Greater) → falls a b ≡ false
-unfolding Rattle.ged_canon.specs.Working.falls
+unfolding Rattle.ged_canon.specs.inner.Working.falls
 not_falling a b h = by (tag_order a b) refl
   where
     by : (o : Ordering) → tag_order a b ≡ o → is_gt (tag_order a b) ≡ false
@@ -76,7 +76,7 @@ not_falling a b h = by (tag_order a b) refl
     by Greater e = absurd (h e)
 
 pub not_greater : (a b : Bytes) → falls a b ≡ false → tag_order a b ≢ Greater
-unfolding Rattle.ged_canon.specs.Working.falls
+unfolding Rattle.ged_canon.specs.inner.Working.falls
 not_greater a b e g = true≢false (sym (ap is_gt g) ∙ e)
 
 pub after_falling : (a b : Bytes) → falls a b ≡ true → tag_order b a ≢ Greater

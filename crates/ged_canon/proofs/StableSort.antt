@@ -14,8 +14,8 @@ use Rattle.ged_schema.specs.declared.context.Context.{Context}
 use Rattle.ged_schema.specs.Tables.{context_below}
 use Rattle.ged_canon.specs.declared.edition.Edition.{Edition}
 use Rattle.ged_canon.specs.Normal.{InOrder}
-use Rattle.ged_canon.specs.Working.{falls, grouped, brief_structure, sorted, each_sorted}
-use Rattle.ged_canon.specs.Working.{put as put_tree}
+use Rattle.ged_canon.specs.inner.Working.{falls, grouped, brief_structure, sorted, each_sorted}
+use Rattle.ged_canon.specs.inner.Working.{put as put_tree}
 use Rattle.ged_canon.proofs.Sorting.{between, falls_itself, not_falling, not_greater, after_falling, tags_total, equal_tags}
 
 module _ {A : Type 0} (tag : A → Bytes) where

@@ -7,7 +7,7 @@ use Rattle.std.proofs.lemmas.List.Folds.{list_all-append}
 use Rattle.ged_line.specs.Bytes.{Bytes}
 use Rattle.ged_line.specs.Characters.{is_plain}
 use Rattle.ged_line.specs.Names.{is_tag}
-use Rattle.ged_tree.specs.declared.payload.Payload.{Payload}
+use Rattle.ged_tree.specs.declared.owned.payload.Payload.{Payload}
 use Rattle.ged_tree.specs.Trees.{Structure, Trees, tree, line_count, lines_count}
 use Rattle.ged_tree.specs.Documents.{is_payload_at, is_structure_at, is_xref_at, are_at, is_record_tag, are_records, is_head, is_document}
 use Rattle.ged_value.specs.Default.{default_word}

@@ -5,7 +5,7 @@ use Rattle.ged_tree.specs.Documents.{is_document}
 use Rattle.ged_canon.specs.declared.edition.Edition.{Edition}
 use Rattle.ged_canon.specs.Steps.{Move, change, rename, gain, lose, Equivalent, done, then}
 use Rattle.ged_canon.specs.Normal.{Normal}
-use Rattle.ged_canon.specs.Working.{canon}
+use Rattle.ged_canon.specs.inner.Working.{canon}
 use Rattle.ged_canon.proofs.Fixed.{canon_same}
 use Rattle.ged_canon.proofs.Moves.{canon_change}
 use Rattle.ged_canon.proofs.Renaming.{canon_rename, canon_gain}

@@ -5,11 +5,11 @@ use Rattle.std.specs.Option.{option_map}
 use Rattle.ged_line.specs.Bytes.{Bytes}
 use Rattle.ged_tree.specs.Trees.{Trees, tree, Tree, structure_of, records_of}
 use Rattle.ged_tree.specs.Records.{record_trees}
-use Rattle.ged_tree.specs.declared.node.RecordNode.{RecordNode}
+use Rattle.ged_tree.specs.declared.owned.node.RecordNode.{RecordNode}
 use Rattle.ged_link.specs.Links.{IsNamed, identifiers, IsUsed}
 use Rattle.ged_schema.specs.declared.context.Context.TheVariants.{File}
 use Rattle.ged_canon.specs.declared.edition.Edition.{Edition}
-use Rattle.ged_canon.specs.Working.{is_named, used_xref, used_trees, used_document, placed, grouped, sorted, each_sorted, sorted_document}
+use Rattle.ged_canon.specs.inner.Working.{is_named, used_xref, used_trees, used_document, placed, grouped, sorted, each_sorted, sorted_document}
 use Rattle.ged_canon.proofs.Fixed.{is_named-true}
 use Rattle.ged_canon.proofs.Used.{unused}
 use Rattle.ged_canon.proofs.StableSort.{grouped_is_sorted}

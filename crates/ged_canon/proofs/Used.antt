@@ -2,8 +2,8 @@
 use Rattle.std.proofs.Common.{◌≡◌, Bool, true, false, cond, ◌||◌, List, [], ◌∷◌, Option, Some, None, refl, sym, ap, ◌∙◌, ◌⊎◌, inl, inr, ⊎_elim}
 use Rattle.std.proofs.lemmas.Bool.{false≢true, or_cases, false_from_ne_true}
 use Rattle.ged_line.specs.Bytes.{Bytes}
-use Rattle.ged_tree.specs.declared.payload.Payload.{Payload}
-use Rattle.ged_tree.specs.declared.payload.Payload.TheVariants.{Void, Pointer, Text}
+use Rattle.ged_tree.specs.declared.owned.payload.Payload.{Payload}
+use Rattle.ged_tree.specs.declared.owned.payload.Payload.TheVariants.{Void, Pointer, Text}
 use Rattle.ged_tree.specs.Trees.{Structure, Trees, none, tree}
 use Rattle.ged_link.specs.Links.{SomeTree, IsAmong, with_xref, xrefs, Names, IsNamed}
 use Rattle.ged_schema.specs.declared.context.Context.{Context}
@@ -11,7 +11,7 @@ use Rattle.ged_schema.specs.declared.context.Context.TheVariants.{File}
 use Rattle.ged_schema.specs.Rows.{Row}
 use Rattle.ged_schema.specs.Tables.{row, context_below}
 use Rattle.ged_canon.specs.declared.edition.Edition.{Edition}
-use Rattle.ged_canon.specs.Working.{falls, put, names, is_named, used_xref, used_trees, used_document, brief, brief_structure, sorted, sorted_document}
+use Rattle.ged_canon.specs.inner.Working.{falls, put, names, is_named, used_xref, used_trees, used_document, brief, brief_structure, sorted, sorted_document}
 use Rattle.ged_canon.proofs.Texts.{equal_bytes}
 use Rattle.ged_canon.proofs.Fixed.{with_others}
 

@@ -13,19 +13,19 @@ use Rattle.ged_line.specs.Characters.{is_plain}
 use Rattle.ged_line.specs.Lines.{LineParts, Value, Pointer as PointerValue, line_parts, is_line, is_value, may_be_xref}
 use Rattle.ged_line.specs.Names.{is_tag, is_xref}
 use Rattle.ged_line.specs.Spelling.{spelling, spelled_lines}
-use Rattle.ged_tree.specs.declared.payload.Payload.{Payload}
-use Rattle.ged_tree.specs.declared.payload.Payload.TheVariants.{Void, Pointer, Text}
+use Rattle.ged_tree.specs.declared.owned.payload.Payload.{Payload}
+use Rattle.ged_tree.specs.declared.owned.payload.Payload.TheVariants.{Void, Pointer, Text}
 use Rattle.ged_tree.specs.Trees.{Structure, further_lines}
 use Rattle.ged_tree.specs.Documents.{is_payload_at, is_xref_at, is_structure_at}
 use Rattle.ged_tree.specs.DocumentLines.{line_value, first_value, continued}
 use Rattle.ged_tree.specs.Views.{is_pointer}
-use Rattle.ged_tree.specs.Walks.{HasLinesAt}
+use Rattle.ged_tree.specs.inner.Walks.{HasLinesAt}
 use Rattle.ged_schema.specs.Rows.{Row}
 use Rattle.ged_canon.specs.declared.edition.Edition.{Edition}
 use Rattle.ged_canon.specs.declared.edition.Edition.TheVariants.{First, Second}
 use Rattle.ged_canon.specs.Steps.{is_dated, is_numeric, renamed_payload, with_identifier}
 use Rattle.ged_canon.specs.Normal.{IsBriefPayload}
-use Rattle.ged_canon.specs.Working.{is_second, may_shorten, brief, brief_line}
+use Rattle.ged_canon.specs.inner.Working.{is_second, may_shorten, brief, brief_line}
 use Rattle.ged_canon.proofs.Brief.{brief_same, brief_payload_same, brief_anyway}
 
 -- Bytes.

@@ -13,17 +13,17 @@ use Rattle.ged_tree.specs.Documents.{is_xref_at, is_structure_at, are_at}
 use Rattle.ged_tree.specs.DocumentLines.{structure_lines, lines_of}
 use Rattle.ged_tree.specs.Places.{structure_at, below_at}
 use Rattle.ged_tree.specs.Runs.{trees_between, IsRun, IsStep}
-use Rattle.ged_tree.specs.Walks.{HasLinesAt}
+use Rattle.ged_tree.specs.inner.Walks.{HasLinesAt}
 use Rattle.ged_schema.specs.declared.context.Context.{Context}
 use Rattle.ged_schema.specs.Rows.{Row}
 use Rattle.ged_schema.specs.Tables.{row, below_row, context_below}
 use Rattle.ged_canon.specs.declared.edition.Edition.{Edition}
-use Rattle.ged_canon.specs.declared.siblings.Sibling.{Sibling}
+use Rattle.ged_canon.specs.declared.writer.siblings.Sibling.{Sibling}
 use Rattle.ged_canon.specs.Steps.{with_identifier, renamed}
 use Rattle.ged_canon.specs.Normal.{InOrder, tags}
-use Rattle.ged_canon.specs.Working.{used_xref, used_trees, put, brief, brief_structure, sorted, each_sorted}
-use Rattle.ged_canon.specs.Siblings.{sibling_trees}
-use Rattle.ged_canon.specs.Writing.{brief_sibling, renamed_sibling}
+use Rattle.ged_canon.specs.inner.Working.{used_xref, used_trees, put, brief, brief_structure, sorted, each_sorted}
+use Rattle.ged_canon.specs.inner.Siblings.{sibling_trees}
+use Rattle.ged_canon.specs.inner.Writing.{brief_sibling, renamed_sibling}
 use Rattle.ged_canon.proofs.Bare.{stands}
 use Rattle.ged_canon.proofs.Sorting.{put_first}
 use Rattle.ged_canon.proofs.SiblingTrees.{below_step}

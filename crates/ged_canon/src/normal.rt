@@ -1,60 +1,18 @@
 // Whether a document is normal.
-ghost use Rattle.std.specs.Prelude.{◌<◌, ◌↔◌, Some, IsTrue};
-ghost use Rattle.ged_tree.specs.Trees.{trees_count};
-ghost use Rattle.ged_tree.specs.Places.{structure_at};
+ghost use Rattle.std.specs.Prelude.{◌<◌, ◌↔◌, Some, IsTrue, ◌≡◌};
 ghost use Rattle.ged_tree.specs.Runs.{IsRun, trees_between};
 ghost use Rattle.ged_link.specs.Indexes.{IsIndexOf};
-ghost use Rattle.ged_schema.specs.Rows.{as_row};
 ghost use Rattle.ged_canon.specs.declared.edition.Edition.TheVariants.{First};
-ghost use Rattle.ged_canon.specs.Normal.{IsBriefPayload, InOrder, AreNormal, Normal, tags};
+ghost use Rattle.ged_canon.specs.Normal.{AreNormal, Normal, numbered};
+ghost use Rattle.ged_canon.specs.inner.Working.{HaveOwnNumbers};
 
 use crate::edition::Edition;
-use crate::numbers::have_own_numbers;
-use crate::siblings::order;
-use crate::spelling::is_brief_line;
+use crate::writer::brief::is_brief_at;
+use crate::writer::order::are_in_order;
 use ged_link::Index;
-use ged_schema::{Context, Rule, lookup_name};
-use ged_tree::{Forest, PayloadView, end_of_all, next_in_run};
-use std::cmp::Ordering;
-
-/// Whether nothing can be left out in the payload of the structure at a place, which has this rule.
-pub(crate) fn is_brief_at<F: Forest>(
-    forest: &F,
-    edition: Edition,
-    rule: &Rule,
-    place: usize,
-) -> bool
-    requires { place < trees_count (F.trees forest.now) }
-    ensures { IsTrue result ↔ IsBriefPayload edition (Some (as_row rule.now)) (structure_at (F.trees forest.now) place).payload }
-{
-    match forest.payload(place) {
-        PayloadView::Text(line) if forest.further(place) == 0 => is_brief_line(edition, rule, line),
-        _ => true,
-    }
-}
-
-/// Whether the structures of a run stand in the order of their tags.
-pub(crate) fn are_in_order<F: Forest>(forest: &F, start: usize, end: usize) -> bool
-    requires { IsRun (F.trees forest.now) start end }
-    ensures { IsTrue result ↔ InOrder (tags (trees_between (F.trees forest.now) start end)) }
-{
-    let Some(mut place) = next_in_run(forest, start, end) else {
-        return true;
-    };
-    if place >= end {
-        return true;
-    }
-    let mut before = forest.tag(start);
-    while let Some(after) = next_in_run(forest, place, end) {
-        let tag = forest.tag(place);
-        if order(before, tag) == Ordering::Greater {
-            return false;
-        }
-        before = tag;
-        place = after;
-    }
-    true
-}
+use ged_schema::{Context, lookup_name};
+use ged_tree::{Forest, end_of_all, next_in_run};
+use itoa::Buffer;
 
 /// Whether the payloads of a run's structures and of those below them are brief, and what stands below each of them is in
 /// the order of tags.
@@ -109,4 +67,43 @@ pub fn is_normal<F: Forest>(forest: &F, index: &Index) -> bool
     ensures { IsTrue result ↔ Normal First (F.trees forest.now) }
 {
     is_normal_in(Edition::First, forest, index)
+}
+
+/// Whether a name is X and the number.
+fn is_numbered(name: &str, number: usize) -> bool
+    requires { 0 < number }
+    ensures { IsTrue result ↔ (name.now ≡ numbered number) }
+{
+    let mut buffer = Buffer::new();
+    match name.strip_prefix('X') {
+        Some(digits) => digits == buffer.format(number),
+        None => false,
+    }
+}
+
+/// Whether the identifiers of the records, which are a run, are X1, X2, and so on, and a pointer names each.
+pub(crate) fn have_own_numbers<F: Forest>(
+    forest: &F,
+    index: &Index,
+    start: usize,
+    end: usize,
+) -> bool
+    requires run { IsRun (F.trees forest.now) start end }
+    requires index { IsIndexOf (F.trees forest.now) index.now }
+    ensures { IsTrue result ↔ HaveOwnNumbers (F.trees forest.now) 1 0 (trees_between (F.trees forest.now) start end) }
+{
+    let mut named = 0;
+    let mut number = 0;
+    let mut place = start;
+    while let Some(after) = next_in_run(forest, place, end) {
+        if let Some(name) = forest.xref(place) {
+            if !is_numbered(name, named + 1) || !index.is_used(number) {
+                return false;
+            }
+            named += 1;
+        }
+        number += 1;
+        place = after;
+    }
+    true
 }

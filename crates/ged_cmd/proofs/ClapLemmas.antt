@@ -18,7 +18,8 @@ use Rattle.clap.specs.declared.error.Error.{Error}
 use Rattle.clap.specs.declared.parser.matches.ArgMatches.{ArgMatches}
 use Rattle.clap.proofs.WalkLemmas.{first_value-rows, one_text-rows}
 use Rattle.clap.specs.declared.parser.matches.Found.{Found}
-use Rattle.ged_cmd.specs.CommandLine.{IsArg, IsCommand, gedtool}
+use Rattle.ged_cmd.specs.CommandLine.{gedtool}
+use Rattle.ged_cmd.specs.inner.CommandLine.{IsArg, IsCommand}
 use Rattle.ged_cmd.specs.Tasks.{is_set}
 
 -- a command with one more argument

@@ -12,7 +12,8 @@ use Rattle.ged_tool.specs.declared.faults.Which.TheVariants.{First, Second}
 use Rattle.ged_tool.specs.declared.faults.Fault.TheVariants.{ReadFailed, WriteFailed}
 use Rattle.ged_tool.specs.declared.faults.Outcome.{Outcome}
 use Rattle.ged_tool.specs.declared.faults.Outcome.TheVariants.{Done, Different, Failed}
-use Rattle.ged_cmd.specs.Program.{IsCompared, IsFlushed, Reader, limit}
+use Rattle.ged_cmd.specs.Program.{IsCompared, Reader, limit}
+use Rattle.ged_cmd.specs.inner.Flushes.{IsFlushed}
 
 -- what a writer took stays taken where what it holds is kept
 pub keeps_appended : (before between after : Option (List ℕ)) (written : List ℕ) → Appends before between written → Keeps between after

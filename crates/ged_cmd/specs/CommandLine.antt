@@ -1,10 +1,7 @@
 -- The words that the program understands, as clap is told of them.
-use Rattle.std.specs.Prelude.{◌≡◌, Some, true, false, codes}
-use Rattle.clap.specs.Words.{App, Rule, Text, app_of, rule_of, new_app, new_rule, with_rule, with_subcommand}
+use Rattle.std.specs.Prelude.{Some, true, codes}
+use Rattle.clap.specs.Words.{App, Rule, Text, new_app, new_rule, with_rule, with_subcommand}
 use Rattle.clap.specs.Simple.{on_top}
-use Rattle.clap.specs.declared.builder.arg.Arg.{Arg}
-use Rattle.clap.specs.declared.builder.command.Command.TheViews.{out-Command as fields_of}
-use Rattle.clap.specs.declared.builder.command.Command.{Command}
 use Rattle.clap.specs.declared.builder.action.ArgAction.TheVariants.{SetTrue}
 
 -- a flag `--name`
@@ -49,11 +46,3 @@ bare_program = on_top (λ top. record top { subcommand_required = true }) (new_a
 abbrev pub gedtool : App
 gedtool = with_subcommand (with_subcommand (with_subcommand (with_subcommand (with_subcommand bare_program
     lines.top) check.top) show.top) canon.top) same.top
-
--- the argument has this rule, and stands for one command alone
-abbrev pub IsArg : Rule → Arg → Type 0
-IsArg rule arg = (rule_of arg ≡ rule) × (arg.global ≡ false)
-
--- the command, as clap keeps it, is this one
-abbrev pub IsCommand : App → Command → Type 0
-IsCommand app command = (app_of command ≡ app) × ((fields_of command).has_globals ≡ false)

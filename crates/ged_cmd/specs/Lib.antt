@@ -1,3 +1,4 @@
 pub mod CommandLine
 pub mod Tasks
 pub mod Program
+pub mod inner

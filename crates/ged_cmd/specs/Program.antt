@@ -1,6 +1,5 @@
 -- What the program does, for the words, the files and the streams that it has.
 use Rattle.std.specs.Prelude.{◌≡◌, ◌≢◌, ◌↔◌, ◌⊎◌, ℕ, List, [], Bool, true, false, IsTrue, Option, Some, None, if◌then◌else◌}
-use Rattle.std.specs.Io.KnownBytes.{Keeps}
 use Rattle.clap.specs.Words.{Text, fault_of}
 use Rattle.clap.specs.Kinds.{IsAmong}
 use Rattle.clap.specs.declared.error.kind.ErrorKind.{ErrorKind}
@@ -10,7 +9,7 @@ use Rattle.ged_tool.specs.declared.Edition.{Edition}
 use Rattle.ged_tool.specs.Run.{IsRun}
 use Rattle.ged_tool.specs.SameRun.{IsSameRun}
 use Rattle.ged_tool.specs.Faults.{status_of}
-use Rattle.ged_tool.specs.declared.answers.Command.{Command}
+use Rattle.ged_tool.specs.declared.runs.answer.Command.{Command}
 use Rattle.ged_tool.specs.declared.faults.Which.{Which}
 use Rattle.ged_tool.specs.declared.faults.Which.TheVariants.{First, Second}
 use Rattle.ged_tool.specs.declared.faults.Fault.TheVariants.{ReadFailed, WriteFailed}
@@ -47,24 +46,8 @@ module _ {D : Type 0} where
 abbrev pub IsUnread : Reader → Type 0
 IsUnread reader = (reader.left ≡ reader.to_come) × (reader.failed ≡ false)
 
--- the bytes that the writer holds, if it tells them, stay, and so does whether it has failed
-abbrev pub IsKept : Writer → (failed_before : Bool) → Type 0
-IsKept writer failed_before = Keeps writer.taken writer.holds × (writer.failed ≡ failed_before)
-
-abbrev pub IsFlushedTo : Writer → (failed_before : Bool) → (before after : Outcome) → Type 0
-IsFlushedTo writer failed_before before after =
-    ((after ≡ before) × IsKept writer failed_before)
-    ⊎ ((after ≡ Failed None WriteFailed) × IsKept writer true)
-
 abbrev pub IsUnwritten : Writer → Type 0
 IsUnwritten writer = (writer.holds ≡ writer.taken) × (writer.failed ≡ false)
-
--- The outcome once the answer is flushed. Where there is an answer and the flush fails the writer has failed, and the
--- outcome is WriteFailed; else both stay. What the writer holds stays.
-abbrev pub IsFlushed : Writer → (failed_before : Bool) → (before after : Outcome) → Type 0
-IsFlushed writer failed_before (Failed which fault) after = (after ≡ Failed which fault) × IsKept writer failed_before
-IsFlushed writer failed_before Done after = IsFlushedTo writer failed_before Done after
-IsFlushed writer failed_before Different after = IsFlushedTo writer failed_before Different after
 
 -- A command over one input, its answer written and flushed. The reader has failed exactly where the outcome says so, and
 -- so has the writer, by a write or by the flush.

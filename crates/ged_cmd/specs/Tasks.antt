@@ -7,11 +7,8 @@ use Rattle.ged_tool.specs.declared.Profile.{Profile}
 use Rattle.ged_tool.specs.declared.Profile.TheVariants as profile
 use Rattle.ged_tool.specs.declared.Edition.{Edition}
 use Rattle.ged_tool.specs.declared.Edition.TheVariants as edition
-use Rattle.ged_tool.specs.declared.answers.Command.{Command}
-use Rattle.ged_tool.specs.declared.answers.Command.TheVariants.{Lines, Check, Show, Canon}
-use Rattle.ged_tool.specs.Profiles.{profile_of, edition_of}
-use Rattle.ged_cmd.specs.declared.words.Request.{Request}
-use Rattle.ged_cmd.specs.declared.words.Request.TheVariants.{Run, Same}
+use Rattle.ged_tool.specs.declared.runs.answer.Command.{Command}
+use Rattle.ged_tool.specs.declared.runs.answer.Command.TheVariants.{Lines, Check, Show, Canon}
 use Rattle.ged_cmd.specs.CommandLine.{gedtool}
 
 -- a command over one file, or over standard input where none is named; or the comparison of a file with another, or with
@@ -53,9 +50,3 @@ task_of_match (name, rows) = if bytes_eq name (codes "same") then same_asked row
 -- what the words ask for, the first of which is the program's name
 abbrev pub asked : List Text → Option Task
 asked words = option_and_then task_of_match (subcommand_of gedtool words)
-
--- a request of the program, as a task
-abbrev pub task_of : Request → Task
-task_of (Run command settings file) = run (profile_of settings) (edition_of settings) command (option_map (λ name. name.now) file)
-task_of (Same settings first second) =
-    same (profile_of settings) (edition_of settings) first.now (option_map (λ name. name.now) second)

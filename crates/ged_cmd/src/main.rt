@@ -6,12 +6,12 @@ ghost use Rattle.std.specs.Prelude.{◌≡◌, ◌≤◌, false, IfOk, IsErr, ma
 ghost use Rattle.std.specs.Io.KnownBytes.{Keeps};
 ghost use Rattle.ged_cmd.specs.Program.{IsUnread, Performs, reader as reader_of, writer as writer_of};
 
-mod answers;
+mod commands;
 mod shelf;
 mod tells;
 mod words;
 
-use answers::answer_request;
+use commands::answer_request;
 use ged_tool::{Input, Output, Sink, Source};
 use shelf::{Disk, Shelf};
 use std::alloc::Global;

@@ -6,7 +6,7 @@ ghost use Rattle.ged_tool.specs.Devices.{failed_after};
 ghost use Rattle.ged_tool.specs.Faults.{status_of};
 ghost use Rattle.ged_cmd.specs.Program.{IsUnwritten, refusal_status, writer as writer_of};
 
-use crate::answers::failed;
+use crate::commands::failed;
 use clap::Error;
 use clap::error::ErrorKind;
 use ged_tool::{Failed, Fault, Outcome, Output, Sink, Which};

@@ -1,11 +1,12 @@
 // What the words of the command line ask for.
 ghost use Rattle.std.specs.Prelude.{◌≡◌, [], IfOk, IfErr, map, option_and_then, option_map, string_bytes, if◌then◌else◌};
-ghost use Rattle.clap.specs.Words.{rule_of, app_of, rows_of, found_of, subcommand_rows_of, fault_of, new_app, new_rule};
+ghost use Rattle.clap.specs.Words.{rows_of, found_of, subcommand_rows_of, fault_of, new_app, new_rule};
 ghost use Rattle.clap.specs.Kinds.{HasKind};
 ghost use Rattle.ged_cmd.specs.CommandLine as line;
-ghost use Rattle.ged_cmd.specs.CommandLine.{IsArg, IsCommand};
+ghost use Rattle.ged_cmd.specs.inner.CommandLine.{IsArg, IsCommand};
 ghost use Rattle.ged_tool.specs.Profiles.{profile_of, edition_of};
-ghost use Rattle.ged_cmd.specs.Tasks.{asked, command_of, edition_asked, is_set, profile_asked, run_asked, same_asked, task_of, task_of_match};
+ghost use Rattle.ged_cmd.specs.Tasks.{asked, command_of, edition_asked, is_set, profile_asked, run_asked, same_asked, task_of_match};
+ghost use Rattle.ged_cmd.specs.inner.Tasks.{task_of};
 
 use clap::{Arg, ArgAction, ArgMatches, Error};
 use ged_tool::{Command, Edition, Profile, Settings};

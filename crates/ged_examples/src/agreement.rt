@@ -1,8 +1,9 @@
 // One answer by every way: what a call answers is compared with what the others that have the same answer give.
+use crate::answers::Answer;
 use crate::feeding::is_fed;
 use ged_canon::{canonical_bytes_in, canonical_in, write_document};
 use ged_line::read_lines;
-use ged_link::{LinkFault, NoticeKind, resolve};
+use ged_link::{LinkFault, Notice, NoticeKind, resolve};
 use ged_schema::check_as;
 use ged_tool::{
     Accepted, Command, Fault, FileFault, Input, Outcome, Output, Profile, Settings, Which, accept,
@@ -27,7 +28,7 @@ pub(crate) struct Ways {
     differs: Option<&'static str>,
 }
 
-fn are_same(one: &Answered, other: &Answered) -> bool {
+pub(crate) fn are_same(one: &Answered, other: &Answered) -> bool {
     match (one, other) {
         (Ok(one), Ok(other)) => one.as_slice() == other.as_slice(),
         (Err(one), Err(other)) => *one == *other,
@@ -50,63 +51,47 @@ impl Ways {
         }
     }
 
-    /// Whether all ways have one answer, in words.
-    pub(crate) fn agreement(&self) -> &'static [u8] {
-        match self.differs {
-            None => b"agree",
-            Some(way) => way.as_bytes(),
-        }
+    /// Says whether all ways have one answer.
+    pub(crate) fn say_agreement(&self, answer: &mut Answer) {
+        answer.say(self.differs.unwrap_or("agree"));
     }
 
-    /// The one answer, or the name of a way that has another.
-    pub(crate) fn tell(&self, alloc: Global, out: &mut Vec<u8>) -> Result<(), AllocError> {
+    /// Says the one answer, or the name of a way that has another before it.
+    pub(crate) fn say(&self, answer: &mut Answer) {
         if let Some(way) = self.differs {
-            out.extend_from_slice(way.as_bytes())?;
-            out.extend_from_slice(b" differs from ")?;
+            answer.say(way);
+            answer.say(" differs from ");
         }
         match &self.answered {
-            Ok(text) => out.extend_from_slice(text),
-            Err(fault) => push_fault(alloc, fault, out),
+            Ok(text) => answer.say_bytes(text),
+            Err(fault) => say_fault(answer, *fault),
         }
     }
 }
 
-/// Appends a fault: `F 5 at 6` for one of the file, else its name.
-pub(crate) fn push_fault(
-    alloc: Global,
-    fault: &Fault,
-    out: &mut Vec<u8>,
-) -> Result<(), AllocError> {
-    let name = match fault {
-        Fault::InFile { line, kind: _ } => {
-            let number = fault.number();
-            let told = format!(in alloc; "F {number} at {line}")?;
-            return out.extend_from_slice(told.as_bytes());
-        }
-        Fault::TooLong => "TooLong",
-        Fault::ReadFailed => "ReadFailed",
-        Fault::WriteFailed => "WriteFailed",
-        Fault::Memory(_) => "Memory",
-    };
-    out.extend_from_slice(name.as_bytes())
+/// Says a fault: `F 5 at 6` for one of the file, else its name.
+pub(crate) fn say_fault(answer: &mut Answer, fault: Fault) {
+    match fault {
+        Fault::InFile { line, kind: _ } => answer.say_fault(u64::from(fault.number()), line),
+        Fault::TooLong => answer.say("TooLong"),
+        Fault::ReadFailed => answer.say("ReadFailed"),
+        Fault::WriteFailed => answer.say("WriteFailed"),
+        Fault::Memory(_) => answer.say("Memory"),
+    }
 }
 
-/// Appends how a run ended: `Done`, `Different`, or the fault behind the file that it names.
-pub(crate) fn push_outcome(
-    alloc: Global,
-    outcome: &Outcome,
-    out: &mut Vec<u8>,
-) -> Result<(), AllocError> {
+/// Says how a run ended: `Done`, `Different`, or the fault behind the file that it names.
+pub(crate) fn say_outcome(answer: &mut Answer, outcome: Outcome) {
     match outcome {
-        Outcome::Done => out.extend_from_slice(b"Done"),
-        Outcome::Different => out.extend_from_slice(b"Different"),
+        Outcome::Done => answer.say("Done"),
+        Outcome::Different => answer.say("Different"),
         Outcome::Failed { which, fault } => {
             match which {
                 None => {}
-                Some(Which::First) => out.extend_from_slice(b"first: ")?,
-                Some(Which::Second) => out.extend_from_slice(b"second: ")?,
+                Some(Which::First) => answer.say("first: "),
+                Some(Which::Second) => answer.say("second: "),
             }
-            push_fault(alloc, fault, out)
+            say_fault(answer, fault);
         }
     }
 }
@@ -126,28 +111,29 @@ pub(crate) fn are_plain(settings: Settings) -> bool {
     settings == Settings::new()
 }
 
+/// The bytes of an answer, as what a way answers.
+pub(crate) fn answered(answer: Answer) -> Answered {
+    answer.into_bytes().map_err(Fault::Memory)
+}
+
+/// A word, as what a way answers.
+pub(crate) fn answered_word(alloc: Global, word: &str) -> Answered {
+    Vec::from_slice(alloc, word.as_bytes()).map_err(Fault::Memory)
+}
+
 /// What a run wrote, or its fault.
-fn written_or_fault(
-    alloc: Global,
-    outcome: Outcome,
-    written: Vec<u8>,
-) -> Result<Answered, AllocError> {
+fn written_or_fault(alloc: Global, outcome: Outcome, written: Vec<u8>) -> Answered {
     match outcome {
-        Outcome::Done => Ok(Ok(written)),
-        Outcome::Failed { which: None, fault } if written.is_empty() => Ok(Err(fault)),
-        _ => Ok(Ok(Vec::from_slice(
+        Outcome::Done => Ok(written),
+        Outcome::Failed { which: None, fault } if written.is_empty() => Err(fault),
+        _ => answered_word(
             alloc,
-            b"an outcome that is none of a run, or a text that was written in part",
-        )?)),
+            "an outcome that is none of a run, or a text that was written in part",
+        ),
     }
 }
 
-fn run_with(
-    alloc: Global,
-    settings: Settings,
-    command: Command,
-    file: &[u8],
-) -> Result<Answered, AllocError> {
+fn run_with(alloc: Global, settings: Settings, command: Command, file: &[u8]) -> Answered {
     let mut written = Vec::new(alloc);
     let mut reader = Input::new(file);
     let mut writer = Output::new(&mut written);
@@ -155,7 +141,7 @@ fn run_with(
     written_or_fault(alloc, outcome, written)
 }
 
-fn run_plainly(alloc: Global, command: Command, file: &[u8]) -> Result<Answered, AllocError> {
+fn run_plainly(alloc: Global, command: Command, file: &[u8]) -> Answered {
     let mut written = Vec::new(alloc);
     let mut reader = Input::new(file);
     let mut writer = Output::new(&mut written);
@@ -170,19 +156,18 @@ pub(crate) fn add_runs(
     command: Command,
     file: &[u8],
     ways: &mut Ways,
-) -> Result<(), AllocError> {
-    ways.add("run_as", run_with(alloc, settings, command, file)?);
+) {
+    ways.add("run_as", run_with(alloc, settings, command, file));
     if are_plain(settings) {
-        ways.add("run", run_plainly(alloc, command, file)?);
+        ways.add("run", run_plainly(alloc, command, file));
     }
-    Ok(())
 }
 
 /// What is told of any answer where only acceptance is asked.
-fn verdict<T: Drop>(alloc: Global, answered: Result<T, Fault>) -> Result<Answered, AllocError> {
-    match answered {
-        Ok(_) => Ok(Ok(Vec::from_slice(alloc, b"accepted")?)),
-        Err(fault) => Ok(Err(fault)),
+fn verdict<T: Drop>(alloc: Global, given: Result<T, Fault>) -> Answered {
+    match given {
+        Ok(_) => answered_word(alloc, "accepted"),
+        Err(fault) => Err(fault),
     }
 }
 
@@ -191,85 +176,80 @@ pub(crate) fn in_file(line: u64, kind: FileFault) -> Fault {
 }
 
 /// A file's document by its lines, or its fault, from the calls that read lines and build trees.
-fn document_by_lines(alloc: Global, file: &[u8]) -> Result<Result<Document, Fault>, AllocError> {
-    let lines = read_lines(alloc, file)?;
+fn document_by_lines(alloc: Global, file: &[u8]) -> Result<Document, Fault> {
+    let lines = read_lines(alloc, file).map_err(Fault::Memory)?;
     match build(alloc, &lines) {
-        Ok(document) => Ok(Ok(document)),
-        Err(BuildFault::At(at)) => Ok(Err(in_file(at.line, at.fault.into()))),
-        Err(BuildFault::Memory(error)) => Err(error),
+        Ok(document) => Ok(document),
+        Err(BuildFault::At(at)) => Err(in_file(at.line, at.fault.into())),
+        Err(BuildFault::Memory(error)) => Err(Fault::Memory(error)),
+    }
+}
+
+/// What the calls on a document say of it, one after the other.
+fn accept_document(alloc: Global, profile: Profile, document: &Document) -> Result<(), Fault> {
+    match resolve(alloc, document) {
+        Ok(index) => match check_as(profile, document, &index) {
+            Ok(()) => Ok(()),
+            Err(at) => Err(in_file(at.line, at.fault.into())),
+        },
+        Err(LinkFault::Duplicate(line)) => Err(in_file(line, FileFault::DuplicateXref)),
+        Err(LinkFault::Dangling(line)) => Err(in_file(line, FileFault::DanglingPointer)),
+        Err(LinkFault::Memory(error)) => Err(Fault::Memory(error)),
     }
 }
 
 /// What the calls of the lower crates say of a file, one after the other.
-fn accept_by_parts(
-    alloc: Global,
-    profile: Profile,
-    file: &[u8],
-) -> Result<Result<(), Fault>, AllocError> {
-    let document = match document_by_lines(alloc, file)? {
-        Ok(document) => document,
-        Err(fault) => return Ok(Err(fault)),
-    };
-    let index = match resolve(alloc, &document) {
-        Ok(index) => index,
-        Err(LinkFault::Duplicate(line)) => return Ok(Err(in_file(line, FileFault::DuplicateXref))),
-        Err(LinkFault::Dangling(line)) => return Ok(Err(in_file(line, FileFault::DanglingPointer))),
-        Err(LinkFault::Memory(error)) => return Err(error),
-    };
-    match check_as(profile, &document, &index) {
-        Ok(()) => Ok(Ok(())),
-        Err(at) => Ok(Err(in_file(at.line, at.fault.into()))),
+fn accept_by_parts(alloc: Global, profile: Profile, file: &[u8]) -> Result<(), Fault> {
+    match document_by_lines(alloc, file) {
+        Ok(document) => accept_document(alloc, profile, &document),
+        Err(fault) => Err(fault),
     }
 }
 
-/// An accepted file's document as it is written, or the file's fault.
-fn written_document(
-    alloc: Global,
-    settings: Settings,
-    file: &[u8],
-) -> Result<Answered, AllocError> {
-    match accept_as(alloc, settings, file) {
-        Ok(accepted) => {
-            let document = accepted.document(alloc)?;
-            Ok(Ok(write_document(alloc, &document)?))
-        }
-        Err(fault) => Ok(Err(fault)),
+/// The document of an accepted file as it is written, or the file's fault.
+pub(crate) fn written(alloc: Global, accepted: Result<Accepted<'_>, Fault>) -> Answered {
+    match accepted {
+        Ok(accepted) => written_tree(alloc, accepted.document(alloc)),
+        Err(fault) => Err(fault),
+    }
+}
+
+fn written_tree(alloc: Global, document: Result<Document, AllocError>) -> Answered {
+    match document {
+        Ok(document) => write_document(alloc, &document).map_err(Fault::Memory),
+        Err(error) => Err(Fault::Memory(error)),
     }
 }
 
 /// Whether a file is accepted, by each call that tells it.
-pub(crate) fn accept_ways(
-    alloc: Global,
-    settings: Settings,
-    file: &[u8],
-) -> Result<Ways, AllocError> {
-    let mut ways = Ways::of(verdict(alloc, accept_as(alloc, settings, file))?);
+pub(crate) fn accept_ways(alloc: Global, settings: Settings, file: &[u8]) -> Ways {
+    let mut ways = Ways::of(verdict(alloc, accept_as(alloc, settings, file)));
     if are_plain(settings) {
-        ways.add("accept", verdict(alloc, accept(alloc, file))?);
-        ways.add("canonicalise", verdict(alloc, canonicalise(alloc, file))?);
+        ways.add("accept", verdict(alloc, accept(alloc, file)));
+        ways.add("canonicalise", verdict(alloc, canonicalise(alloc, file)));
     }
     if file.len() <= MOST_IN_TREES {
-        let parts = accept_by_parts(alloc, settings.profile(), file)?;
-        ways.add("the lower crates", verdict(alloc, parts)?);
+        let parts = accept_by_parts(alloc, settings.profile(), file);
+        ways.add("the lower crates", verdict(alloc, parts));
     }
     let canonical = canonicalise_as(alloc, settings, file);
-    ways.add("canonicalise_as", verdict(alloc, canonical)?);
+    ways.add("canonicalise_as", verdict(alloc, canonical));
     for command in [Command::Check, Command::Show, Command::Canon] {
-        let answered = run_with(alloc, settings, command, file)?;
-        ways.add("run_as", verdict(alloc, answered)?);
+        let answered = run_with(alloc, settings, command, file);
+        ways.add("run_as", verdict(alloc, answered));
     }
-    let document = written_document(alloc, settings, file)?;
-    if !is_fed(alloc, settings, file, &document)? {
+    let document = written(alloc, accept_as(alloc, settings, file));
+    if !is_fed(alloc, settings, file, &document) {
         ways.add("the file in pieces", Err(Fault::Memory(AllocError)));
     }
-    Ok(ways)
+    ways
 }
 
 /// The canonical bytes by way of trees, for a file that is accepted.
-fn canon_by_trees(alloc: Global, settings: Settings, file: &[u8]) -> Result<Answered, AllocError> {
+fn canon_by_trees(alloc: Global, settings: Settings, file: &[u8]) -> Answered {
     match accept_as(alloc, settings, file) {
-        Ok(accepted) => Ok(Ok(canon_of_tree(alloc, settings, &accepted)?)),
-        Err(fault) => Ok(Err(fault)),
+        Ok(accepted) => canon_of_tree(alloc, settings, &accepted).map_err(Fault::Memory),
+        Err(fault) => Err(fault),
     }
 }
 
@@ -291,11 +271,7 @@ fn canon_of_tree(
 }
 
 /// The canonical bytes of a file, by each call that makes them; and canonicalising them once more gives them again.
-pub(crate) fn canon_ways(
-    alloc: Global,
-    settings: Settings,
-    file: &[u8],
-) -> Result<Ways, AllocError> {
+pub(crate) fn canon_ways(alloc: Global, settings: Settings, file: &[u8]) -> Ways {
     let answered = canonicalise_as(alloc, settings, file);
     let again = match &answered {
         Ok(text) => canonicalise_as(alloc, settings, text),
@@ -307,89 +283,86 @@ pub(crate) fn canon_ways(
         ways.add("canonicalise", canonicalise(alloc, file));
     }
     if file.len() <= MOST_IN_TREES {
-        ways.add("the way by trees", canon_by_trees(alloc, settings, file)?);
+        ways.add("the way by trees", canon_by_trees(alloc, settings, file));
     }
-    add_runs(alloc, settings, Command::Canon, file, &mut ways)?;
-    Ok(ways)
+    add_runs(alloc, settings, Command::Canon, file, &mut ways);
+    ways
 }
 
 /// What Check is to write, from the notices.
-fn check_by_notices(
-    alloc: Global,
-    settings: Settings,
-    file: &[u8],
-) -> Result<Answered, AllocError> {
-    let accepted = match accept_as(alloc, settings, file) {
-        Ok(accepted) => accepted,
-        Err(fault) => return Ok(Err(fault)),
-    };
-    let mut text = Vec::new(alloc);
-    for notice in &notices(alloc, &accepted)? {
-        let line = notice.line;
-        let words = match notice.kind {
-            NoticeKind::OneWay => "one-way link",
-            NoticeKind::Unlisted => "unlisted tag",
-        };
-        let told = format!(in alloc; "line {line}: {words}\n")?;
-        text.extend_from_slice(told.as_bytes())?;
+fn check_by_notices(alloc: Global, settings: Settings, file: &[u8]) -> Answered {
+    match accept_as(alloc, settings, file) {
+        Ok(accepted) => {
+            let mut text = Answer::new(alloc);
+            if let Some(notices) = text.given(notices(alloc, &accepted)) {
+                say_notices(&mut text, &notices);
+            }
+            answered(text)
+        }
+        Err(fault) => Err(fault),
     }
-    text.extend_from_slice(b"accepted\n")?;
-    Ok(Ok(text))
+}
+
+fn say_notices(text: &mut Answer, notices: &[Notice]) {
+    for notice in notices {
+        text.say("line ");
+        text.say_number(notice.line);
+        text.say(match notice.kind {
+            NoticeKind::OneWay => ": one-way link\n",
+            NoticeKind::Unlisted => ": unlisted tag\n",
+        });
+    }
+    text.say("accepted\n");
 }
 
 /// What Check writes, by each call that tells notices.
-pub(crate) fn check_ways(
-    alloc: Global,
-    settings: Settings,
-    file: &[u8],
-) -> Result<Ways, AllocError> {
-    let mut ways = Ways::of(check_by_notices(alloc, settings, file)?);
-    add_runs(alloc, settings, Command::Check, file, &mut ways)?;
-    Ok(ways)
+pub(crate) fn check_ways(alloc: Global, settings: Settings, file: &[u8]) -> Ways {
+    let mut ways = Ways::of(check_by_notices(alloc, settings, file));
+    add_runs(alloc, settings, Command::Check, file, &mut ways);
+    ways
 }
 
 /// What Show writes, by each call that shows structures.
-pub(crate) fn show_ways(
-    alloc: Global,
-    settings: Settings,
-    file: &[u8],
-) -> Result<Ways, AllocError> {
+pub(crate) fn show_ways(alloc: Global, settings: Settings, file: &[u8]) -> Ways {
     let shown = match accept_as(alloc, settings, file) {
-        Ok(accepted) => Ok(show_text(alloc, &accepted)?),
+        Ok(accepted) => show_text(alloc, &accepted).map_err(Fault::Memory),
         Err(fault) => Err(fault),
     };
     let mut ways = Ways::of(shown);
-    add_runs(alloc, settings, Command::Show, file, &mut ways)?;
-    Ok(ways)
+    add_runs(alloc, settings, Command::Show, file, &mut ways);
+    ways
 }
 
-/// Whether two documents have the same lines.
-fn are_same_documents(alloc: Global, one: &Document, other: &Document) -> Result<bool, AllocError> {
-    let one = to_lines(alloc, one)?;
-    let other = to_lines(alloc, other)?;
-    Ok(one.as_slice() == other.as_slice())
+/// Whether a document has the same lines as one that is built.
+fn is_built(alloc: Global, document: &Document, built: &Document) -> bool {
+    match (to_lines(alloc, document), to_lines(alloc, built)) {
+        (Ok(one), Ok(other)) => one.as_slice() == other.as_slice(),
+        _ => false,
+    }
 }
 
-/// The lines of a file's document, where the one that is built of the file's lines and the one of the accepted file are
-/// the same.
-pub(crate) fn document_ways(
-    alloc: Global,
-    settings: Settings,
-    file: &[u8],
-) -> Result<Ways, AllocError> {
-    let accepted = match accept_as(alloc, settings, file) {
-        Ok(accepted) => accepted,
-        Err(fault) => return Ok(Ways::of(Err(fault))),
-    };
-    let document = accepted.document(alloc)?;
-    let mut ways = Ways::of(Ok(write_document(alloc, &document)?));
-    match document_by_lines(alloc, file)? {
+/// The lines of a document of an accepted file, and whether the document that is built of the file's lines has the same.
+fn tree_ways(alloc: Global, file: &[u8], document: &Document) -> Ways {
+    let mut ways = Ways::of(write_document(alloc, document).map_err(Fault::Memory));
+    match document_by_lines(alloc, file) {
         Err(fault) => ways.add("build", Err(fault)),
         Ok(built) => {
-            if !are_same_documents(alloc, &built, &document)? {
+            if !is_built(alloc, document, &built) {
                 ways.add("build", Err(Fault::Memory(AllocError)));
             }
         }
     }
-    Ok(ways)
+    ways
+}
+
+/// The lines of a file's document, where the one that is built of the file's lines and the one of the accepted file are
+/// the same.
+pub(crate) fn document_ways(alloc: Global, settings: Settings, file: &[u8]) -> Ways {
+    match accept_as(alloc, settings, file) {
+        Ok(accepted) => match accepted.document(alloc) {
+            Ok(document) => tree_ways(alloc, file, &document),
+            Err(error) => Ways::of(Err(Fault::Memory(error))),
+        },
+        Err(fault) => Ways::of(Err(fault)),
+    }
 }

@@ -3,8 +3,8 @@ ghost use Rattle.std.specs.Prelude.{IfOk, IfSome};
 ghost use Rattle.ged_link.specs.Indexes.{IsIndexOf};
 ghost use Rattle.ged_schema.specs.Checked.{Checked};
 
+use crate::answers::Answer;
 use crate::questions::{Question, document_of_file};
-use crate::saying::{say, say_truth};
 use ged_canon::{
     Edition, canonical, canonical_bytes, canonical_bytes_in, canonical_in, editions_agree,
     equal_normal_forms, equivalence, is_normal, is_normal_in, normal_form_exists,
@@ -48,11 +48,12 @@ pub(crate) fn tell<F: Forest>(
     alloc: Global,
     question: Question<'_>,
     forest: &F,
-    told: &mut Vec<u8>,
-) -> Result<(), AllocError> {
-    match index_of(alloc, forest)? {
-        Some(index) => tell_index(alloc, question, forest, &index, told),
-        None => say(told, "not checked"),
+    told: &mut Answer,
+) {
+    match index_of(alloc, forest) {
+        Ok(Some(index)) => tell_index(alloc, question, forest, &index, told),
+        Ok(None) => told.say("not checked"),
+        Err(_) => told.lack_memory(),
     }
 }
 
@@ -61,14 +62,14 @@ fn tell_index<F: Forest>(
     question: Question<'_>,
     forest: &F,
     index: &Index,
-    told: &mut Vec<u8>,
-) -> Result<(), AllocError>
+    told: &mut Answer,
+)
     requires index { IsIndexOf (F.trees forest.now) index.now }
     requires checked { Checked (F.trees forest.now) }
 {
     let edition = edition_of(question.word);
     match question.name {
-        "is_normal" => say_truth(told, tells_normal(edition, forest, index)),
+        "is_normal" => told.say_truth(tells_normal(edition, forest, index)),
         "canonical_bytes" => say_bytes(alloc, edition, forest, index, told),
         _ => state_laws(told),
     }
@@ -88,57 +89,42 @@ fn say_bytes<F: Forest>(
     edition: Option<Edition>,
     forest: &F,
     index: &Index,
-    told: &mut Vec<u8>,
-) -> Result<(), AllocError>
+    told: &mut Answer,
+)
     requires index { IsIndexOf (F.trees forest.now) index.now }
     requires checked { Checked (F.trees forest.now) }
 {
-    let bytes = match edition {
-        Some(edition) => canonical_bytes_in(alloc, edition, forest, index)?,
-        None => canonical_bytes(alloc, forest, index)?,
+    let made = match edition {
+        Some(edition) => canonical_bytes_in(alloc, edition, forest, index),
+        None => canonical_bytes(alloc, forest, index),
     };
-    told.extend_from_slice(bytes.as_slice())
+    if let Some(bytes) = told.given(made) {
+        told.say_bytes(&bytes);
+    }
 }
 
 /// Answers a call on an argument; false where this module has no call of this name.
-pub(crate) fn answer(
-    alloc: Global,
-    call: &str,
-    argument: &[u8],
-    answer: &mut Vec<u8>,
-) -> Result<bool, AllocError> {
+pub(crate) fn answer(alloc: Global, call: &str, argument: &[u8], answer: &mut Answer) -> bool {
     let question = Question::of(call);
     if !["canonical", "canonical_is_normal", "write_document"].contains(&question.name) {
-        return Ok(false);
+        return false;
     }
-    answer_file(alloc, question, argument, answer)?;
-    Ok(true)
+    match document_of_file(alloc, argument) {
+        Ok(Some(document)) => tell_document(alloc, question, &document, answer),
+        Ok(None) => answer.say("no document"),
+        Err(_) => answer.lack_memory(),
+    }
+    true
 }
 
-fn answer_file(
-    alloc: Global,
-    question: Question<'_>,
-    file: &[u8],
-    answer: &mut Vec<u8>,
-) -> Result<(), AllocError> {
-    match document_of_file(alloc, file)? {
-        Some(document) => tell_document(alloc, question, &document, answer),
-        None => say(answer, "no document"),
-    }
-}
-
-fn tell_document(
-    alloc: Global,
-    question: Question<'_>,
-    document: &Document,
-    answer: &mut Vec<u8>,
-) -> Result<(), AllocError> {
+fn tell_document(alloc: Global, question: Question<'_>, document: &Document, answer: &mut Answer) {
     if question.name == "write_document" {
         return say_document(alloc, document, answer);
     }
-    match index_of(alloc, document)? {
-        Some(index) => tell_checked(alloc, question, document, &index, answer),
-        None => say(answer, "not checked"),
+    match index_of(alloc, document) {
+        Ok(Some(index)) => tell_checked(alloc, question, document, &index, answer),
+        Ok(None) => answer.say("not checked"),
+        Err(_) => answer.lack_memory(),
     }
 }
 
@@ -148,56 +134,37 @@ fn tell_checked(
     question: Question<'_>,
     document: &Document,
     index: &Index,
-    answer: &mut Vec<u8>,
-) -> Result<(), AllocError>
+    answer: &mut Answer,
+)
     requires index { IsIndexOf document.now index.now }
     requires checked { Checked document.now }
 {
-    let made = made_canonical(alloc, edition_of(question.word), document, index)?;
-    tell_made(alloc, question, &made, answer)
+    let made = match edition_of(question.word) {
+        Some(edition) => canonical_in(alloc, edition, document, index),
+        None => canonical(alloc, document, index),
+    };
+    if let Some(made) = answer.given(made) {
+        tell_made(alloc, question, &made, answer);
+    }
 }
 
-fn tell_made(
-    alloc: Global,
-    question: Question<'_>,
-    made: &Document,
-    answer: &mut Vec<u8>,
-) -> Result<(), AllocError> {
+fn tell_made(alloc: Global, question: Question<'_>, made: &Document, answer: &mut Answer) {
     if question.name == "canonical" {
         return say_document(alloc, made, answer);
     }
     let word = question.word;
     let name = "is_normal";
-    tell(alloc, Question { name, word }, made, answer)
+    tell(alloc, Question { name, word }, made, answer);
 }
 
-/// The canonical form of a document. Grows.
-fn made_canonical(
-    alloc: Global,
-    edition: Option<Edition>,
-    document: &Document,
-    index: &Index,
-) -> Result<Document, AllocError>
-    requires index { IsIndexOf document.now index.now }
-    requires checked { Checked document.now }
-{
-    match edition {
-        Some(edition) => canonical_in(alloc, edition, document, index),
-        None => canonical(alloc, document, index),
+fn say_document(alloc: Global, document: &Document, answer: &mut Answer) {
+    if let Some(bytes) = answer.given(write_document(alloc, document)) {
+        answer.say_bytes(&bytes);
     }
 }
 
-fn say_document(
-    alloc: Global,
-    document: &Document,
-    answer: &mut Vec<u8>,
-) -> Result<(), AllocError> {
-    let bytes = write_document(alloc, document)?;
-    answer.extend_from_slice(bytes.as_slice())
-}
-
 /// Calls each law of the definitions once: their contracts are proved, and they do nothing.
-fn state_laws(answer: &mut Vec<u8>) -> Result<(), AllocError> {
+fn state_laws(answer: &mut Answer) {
     normal_form_is_unique();
     normal_form_exists();
     normal_form_is_accepted();
@@ -205,5 +172,5 @@ fn state_laws(answer: &mut Vec<u8>) -> Result<(), AllocError> {
     equivalence();
     steps();
     editions_agree();
-    say(answer, "stated")
+    answer.say("stated")
 }

@@ -1,4 +1,5 @@
 // How bytes are written in rows.
+use crate::answers::Answer;
 use std::alloc::{AllocError, Global};
 
 /// More bytes of an answer are not printed.
@@ -9,53 +10,59 @@ const MOST_PRINTED: usize = 1000;
 /// `|` stands for LF, `<41>` for the byte of this hexadecimal number, `<CR>`, `<LF>` and `<BOM>` for what they say, `{H}`
 /// for a header of version 7.0, and `{T}` for a trailer. `<TEXT*3>` stands for TEXT three times, and `<TEXT*0..9>` for TEXT
 /// with each number from 0 to 9 in the place of `#`; TEXT may have escapes, and one such part may stand within another.
-pub(crate) fn unescape(alloc: Global, text: &str, out: &mut Vec<u8>) -> Result<bool, AllocError> {
-    let outer = repeat_parts(alloc, text)?;
-    let repeated = repeat_parts(alloc, outer.as_str())?;
-    let mut rest = repeated.as_str();
-    for _ in 0..repeated.len() {
-        rest = append_plain(rest, out)?;
+pub(crate) fn unescape(alloc: Global, text: &str, out: &mut Answer) -> bool {
+    let mut outer = Answer::new(alloc);
+    say_repeated(text, &mut outer);
+    let mut inner = Answer::new(alloc);
+    say_repeated(outer.as_str(), &mut inner);
+    if outer.lacks_memory() || inner.lacks_memory() {
+        out.lack_memory();
+    }
+    say_meant(inner.as_str(), out)
+}
+
+/// Says what a text without repeated parts stands for; false where it has an escape that is none.
+fn say_meant(text: &str, out: &mut Answer) -> bool {
+    let mut rest = text;
+    for _ in 0..text.len() {
+        rest = say_plain(rest, out);
         if rest.is_empty() {
             break;
         }
-        let Some(behind) = append_escaped(rest, out)? else {
-            return Ok(false);
+        let Some(behind) = say_escaped(rest, out) else {
+            return false;
         };
         rest = behind;
     }
-    Ok(true)
+    true
 }
 
-/// Appends the text up to the first sign that stands for another, and gives what is left.
-fn append_plain<'a>(text: &'a str, out: &mut Vec<u8>) -> Result<&'a str, AllocError> {
+/// Says the text up to the first sign that stands for another, and gives what is left.
+fn say_plain<'a>(text: &'a str, out: &mut Answer) -> &'a str {
     let length = text.find(['<', '{', '|']).unwrap_or(text.len());
-    let Some((plain, rest)) = text.split_at_checked(length) else {
-        return Ok("");
-    };
-    out.extend_from_slice(plain.as_bytes())?;
-    Ok(rest)
+    let (plain, rest) = text.split_at_checked(length).unwrap_or((text, ""));
+    out.say(plain);
+    rest
 }
 
-/// Appends what the escape at the front of a text stands for, and gives what is behind it; `None` where it is none.
-fn append_escaped<'a>(text: &'a str, out: &mut Vec<u8>) -> Result<Option<&'a str>, AllocError> {
-    for (escape, bytes) in [
-        ("|", b"\n".as_slice()),
-        ("{H}", b"0 HEAD\n1 GEDC\n2 VERS 7.0\n"),
-        ("{T}", b"0 TRLR\n"),
-        ("<CR>", b"\r"),
-        ("<LF>", b"\n"),
-        ("<BOM>", b"\xEF\xBB\xBF"),
+/// Says what the escape at the front of a text stands for, and gives what is behind it; `None` where it is none.
+fn say_escaped<'a>(text: &'a str, out: &mut Answer) -> Option<&'a str> {
+    for (escape, meant) in [
+        ("|", "\n"),
+        ("{H}", "0 HEAD\n1 GEDC\n2 VERS 7.0\n"),
+        ("{T}", "0 TRLR\n"),
+        ("<CR>", "\r"),
+        ("<LF>", "\n"),
+        ("<BOM>", "\u{FEFF}"),
     ] {
         if let Some(behind) = text.strip_prefix(escape) {
-            out.extend_from_slice(bytes)?;
-            return Ok(Some(behind));
+            out.say(meant);
+            return Some(behind);
         }
     }
-    let Some((byte, behind)) = byte_at_front(text) else {
-        return Ok(None);
-    };
-    out.push(byte)?;
-    Ok(Some(behind))
+    let (byte, behind) = byte_at_front(text)?;
+    out.say_bytes(&[byte]);
+    Some(behind)
 }
 
 /// The byte that `<41>` at the front of a text stands for, and what is behind it.
@@ -68,45 +75,47 @@ fn byte_at_front(text: &str) -> Option<(u8, &str)> {
     Some((byte, behind))
 }
 
-/// The text with each `<TEXT*3>` in it written out, but for those within others.
-fn repeat_parts(alloc: Global, text: &str) -> Result<String, AllocError> {
-    let mut out = String::new(alloc);
+/// Says the text with each `<TEXT*3>` in it written out, but for those within others.
+fn say_repeated(text: &str, out: &mut Answer) {
     let mut rest = text;
     for _ in 0..text.len() {
         let Some((before, behind)) = rest.split_once('<') else {
             break;
         };
-        out.push_str(before)?;
-        let Some((inside, after)) = split_closed(behind) else {
-            out.push('<')?;
-            rest = behind;
-            continue;
+        out.say(before);
+        rest = match split_closed(behind) {
+            Some((inside, after)) => {
+                say_part(inside, out);
+                after
+            }
+            None => {
+                out.say("<");
+                behind
+            }
         };
-        append_part(inside, &mut out)?;
-        rest = after;
     }
-    out.push_str(rest)?;
-    Ok(out)
+    out.say(rest);
 }
 
-/// Appends what stands between two signs `<` and `>`, as often as it says, or as it was.
-fn append_part(inside: &str, out: &mut String) -> Result<(), AllocError> {
-    let Some((part, count)) = inside.rsplit_once('*') else {
-        return append_unread(inside, out);
-    };
-    if let Ok(count) = count.parse::<u32>() {
-        for _ in 0..count {
-            out.push_str(part)?;
+/// Says what stands between two signs `<` and `>`, as often as it says, or as it was.
+fn say_part(inside: &str, out: &mut Answer) {
+    if let Some((part, count)) = inside.rsplit_once('*') {
+        if let Ok(count) = count.parse::<u32>() {
+            for _ in 0..count {
+                out.say(part);
+            }
+            return;
         }
-        return Ok(());
+        if let Some((first, last)) = read_range(count) {
+            for number in first..=last {
+                say_numbered(part, number, out);
+            }
+            return;
+        }
     }
-    let Some((first, last)) = read_range(count) else {
-        return append_unread(inside, out);
-    };
-    for number in first..=last {
-        append_numbered(part, number, out)?;
-    }
-    Ok(())
+    out.say("<");
+    out.say(inside);
+    out.say(">");
 }
 
 /// The first and the last number of `0..99`.
@@ -115,24 +124,16 @@ fn read_range(text: &str) -> Option<(u32, u32)> {
     Some((first.parse::<u32>().ok()?, last.parse::<u32>().ok()?))
 }
 
-fn append_unread(inside: &str, out: &mut String) -> Result<(), AllocError> {
-    out.push('<')?;
-    out.push_str(inside)?;
-    out.push('>')
-}
-
-/// Appends a text with a number in the place of each `#`.
-fn append_numbered(text: &str, number: u32, out: &mut String) -> Result<(), AllocError> {
-    let mut rest = text;
-    for _ in 0..text.len() {
-        let Some((before, behind)) = rest.split_once('#') else {
-            break;
-        };
-        out.push_str(before)?;
-        write!(out, "{number}")?;
-        rest = behind;
+/// Says a text with a number in the place of each `#`.
+fn say_numbered(text: &str, number: u32, out: &mut Answer) {
+    let mut is_first = true;
+    for part in text.split('#') {
+        if !is_first {
+            out.say_number(u64::from(number));
+        }
+        out.say(part);
+        is_first = false;
     }
-    out.push_str(rest)
 }
 
 /// What stands before the `>` that closes a `<` before the text, and what stands behind it.
@@ -157,11 +158,10 @@ pub(crate) fn escape(alloc: Global, bytes: &[u8]) -> Result<String, AllocError> 
     let mut out = String::new(alloc);
     for byte in bytes.iter().take(MOST_PRINTED) {
         match *byte {
-            b'\n' => out.push('|')?,
-            b'<' | b'{' | b'|' => write!(out, "<{byte:02X}>")?,
-            b' '..=b'~' => out.push(char::from(*byte))?,
-            _ => write!(out, "<{byte:02X}>")?,
-        }
+            b'\n' => out.push('|'),
+            b'<' | b'{' | b'|' | ..b' ' | 127.. => write!(out, "<{byte:02X}>"),
+            _ => out.push(char::from(*byte)),
+        }?;
     }
     if bytes.len() > MOST_PRINTED {
         write!(out, ".. ({} bytes)", bytes.len())?;

@@ -1,131 +1,98 @@
 // Files that come piece by piece.
-use crate::agreement::push_fault;
-use ged_canon::{canonical_bytes_in, write_document};
-use ged_tool::{Fault, Feed, Settings};
+use crate::agreement::{Answered, answered_word, are_same, say_fault, written};
+use crate::answers::Answer;
+use ged_canon::canonical_bytes_in;
+use ged_tool::{Accepted, Fault, Feed, Settings};
 use std::alloc::{AllocError, Global};
 
 /// The most bytes that a file is cut at every place.
 const MOST: usize = 1000;
 
-/// What a feed ends with: the accepted file's document as it is written, or the fault.
-fn finished(
-    alloc: Global,
-    settings: Settings,
-    feed: &Feed,
-) -> Result<Result<Vec<u8>, Fault>, AllocError> {
-    match feed.finish_as(alloc, settings) {
-        Ok(accepted) => {
-            let document = accepted.document(alloc)?;
-            Ok(Ok(write_document(alloc, &document)?))
-        }
-        Err(fault) => Ok(Err(fault)),
-    }
-}
-
-/// What a file ends with that comes in two pieces.
-fn fed_in_two(
-    alloc: Global,
-    settings: Settings,
-    file: &[u8],
-    length: usize,
-) -> Result<Result<Vec<u8>, Fault>, AllocError> {
+/// What a file ends with that comes in two pieces: the accepted file's document as it is written, or the fault.
+fn fed_in_two(alloc: Global, settings: Settings, file: &[u8], length: usize) -> Answered {
     let mut feed = Feed::new(alloc);
     let first = feed.piece(file.get(..length).unwrap_or(file));
     let second = feed.piece(file.get(length..).unwrap_or(b""));
-    let answered = finished(alloc, settings, &feed)?;
-    // a fault of a piece is the fault of the file
-    match (first, second, &answered) {
-        (Err(fault), _, Err(told)) if fault == *told => Ok(answered),
-        (Ok(()), Err(fault), Err(told)) if fault == *told => Ok(answered),
-        (Ok(()), Ok(()), _) => Ok(answered),
-        _ => Ok(Ok(Vec::from_slice(alloc, b"a piece has another fault than the file")?)),
+    let end = written(alloc, feed.finish_as(alloc, settings));
+    if is_told(first.and(second), &end) {
+        return end;
+    }
+    answered_word(alloc, "a piece has another fault than the file")
+}
+
+/// Whether a fault of a piece is the fault of the file.
+fn is_told(pieces: Result<(), Fault>, end: &Answered) -> bool {
+    match (pieces, end) {
+        (Ok(()), _) => true,
+        (Err(fault), Err(told)) => fault == *told,
+        (Err(_), Ok(_)) => false,
     }
 }
 
 /// What a file ends with that comes byte by byte.
-fn fed_by_bytes(
-    alloc: Global,
-    settings: Settings,
-    file: &[u8],
-) -> Result<Result<Vec<u8>, Fault>, AllocError> {
+fn fed_by_bytes(alloc: Global, settings: Settings, file: &[u8]) -> Answered {
     let mut feed = Feed::new(alloc);
-    for at in 0..file.len() {
-        let byte = file.get(at..at.saturating_add(1)).unwrap_or(b"");
+    for byte in file.chunks(1) {
         if feed.piece(byte).is_err() {
             break;
         }
     }
-    finished(alloc, settings, &feed)
+    written(alloc, feed.finish_as(alloc, settings))
 }
 
 /// Whether a file that comes in two pieces, cut at any place, or byte by byte, ends with this answer. A long file is cut in
 /// its middle alone.
-pub(crate) fn is_fed(
-    alloc: Global,
-    settings: Settings,
-    file: &[u8],
-    wanted: &Result<Vec<u8>, Fault>,
-) -> Result<bool, AllocError> {
+pub(crate) fn is_fed(alloc: Global, settings: Settings, file: &[u8], wanted: &Answered) -> bool {
     if file.len() > MOST {
-        let answered = fed_in_two(alloc, settings, file, file.len() / 2)?;
-        return Ok(are_same(&answered, wanted));
+        return are_same(&fed_in_two(alloc, settings, file, file.len() / 2), wanted);
     }
     for length in 0..=file.len() {
-        let answered = fed_in_two(alloc, settings, file, length)?;
-        if !are_same(&answered, wanted) {
-            return Ok(false);
+        if !are_same(&fed_in_two(alloc, settings, file, length), wanted) {
+            return false;
         }
     }
-    let answered = fed_by_bytes(alloc, settings, file)?;
-    Ok(are_same(&answered, wanted))
+    are_same(&fed_by_bytes(alloc, settings, file), wanted)
 }
 
-fn are_same(one: &Result<Vec<u8>, Fault>, other: &Result<Vec<u8>, Fault>) -> bool {
-    match (one, other) {
-        (Ok(one), Ok(other)) => one.as_slice() == other.as_slice(),
-        (Err(one), Err(other)) => *one == *other,
-        _ => false,
-    }
+/// The canonical bytes of an accepted file, by its document.
+fn canonical_of(alloc: Global, accepted: &Accepted<'_>) -> Result<Vec<u8>, AllocError> {
+    let document = accepted.document(alloc)?;
+    let edition = Settings::new().edition();
+    canonical_bytes_in(alloc, edition, &document, accepted.index())
 }
 
-/// Appends what a feed ends with: the canonical bytes, or the fault; twice where the second time it is another.
-fn push_end(alloc: Global, feed: &Feed, answer: &mut Vec<u8>) -> Result<(), AllocError> {
-    answer.extend_from_slice(b"finish: ")?;
-    let first = finished(alloc, Settings::new(), feed)?;
-    let again = finished(alloc, Settings::new(), feed)?;
+/// Says what a feed ends with: the canonical bytes, or the fault; twice where the second time it is another.
+fn say_end(alloc: Global, feed: &Feed, answer: &mut Answer) {
+    answer.say("finish: ");
+    let first = written(alloc, feed.finish_as(alloc, Settings::new()));
+    let again = written(alloc, feed.finish_as(alloc, Settings::new()));
     if !are_same(&first, &again) {
-        answer.extend_from_slice(b"not the same when it is called again, but first ")?;
+        answer.say("not the same when it is called again, but first ");
     }
     match feed.finish(alloc) {
         Ok(accepted) => {
-            let document = accepted.document(alloc)?;
-            let edition = Settings::new().edition();
-            let text = canonical_bytes_in(alloc, edition, &document, accepted.index())?;
-            answer.extend_from_slice(&text)
+            if let Some(text) = answer.given(canonical_of(alloc, &accepted)) {
+                answer.say_bytes(&text);
+            }
         }
         Err(fault) => {
-            push_fault(alloc, &fault, answer)?;
-            answer.push(b'\n')?;
-            Ok(())
+            say_fault(answer, fault);
+            answer.say("\n");
         }
     }
 }
 
 /// What each piece is answered, and the end. The byte 0 parts the pieces; of an empty argument there are none.
-pub(crate) fn answer_pieces(
-    alloc: Global,
-    argument: &[u8],
-    answer: &mut Vec<u8>,
-) -> Result<(), AllocError> {
+pub(crate) fn answer_pieces(alloc: Global, argument: &[u8], answer: &mut Answer) {
     let mut feed = Feed::new(alloc);
     if !argument.is_empty() {
         for piece in argument.split(|byte| *byte == 0) {
             match feed.piece(piece) {
-                Ok(()) => answer.extend_from_slice(b"Ok")?,
-                Err(fault) => push_fault(alloc, &fault, answer)?,
+                Ok(()) => answer.say("Ok"),
+                Err(fault) => say_fault(answer, fault),
             }
-            answer.push(b'\n')?;
+            answer.say("\n");
         }
     }
-    push_end(alloc, &feed, answer)
+    say_end(alloc, &feed, answer);
 }

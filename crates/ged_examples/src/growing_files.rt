@@ -1,324 +1,310 @@
 // The calls that grow and are made on a whole file, or on the document of one.
-use crate::agreement::push_outcome;
-use crate::growing::{Made, made_bytes, made_document, made_fault, made_lines, made_notices, text};
+use crate::agreement::say_outcome;
+use crate::answers::Answer;
+use crate::growing::{
+    say_made_bytes, say_made_document, say_made_fault, say_made_lines, say_made_notices, say_memory,
+};
 use crate::growths::Marks;
 use ged_canon::{canonical_bytes_in, canonical_in, write_document};
 use ged_link::{Index, LinkFault, one_way, resolve};
 use ged_schema::unlisted;
 use ged_tool::{
-    Accepted, Command, Fault, Input, Outcome, Output, SameFault, Settings, Which, accept,
-    accept_as, canonicalise_as, notices, run_as, run_same_as, same_as, show_text,
+    Accepted, Command, Fault, Input, Outcome, Output, SameFault, Settings, accept, accept_as,
+    canonicalise_as, notices, run_as, run_same_as, same_as, show_text,
 };
-use ged_tree::{Document, flatten, to_lines};
-use std::alloc::{AllocError, Global};
-use std::io;
-use std::io::Write;
+use ged_tree::{Document, document_of, flatten, to_lines};
+use std::alloc::Global;
 
 /// More bytes than any file here has.
 const LIMIT: u64 = 1_073_741_824;
 
-/// Makes a call on an accepted file, its document or its index.
-pub(crate) fn call_of_accepted<E: Write>(
+/// Makes a call that judges whole files; false where there is none of this name.
+pub(crate) fn call_of_file(
     alloc: Global,
     settings: Settings,
     name: &str,
     file: &[u8],
-    marks: &mut Marks<E>,
-) -> io::Result<Made> {
-    let accepted = match accept(alloc, file) {
-        Ok(accepted) => accepted,
-        Err(fault) => return made_fault(alloc, fault),
-    };
-    if name == "resolve" {
-        return call_resolve(alloc, file, &accepted, marks);
+    marks: &mut Marks,
+    answer: &mut Answer,
+) -> bool {
+    match name {
+        "accept" => call_accept(alloc, settings, file, marks, answer),
+        "canonicalise" => call_canonicalise(alloc, settings, file, marks, answer),
+        "same" => call_same(alloc, settings, file, marks, answer),
+        "run_lines" => call_run(alloc, settings, Command::Lines, file, marks, answer),
+        "run_check" => call_run(alloc, settings, Command::Check, file, marks, answer),
+        "run_show" => call_run(alloc, settings, Command::Show, file, marks, answer),
+        "run_canon" => call_run(alloc, settings, Command::Canon, file, marks, answer),
+        "run_same" => call_run_same(alloc, settings, file, marks, answer),
+        "resolve" => call_resolve(alloc, file, marks, answer),
+        _ => return false,
     }
-    if matches!(name, "canonical_in" | "canonical_bytes_in" | "one_way") {
-        return call_of_index(alloc, settings, name, &accepted, marks);
-    }
-    if matches!(name, "Accepted::document" | "notices" | "show_text") {
-        return call_of_table(alloc, name, &accepted, marks);
-    }
-    call_of_document(alloc, name, &accepted, marks)
+    true
 }
 
-/// Makes a call that is handed an accepted file.
-fn call_of_table<E: Write>(
+/// Makes a call on an accepted file, its document or its index; false where there is none of this name.
+pub(crate) fn call_of_accepted(
+    alloc: Global,
+    settings: Settings,
+    name: &str,
+    file: &[u8],
+    marks: &mut Marks,
+    answer: &mut Answer,
+) -> bool {
+    match accept(alloc, file) {
+        Ok(accepted) => {
+            call_of_table(alloc, name, &accepted, marks, answer)
+                || call_of_trees(alloc, settings, name, &accepted, marks, answer)
+        }
+        Err(fault) => {
+            say_made_fault(answer, fault);
+            true
+        }
+    }
+}
+
+/// Makes a call that is handed an accepted file; false where there is none of this name.
+fn call_of_table(
     alloc: Global,
     name: &str,
     accepted: &Accepted<'_>,
-    marks: &mut Marks<E>,
-) -> io::Result<Made> {
+    marks: &mut Marks,
+    answer: &mut Answer,
+) -> bool {
     match name {
-        "notices" => call_notices(alloc, accepted, marks),
-        "show_text" => call_show_text(alloc, accepted, marks),
-        _ => call_document(alloc, accepted, marks),
+        "Accepted::document" => {
+            marks.begin();
+            let made = accepted.document(alloc);
+            marks.end();
+            say_made_document(alloc, answer, made);
+        }
+        "notices" => {
+            marks.begin();
+            let made = notices(alloc, accepted);
+            marks.end();
+            say_made_notices(answer, made);
+        }
+        "show_text" => {
+            marks.begin();
+            let made = show_text(alloc, accepted);
+            marks.end();
+            say_made_bytes(answer, made);
+        }
+        _ => return false,
     }
+    true
 }
 
-/// Makes a call that is handed a document and its index.
-fn call_of_index<E: Write>(
+/// Makes a call that is handed a document, or a document and its index; false where there is none of this name.
+fn call_of_trees(
     alloc: Global,
     settings: Settings,
     name: &str,
     accepted: &Accepted<'_>,
-    marks: &mut Marks<E>,
-) -> io::Result<Made> {
+    marks: &mut Marks,
+    answer: &mut Answer,
+) -> bool {
+    let Ok(document) = accepted.document(alloc) else {
+        answer.lack_memory();
+        return true;
+    };
+    let (edition, index) = (settings.edition(), accepted.index());
     match name {
-        "canonical_in" => call_canonical(alloc, settings, accepted, marks),
-        "canonical_bytes_in" => call_canonical_bytes(alloc, settings, accepted, marks),
-        _ => call_one_way(alloc, accepted, marks),
+        "canonical_in" => {
+            marks.begin();
+            let made = canonical_in(alloc, edition, &document, index);
+            marks.end();
+            say_made_document(alloc, answer, made);
+        }
+        "canonical_bytes_in" => {
+            marks.begin();
+            let made = canonical_bytes_in(alloc, edition, &document, index);
+            marks.end();
+            say_made_bytes(answer, made);
+        }
+        "one_way" => {
+            marks.begin();
+            let made = one_way(alloc, &document, index);
+            marks.end();
+            say_made_notices(answer, made);
+        }
+        _ => return call_of_document(alloc, name, &document, marks, answer),
     }
+    true
 }
 
-fn call_of_document<E: Write>(
+/// Makes a call that is handed a document alone; false where there is none of this name.
+fn call_of_document(
     alloc: Global,
     name: &str,
-    accepted: &Accepted<'_>,
-    marks: &mut Marks<E>,
-) -> io::Result<Made> {
-    let document = accepted.document(alloc)?;
+    document: &Document,
+    marks: &mut Marks,
+    answer: &mut Answer,
+) -> bool {
     match name {
         "to_lines" => {
-            marks.begin()?;
-            let answered = to_lines(alloc, &document);
-            marks.end()?;
-            made_lines(alloc, answered)
+            marks.begin();
+            let made = to_lines(alloc, document);
+            marks.end();
+            say_made_lines(alloc, answer, made);
         }
         "Document::copy" => {
-            marks.begin()?;
-            let answered = document.copy(alloc);
-            marks.end()?;
-            made_document(alloc, answered)
+            marks.begin();
+            let made = document.copy(alloc);
+            marks.end();
+            say_made_document(alloc, answer, made);
         }
         "write_document" => {
-            marks.begin()?;
-            let answered = write_document(alloc, &document);
-            marks.end()?;
-            made_bytes(answered)
+            marks.begin();
+            let made = write_document(alloc, document);
+            marks.end();
+            say_made_bytes(answer, made);
         }
         "unlisted" => {
-            marks.begin()?;
-            let answered = unlisted(alloc, &document);
-            marks.end()?;
-            made_notices(alloc, answered)
+            marks.begin();
+            let made = unlisted(alloc, document);
+            marks.end();
+            say_made_notices(answer, made);
         }
-        _ => Err(io::Error::from(io::ErrorKind::InvalidInput)),
+        _ => return false,
     }
-}
-
-fn call_document<E: Write>(
-    alloc: Global,
-    accepted: &Accepted<'_>,
-    marks: &mut Marks<E>,
-) -> io::Result<Made> {
-    marks.begin()?;
-    let answered = accepted.document(alloc);
-    marks.end()?;
-    made_document(alloc, answered)
-}
-
-fn call_notices<E: Write>(
-    alloc: Global,
-    accepted: &Accepted<'_>,
-    marks: &mut Marks<E>,
-) -> io::Result<Made> {
-    marks.begin()?;
-    let answered = notices(alloc, accepted);
-    marks.end()?;
-    made_notices(alloc, answered)
-}
-
-fn call_show_text<E: Write>(
-    alloc: Global,
-    accepted: &Accepted<'_>,
-    marks: &mut Marks<E>,
-) -> io::Result<Made> {
-    marks.begin()?;
-    let answered = show_text(alloc, accepted);
-    marks.end()?;
-    made_bytes(answered)
-}
-
-fn call_one_way<E: Write>(
-    alloc: Global,
-    accepted: &Accepted<'_>,
-    marks: &mut Marks<E>,
-) -> io::Result<Made> {
-    let document = accepted.document(alloc)?;
-    let index = accepted.index();
-    marks.begin()?;
-    let answered = one_way(alloc, &document, index);
-    marks.end()?;
-    made_notices(alloc, answered)
+    true
 }
 
 /// The records of an index that have a name, each with its number and whether it is used.
-fn made_index(alloc: Global, document: &Document, index: &Index) -> io::Result<Made> {
-    let mut told = Vec::new(alloc);
+fn say_index(answer: &mut Answer, document: &Document, index: &Index) {
     for record in document.records() {
         if let Some(xref) = &record.xref {
             let number = index.record_of(xref).unwrap_or(0);
-            let used = index.is_used(number);
-            let words = format!(in alloc; "{number} {used};")?;
-            told.extend_from_slice(words.as_bytes())?;
+            answer.say_number(number as u64);
+            answer.say(" ");
+            answer.say_truth(index.is_used(number));
+            answer.say(";");
         }
     }
-    Ok(Made::Text(told))
 }
 
-fn call_resolve<E: Write>(
-    alloc: Global,
-    file: &[u8],
-    accepted: &Accepted<'_>,
-    marks: &mut Marks<E>,
-) -> io::Result<Made> {
+fn call_resolve(alloc: Global, file: &[u8], marks: &mut Marks, answer: &mut Answer) {
     let Ok(flat) = flatten(alloc, file) else {
-        return text(alloc, b"a fault");
+        return answer.say("a fault");
     };
-    marks.begin()?;
-    let answered = resolve(alloc, &flat);
-    marks.end()?;
-    match answered {
-        Ok(index) => made_index(alloc, &accepted.document(alloc)?, &index),
-        Err(LinkFault::Memory(_)) => Ok(Made::Memory(None)),
-        Err(_) => text(alloc, b"a fault"),
+    marks.begin();
+    let made = resolve(alloc, &flat);
+    marks.end();
+    match made {
+        Ok(index) => {
+            if let Some(document) = answer.given(document_of(alloc, &flat)) {
+                say_index(answer, &document, &index);
+            }
+        }
+        Err(LinkFault::Memory(_)) => say_memory(answer, None),
+        Err(_) => answer.say("a fault"),
     }
 }
 
-fn call_canonical<E: Write>(
-    alloc: Global,
-    settings: Settings,
-    accepted: &Accepted<'_>,
-    marks: &mut Marks<E>,
-) -> io::Result<Made> {
-    let document = accepted.document(alloc)?;
-    let (edition, index) = (settings.edition(), accepted.index());
-    marks.begin()?;
-    let answered = canonical_in(alloc, edition, &document, index);
-    marks.end()?;
-    made_document(alloc, answered)
-}
-
-fn call_canonical_bytes<E: Write>(
-    alloc: Global,
-    settings: Settings,
-    accepted: &Accepted<'_>,
-    marks: &mut Marks<E>,
-) -> io::Result<Made> {
-    let document = accepted.document(alloc)?;
-    let (edition, index) = (settings.edition(), accepted.index());
-    marks.begin()?;
-    let answered = canonical_bytes_in(alloc, edition, &document, index);
-    marks.end()?;
-    made_bytes(answered)
-}
-
-pub(crate) fn call_accept<E: Write>(
+fn call_accept(
     alloc: Global,
     settings: Settings,
     file: &[u8],
-    marks: &mut Marks<E>,
-) -> io::Result<Made> {
-    marks.begin()?;
-    let answered = accept_as(alloc, settings, file);
-    marks.end()?;
-    match answered {
-        Ok(accepted) => made_document(alloc, accepted.document(alloc)),
-        Err(fault) => made_fault(alloc, fault),
+    marks: &mut Marks,
+    answer: &mut Answer,
+) {
+    marks.begin();
+    let made = accept_as(alloc, settings, file);
+    marks.end();
+    match made {
+        Ok(accepted) => say_made_document(alloc, answer, accepted.document(alloc)),
+        Err(fault) => say_made_fault(answer, fault),
     }
 }
 
-pub(crate) fn call_canonicalise<E: Write>(
+fn call_canonicalise(
     alloc: Global,
     settings: Settings,
     file: &[u8],
-    marks: &mut Marks<E>,
-) -> io::Result<Made> {
-    marks.begin()?;
-    let answered = canonicalise_as(alloc, settings, file);
-    marks.end()?;
-    match answered {
-        Ok(bytes) => Ok(Made::Text(bytes)),
-        Err(fault) => made_fault(alloc, fault),
+    marks: &mut Marks,
+    answer: &mut Answer,
+) {
+    marks.begin();
+    let made = canonicalise_as(alloc, settings, file);
+    marks.end();
+    match made {
+        Ok(bytes) => answer.say_bytes(&bytes),
+        Err(fault) => say_made_fault(answer, fault),
     }
 }
 
 /// Compares a file with itself.
-pub(crate) fn call_same<E: Write>(
+fn call_same(
     alloc: Global,
     settings: Settings,
     file: &[u8],
-    marks: &mut Marks<E>,
-) -> io::Result<Made> {
-    marks.begin()?;
-    let answered = same_as(alloc, settings, file, file);
-    marks.end()?;
-    match answered {
-        Ok(true) => text(alloc, b"true"),
-        Ok(false) => text(alloc, b"false"),
-        Err(
-            SameFault {
-                which,
-                fault: Fault::Memory(_),
-            },
-        ) => Ok(Made::Memory(Some(which))),
-        Err(at) => made_fault(alloc, at.fault),
+    marks: &mut Marks,
+    answer: &mut Answer,
+) {
+    marks.begin();
+    let made = same_as(alloc, settings, file, file);
+    marks.end();
+    match made {
+        Ok(is_same) => answer.say_truth(is_same),
+        Err(SameFault { which, fault }) => match fault {
+            Fault::Memory(_) => say_memory(answer, Some(which)),
+            _ => say_made_fault(answer, fault),
+        },
     }
 }
 
 /// How many bytes a run can write.
 const ROOM: usize = 4096;
 
-/// What a run ended with, and wrote into some room, of which so much is left.
-fn made_outcome(alloc: Global, outcome: Outcome, room: &[u8], left: usize) -> io::Result<Made> {
-    let length = ROOM.saturating_sub(left);
-    if let Outcome::Failed {
-        which,
-        fault: Fault::Memory(_),
-    } = outcome
-    {
-        if length == 0 {
-            return Ok(Made::Memory(which));
+/// Says what a run ended with, and wrote.
+fn say_run(answer: &mut Answer, outcome: Outcome, written: &[u8]) {
+    match outcome {
+        Outcome::Failed {
+            which,
+            fault: Fault::Memory(_),
+        } if written.is_empty() => say_memory(answer, which),
+        _ => {
+            say_outcome(answer, outcome);
+            answer.say_bytes(written);
         }
     }
-    let mut told = Vec::new(alloc);
-    push_outcome(alloc, &outcome, &mut told)?;
-    told.extend_from_slice(room.get(..length).unwrap_or(b""))?;
-    Ok(Made::Text(told))
 }
 
-pub(crate) fn call_run<E: Write>(
+fn call_run(
     alloc: Global,
     settings: Settings,
     command: Command,
     file: &[u8],
-    marks: &mut Marks<E>,
-) -> io::Result<Made> {
-    let mut room = vec![in alloc; 0u8; ROOM]?;
+    marks: &mut Marks,
+    answer: &mut Answer,
+) {
+    let mut room = [0u8; ROOM];
     let mut left = room.as_mut_slice();
     let mut reader = Input::new(file);
     let mut writer = Output::new(&mut left);
-    marks.begin()?;
+    marks.begin();
     let outcome = run_as(alloc, settings, LIMIT, command, &mut reader, &mut writer);
-    marks.end()?;
-    let left = left.len();
-    made_outcome(alloc, outcome, &room, left)
+    marks.end();
+    let length = ROOM.saturating_sub(left.len());
+    say_run(answer, outcome, room.get(..length).unwrap_or(b""));
 }
 
 /// Compares a file with itself by a run.
-pub(crate) fn call_run_same<E: Write>(
+fn call_run_same(
     alloc: Global,
     settings: Settings,
     file: &[u8],
-    marks: &mut Marks<E>,
-) -> io::Result<Made> {
-    let mut room = vec![in alloc; 0u8; ROOM]?;
+    marks: &mut Marks,
+    answer: &mut Answer,
+) {
+    let mut room = [0u8; ROOM];
     let mut left = room.as_mut_slice();
     let (mut first, mut second) = (Input::new(file), Input::new(file));
     let mut writer = Output::new(&mut left);
-    marks.begin()?;
+    marks.begin();
     let outcome = run_same_as(alloc, settings, LIMIT, &mut first, &mut second, &mut writer);
-    marks.end()?;
-    let left = left.len();
-    made_outcome(alloc, outcome, &room, left)
+    marks.end();
+    let length = ROOM.saturating_sub(left.len());
+    say_run(answer, outcome, room.get(..length).unwrap_or(b""));
 }

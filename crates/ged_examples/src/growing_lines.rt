@@ -1,68 +1,56 @@
 // The calls that grow and are made on one line.
-use crate::growing::{Made, text};
+use crate::answers::Answer;
+use crate::growing::say_memory;
 use crate::growths::Marks;
 use ged_line::{
-    LineView, ParseFault, Tag, ValueView, Xref, parse_line, view_line, write_line, write_view,
+    Line, LineView, ParseFault, Tag, ValueView, Xref, parse_line, view_line, write_line, write_view,
 };
 use std::alloc::{AllocError, Global};
-use std::io;
-use std::io::Write;
 
 /// Makes a call on a line, where that has what the call asks for.
-pub(crate) fn call_of_line<E: Write>(
+pub(crate) fn call_of_line(
     alloc: Global,
     name: &str,
     piece: &[u8],
-    marks: &mut Marks<E>,
-) -> io::Result<Made> {
+    marks: &mut Marks,
+    answer: &mut Answer,
+) {
     let Ok(view) = view_line(piece) else {
-        return text(alloc, b"no line");
+        return answer.say("no line");
     };
     match name {
-        "Tag::read" => call_read_tag(alloc, &view, marks),
-        "Tag::copy" => call_copy_tag(alloc, &view, marks),
-        "Xref::read" => call_read_xref(alloc, &view, marks),
-        "Xref::copy" => call_copy_xref(alloc, &view, marks),
-        "parse_line" => call_parse_line(alloc, piece, marks),
-        "write_line" => call_write_line(alloc, piece, marks),
-        _ => call_write_view(alloc, &view, marks),
+        "Tag::read" => call_read_tag(alloc, &view, marks, answer),
+        "Tag::copy" => call_copy_tag(alloc, &view, marks, answer),
+        "Xref::read" => call_read_xref(alloc, &view, marks, answer),
+        "Xref::copy" => call_copy_xref(alloc, &view, marks, answer),
+        "parse_line" => call_parse_line(alloc, piece, marks, answer),
+        "write_line" => call_write_line(alloc, piece, marks, answer),
+        _ => call_write_view(alloc, &view, marks, answer),
     }
 }
 
-fn made_tag(alloc: Global, answered: Result<Option<Tag>, AllocError>) -> io::Result<Made> {
-    match answered {
-        Ok(Some(tag)) => text(alloc, tag.as_str().as_bytes()),
-        Ok(None) => text(alloc, b"no tag"),
-        Err(AllocError) => Ok(Made::Memory(None)),
+fn call_read_tag(alloc: Global, view: &LineView<'_>, marks: &mut Marks, answer: &mut Answer) {
+    marks.begin();
+    let made = Tag::read(alloc, view.tag());
+    marks.end();
+    match made {
+        Ok(Some(tag)) => answer.say(tag.as_str()),
+        Ok(None) => answer.say("no tag"),
+        Err(_) => say_memory(answer, None),
     }
 }
 
-fn call_read_tag<E: Write>(
-    alloc: Global,
-    view: &LineView<'_>,
-    marks: &mut Marks<E>,
-) -> io::Result<Made> {
-    marks.begin()?;
-    let answered = Tag::read(alloc, view.tag());
-    marks.end()?;
-    made_tag(alloc, answered)
-}
-
-fn call_copy_tag<E: Write>(
-    alloc: Global,
-    view: &LineView<'_>,
-    marks: &mut Marks<E>,
-) -> io::Result<Made> {
-    let Some(tag) = Tag::read(alloc, view.tag())? else {
-        return text(alloc, b"no tag");
+fn call_copy_tag(alloc: Global, view: &LineView<'_>, marks: &mut Marks, answer: &mut Answer) {
+    let Some(Some(tag)) = answer.given(Tag::read(alloc, view.tag())) else {
+        return answer.say("no tag");
     };
-    marks.begin()?;
-    let answered = tag.copy(alloc);
-    marks.end()?;
-    match answered {
-        Ok(copy) if copy == tag => text(alloc, copy.as_str().as_bytes()),
-        Ok(_) => text(alloc, b"another tag"),
-        Err(AllocError) => Ok(Made::Memory(None)),
+    marks.begin();
+    let made = tag.copy(alloc);
+    marks.end();
+    match made {
+        Ok(copy) if copy == tag => answer.say(copy.as_str()),
+        Ok(_) => answer.say("another tag"),
+        Err(_) => say_memory(answer, None),
     }
 }
 
@@ -75,97 +63,80 @@ fn name_of<'a>(view: &LineView<'a>) -> &'a str {
     }
 }
 
-fn made_xref(alloc: Global, answered: Result<Option<Xref>, AllocError>) -> io::Result<Made> {
-    match answered {
-        Ok(Some(xref)) => text(alloc, xref.as_str().as_bytes()),
-        Ok(None) => text(alloc, b"no identifier"),
-        Err(AllocError) => Ok(Made::Memory(None)),
-    }
-}
-
-fn call_read_xref<E: Write>(
-    alloc: Global,
-    view: &LineView<'_>,
-    marks: &mut Marks<E>,
-) -> io::Result<Made> {
+fn call_read_xref(alloc: Global, view: &LineView<'_>, marks: &mut Marks, answer: &mut Answer) {
     let name = name_of(view);
-    marks.begin()?;
-    let answered = Xref::read(alloc, name);
-    marks.end()?;
-    made_xref(alloc, answered)
-}
-
-fn call_copy_xref<E: Write>(
-    alloc: Global,
-    view: &LineView<'_>,
-    marks: &mut Marks<E>,
-) -> io::Result<Made> {
-    let Some(xref) = Xref::read(alloc, name_of(view))? else {
-        return text(alloc, b"no identifier");
-    };
-    marks.begin()?;
-    let answered = xref.copy(alloc);
-    marks.end()?;
-    match answered {
-        Ok(copy) if copy == xref => text(alloc, copy.as_str().as_bytes()),
-        Ok(_) => text(alloc, b"another identifier"),
-        Err(AllocError) => Ok(Made::Memory(None)),
+    marks.begin();
+    let made = Xref::read(alloc, name);
+    marks.end();
+    match made {
+        Ok(Some(xref)) => answer.say(xref.as_str()),
+        Ok(None) => answer.say("no identifier"),
+        Err(_) => say_memory(answer, None),
     }
 }
 
-fn call_parse_line<E: Write>(
-    alloc: Global,
-    piece: &[u8],
-    marks: &mut Marks<E>,
-) -> io::Result<Made> {
-    marks.begin()?;
-    let answered = parse_line(alloc, piece);
-    marks.end()?;
-    match answered {
+fn call_copy_xref(alloc: Global, view: &LineView<'_>, marks: &mut Marks, answer: &mut Answer) {
+    let Some(Some(xref)) = answer.given(Xref::read(alloc, name_of(view))) else {
+        return answer.say("no identifier");
+    };
+    marks.begin();
+    let made = xref.copy(alloc);
+    marks.end();
+    match made {
+        Ok(copy) if copy == xref => answer.say(copy.as_str()),
+        Ok(_) => answer.say("another identifier"),
+        Err(_) => say_memory(answer, None),
+    }
+}
+
+fn call_parse_line(alloc: Global, piece: &[u8], marks: &mut Marks, answer: &mut Answer) {
+    marks.begin();
+    let made = parse_line(alloc, piece);
+    marks.end();
+    match made {
         Ok(line) => {
-            let mut out = Vec::new(alloc);
-            write_line(&line, &mut out)?;
-            Ok(Made::Text(out))
+            let done = write_line(&line, &mut answer.bytes);
+            answer.note(done);
         }
-        Err(ParseFault::Bad(_)) => text(alloc, b"a fault"),
-        Err(ParseFault::Memory(_)) => Ok(Made::Memory(None)),
+        Err(ParseFault::Bad(_)) => answer.say("a fault"),
+        Err(ParseFault::Memory(_)) => say_memory(answer, None),
     }
 }
 
-fn call_write_line<E: Write>(
-    alloc: Global,
-    piece: &[u8],
-    marks: &mut Marks<E>,
-) -> io::Result<Made> {
-    let line = match parse_line(alloc, piece) {
-        Ok(line) => line,
-        Err(ParseFault::Bad(_)) => return text(alloc, b"a fault"),
-        Err(ParseFault::Memory(error)) => return Err(error.into()),
+fn call_write_line(alloc: Global, piece: &[u8], marks: &mut Marks, answer: &mut Answer) {
+    match parse_line(alloc, piece) {
+        Ok(line) => write_one_line(alloc, &line, marks, answer),
+        Err(ParseFault::Bad(_)) => answer.say("a fault"),
+        Err(ParseFault::Memory(_)) => answer.lack_memory(),
+    }
+}
+
+fn write_one_line(alloc: Global, line: &Line, marks: &mut Marks, answer: &mut Answer) {
+    let Ok(mut out) = Vec::from_slice(alloc, KEPT) else {
+        return answer.lack_memory();
     };
-    let mut out = Vec::from_slice(alloc, KEPT)?;
-    marks.begin()?;
-    let answered = write_line(&line, &mut out);
-    marks.end()?;
-    made_appended(answered, out)
+    marks.begin();
+    let made = write_line(line, &mut out);
+    marks.end();
+    say_appended(answer, made, &out);
 }
 
-fn call_write_view<E: Write>(
-    alloc: Global,
-    view: &LineView<'_>,
-    marks: &mut Marks<E>,
-) -> io::Result<Made> {
-    let mut out = Vec::from_slice(alloc, KEPT)?;
-    marks.begin()?;
-    let answered = write_view(view, &mut out);
-    marks.end()?;
-    made_appended(answered, out)
+fn call_write_view(alloc: Global, view: &LineView<'_>, marks: &mut Marks, answer: &mut Answer) {
+    let Ok(mut out) = Vec::from_slice(alloc, KEPT) else {
+        return answer.lack_memory();
+    };
+    marks.begin();
+    let made = write_view(view, &mut out);
+    marks.end();
+    say_appended(answer, made, &out);
 }
 
-/// What a call answered that appends to some bytes, which it must leave as they were where it finds no memory.
-fn made_appended(answered: Result<(), AllocError>, out: Vec<u8>) -> io::Result<Made> {
-    match answered {
-        Err(AllocError) if out.as_slice() == KEPT => Ok(Made::Memory(None)),
-        _ => Ok(Made::Text(out)),
+/// Says what a call gave that appends to some bytes, which it must leave as they were where it finds no memory.
+fn say_appended(answer: &mut Answer, made: Result<(), AllocError>, out: &[u8]) {
+    if made.is_err() && out == KEPT {
+        say_memory(answer, None);
+    } else {
+        answer.say_bytes(out);
     }
 }
 

@@ -6,12 +6,12 @@
 // a refusal by the mark `refuse growth N`, and ends the call by `growths end`, each a line of its own. Between them it
 // takes no memory but the call's. Behind them it tells how the call answered:
 // `memory`, `usual` for the answer that it gives with memory, or `other`. Nothing is refused where nobody heeds the marks.
-use crate::growing::{Made, is_of_lines, make_call};
+use crate::answers::Answer;
+use crate::growing::{MEMORY_WORDS, is_of_lines, make_call};
 use ged_line::split_pieces;
-use ged_tool::Which;
 use std::alloc::Global;
 use std::io;
-use std::io::{Cursor, Write};
+use std::io::{Cursor, Stderr, Write};
 
 /// Which growth of a call is to be refused.
 #[derive(Clone, Copy)]
@@ -21,106 +21,143 @@ pub(crate) enum Refused {
     Each,
 }
 
-/// Standard error, as the place of the marks.
+/// Standard error, as the place of the marks. It remembers whether it failed.
 #[derive(Drop)]
-pub(crate) struct Marks<E> {
-    errors: E,
+pub(crate) struct Marks {
+    errors: Stderr,
     refused: Refused,
+    written: io::Result<()>,
 }
 
-impl<E: Write> Marks<E> {
-    pub(crate) fn new(errors: E) -> Marks<E> {
+impl Marks {
+    pub(crate) fn new(errors: Stderr) -> Marks {
         Marks {
             errors,
             refused: Refused::None,
+            written: Ok(()),
         }
     }
 
+    /// The first error of standard error, if it had any.
+    pub(crate) fn finish(self) -> io::Result<()> {
+        self.written
+    }
+
+    fn tell_bytes(&mut self, line: &[u8]) {
+        if self.written.is_ok() {
+            self.written = self.errors.write_all(line);
+        }
+    }
+
+    fn tell(&mut self, line: &str) {
+        self.tell_bytes(line.as_bytes());
+    }
+
     /// Says that the call begins. Takes no memory.
-    pub(crate) fn begin(&mut self) -> io::Result<()> {
+    pub(crate) fn begin(&mut self) {
         match self.refused {
-            Refused::None => self.errors.write_all(b"refuse growth 0\n"),
-            Refused::One(number) => self.tell_number("refuse growth", number),
-            Refused::Each => self.errors.write_all(b"refuse growths\n"),
+            Refused::None => self.tell("refuse growth 0\n"),
+            Refused::One(number) => self.refuse(number),
+            Refused::Each => self.tell("refuse growths\n"),
         }
     }
 
     /// Says that the call is over. Takes no memory.
-    pub(crate) fn end(&mut self) -> io::Result<()> {
-        self.errors.write_all(b"growths end\n")
+    pub(crate) fn end(&mut self) {
+        self.tell("growths end\n");
     }
 
-    /// Writes words and a number as one line, by one write. Takes no memory.
-    fn tell_number(&mut self, words: &str, number: u32) -> io::Result<()> {
+    /// Asks for the refusal of a growth, by one write. Takes no memory.
+    fn refuse(&mut self, number: u32) {
         let mut line = Cursor::new([0u8; 40]);
-        writeln!(line, "{words} {number}")?;
-        let length = line.position() as usize;
-        self.errors.write_all(&line.get_ref()[..length.min(40)])
-    }
-
-    fn tell(&mut self, line: &str) -> io::Result<()> {
-        self.errors.write_all(line.as_bytes())
+        if writeln!(line, "refuse growth {number}").is_ok() {
+            let length = line.position() as usize;
+            self.tell_bytes(&line.get_ref()[..length.min(40)]);
+        }
     }
 }
 
 /// The most growths that a call may make, so that one without end is told.
 const MOST: u32 = 5000;
 
-/// How a call answered, beside its usual answer.
-fn word(made: &Made, usual: &[u8]) -> &'static str {
-    match made {
-        Made::Memory(None) => "memory\n",
-        Made::Memory(Some(Which::First)) => "memory first\n",
-        Made::Memory(Some(Which::Second)) => "memory second\n",
-        Made::Text(text) if text.as_slice() == usual => "usual\n",
-        Made::Text(_) => "other\n",
+/// What a call is, and what it is made on.
+#[derive(Clone, Copy)]
+struct Call<'a> {
+    name: &'a str,
+    bytes: &'a [u8],
+}
+
+/// What a call answers. An error says that there is no such call, or that memory was wanting outside the call.
+fn made(alloc: Global, call: Call<'_>, marks: &mut Marks) -> io::Result<Vec<u8>> {
+    let mut answer = Answer::new(alloc);
+    if !make_call(alloc, call.name, call.bytes, marks, &mut answer) {
+        return Err(io::Error::from(io::ErrorKind::InvalidInput));
     }
+    Ok(answer.into_bytes()?)
+}
+
+/// The word for want of memory that a call answered, as a line.
+fn memory_word(answered: &[u8]) -> Option<&'static str> {
+    for (word, line) in MEMORY_WORDS {
+        if answered == word.as_bytes() {
+            return Some(line);
+        }
+    }
+    None
+}
+
+/// Makes a call, and tells how it answers, beside its usual answer. Whether it answers so is given.
+fn tell_call(
+    alloc: Global,
+    call: Call<'_>,
+    refused: Refused,
+    usual: &[u8],
+    marks: &mut Marks,
+) -> io::Result<bool> {
+    marks.refused = refused;
+    let answered = made(alloc, call, marks)?;
+    let is_usual = answered.as_slice() == usual;
+    let other = if is_usual { "usual\n" } else { "other\n" };
+    marks.tell(memory_word(&answered).unwrap_or(other));
+    Ok(is_usual)
 }
 
 /// Makes a call with each of its growths refused.
-fn refuse_each<E: Write>(
-    alloc: Global,
-    call: &str,
-    bytes: &[u8],
-    marks: &mut Marks<E>,
-) -> io::Result<()> {
+fn refuse_each(alloc: Global, call: Call<'_>, marks: &mut Marks) -> io::Result<()> {
     marks.refused = Refused::None;
-    let Made::Text(usual) = make_call(alloc, call, bytes, marks)? else {
-        return marks.tell("memory without cause\n");
-    };
+    let usual = made(alloc, call, marks)?;
+    if memory_word(&usual).is_some() {
+        marks.tell("memory without cause\n");
+        return Ok(());
+    }
     for number in 1..=MOST {
-        marks.refused = Refused::One(number);
-        let told = word(&make_call(alloc, call, bytes, marks)?, &usual);
-        marks.tell(told)?;
-        marks.refused = Refused::None;
-        let again = word(&make_call(alloc, call, bytes, marks)?, &usual);
-        marks.tell(again)?;
-        if told == "usual\n" {
+        let is_usual = tell_call(alloc, call, Refused::One(number), &usual, marks)?;
+        tell_call(alloc, call, Refused::None, &usual, marks)?;
+        if is_usual {
             break;
         }
     }
-    marks.refused = Refused::Each;
-    let told = word(&make_call(alloc, call, bytes, marks)?, &usual);
-    marks.tell(told)
+    tell_call(alloc, call, Refused::Each, &usual, marks)?;
+    Ok(())
 }
 
 /// Makes a call on each file, or on each line of each file, with each of its growths refused.
-pub(crate) fn refuse_growths<E: Write>(
+pub(crate) fn refuse_growths(
     alloc: Global,
-    call: &str,
+    name: &str,
     files: &[Vec<u8>],
-    marks: &mut Marks<E>,
+    marks: &mut Marks,
 ) -> io::Result<()> {
     for file in files {
-        marks.tell("file\n")?;
-        if is_of_lines(call) {
-            for piece in split_pieces(file) {
-                marks.tell("part\n")?;
-                refuse_each(alloc, call, piece, marks)?;
-            }
-        } else {
-            marks.tell("part\n")?;
-            refuse_each(alloc, call, file, marks)?;
+        marks.tell("file\n");
+        if !is_of_lines(name) {
+            marks.tell("part\n");
+            refuse_each(alloc, Call { name, bytes: file }, marks)?;
+            continue;
+        }
+        for bytes in split_pieces(file) {
+            marks.tell("part\n");
+            refuse_each(alloc, Call { name, bytes }, marks)?;
         }
     }
     Ok(())

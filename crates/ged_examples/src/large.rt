@@ -1,118 +1,133 @@
 // Long files that are made here, since no row could have them: many records, names, pointers and siblings, and many
 // bytes.
+use crate::answers::Answer;
 use ged_tool::{accept, canonicalise};
-use std::alloc::{AllocError, Global};
+use std::alloc::Global;
 
-const HEADER: &[u8] = b"0 HEAD\n1 GEDC\n2 VERS 7.0\n";
+const HEADER: &str = "0 HEAD\n1 GEDC\n2 VERS 7.0\n";
 
-const TRAILER: &[u8] = b"0 TRLR\n";
+const TRAILER: &str = "0 TRLR\n";
 
-const MARK: &[u8] = b"\xEF\xBB\xBF";
+/// A part of a long line.
+const FIFTY: &str = "xxxxxxxxxxxxxxxxxxxxxxxxxxxxxxxxxxxxxxxxxxxxxxxxxx";
 
-/// Whether a call is about files that are made here. Its argument is how many records or siblings, or how many lines, they
-/// have.
-pub(crate) fn is_large(name: &str) -> bool {
-    matches!(name, "couples" | "siblings" | "long")
-}
+const MARK: &str = "\u{FEFF}";
 
 /// A file, and the canonical bytes that it has to have.
 #[derive(Drop)]
 struct Pair {
-    file: Vec<u8>,
-    canonical: Vec<u8>,
+    file: Answer,
+    canonical: Answer,
 }
 
-fn start_pair(alloc: Global) -> Result<Pair, AllocError> {
-    let mut canonical = Vec::from_slice(alloc, MARK)?;
-    canonical.extend_from_slice(HEADER)?;
-    let file = Vec::from_slice(alloc, HEADER)?;
-    Ok(Pair { file, canonical })
-}
-
-/// Answers whether a file with so many of them is accepted, and has its canonical bytes.
-pub(crate) fn answer_large(
-    alloc: Global,
-    name: &str,
-    argument: &[u8],
-    answer: &mut Vec<u8>,
-) -> Result<(), AllocError> {
+/// Answers a call on a file that is made here, of as many records, siblings or lines as the argument tells, or none where that is
+/// no number: whether it is
+/// accepted, and has its canonical bytes. False where there is no call of this name.
+pub(crate) fn answer(alloc: Global, call: &str, argument: &[u8], answer: &mut Answer) -> bool {
     let text = std::str::from_utf8(argument).unwrap_or("");
-    let Ok(count) = text.parse::<u32>() else {
-        return answer.extend_from_slice(b"no number");
+    let count = text.parse::<u32>().unwrap_or(0);
+    let mut pair = Pair {
+        file: Answer::new(alloc),
+        canonical: Answer::new(alloc),
     };
-    let mut pair = start_pair(alloc)?;
-    match name {
-        "couples" => push_couples(alloc, count, &mut pair)?,
-        "siblings" => push_siblings(count, &mut pair)?,
-        _ => push_long_lines(alloc, count, &mut pair)?,
+    pair.file.say(HEADER);
+    pair.canonical.say(MARK);
+    pair.canonical.say(HEADER);
+    match call {
+        "couples" => say_couples(u64::from(count), &mut pair),
+        "siblings" => say_siblings(count, &mut pair),
+        "long" => {
+            say_long_lines(&mut pair.file, count);
+            say_long_lines(&mut pair.canonical, count);
+        }
+        _ => return false,
     }
-    pair.file.extend_from_slice(TRAILER)?;
-    pair.canonical.extend_from_slice(TRAILER)?;
-    tell_pair(alloc, &pair, answer)
+    pair.file.say(TRAILER);
+    pair.canonical.say(TRAILER);
+    tell_pair(alloc, pair, answer);
+    true
 }
 
-fn tell_pair(alloc: Global, pair: &Pair, answer: &mut Vec<u8>) -> Result<(), AllocError> {
-    let accepted = accept(alloc, &pair.file).is_ok();
-    let canonical = match canonicalise(alloc, &pair.file) {
-        Ok(text) => text.as_slice() == pair.canonical.as_slice(),
-        Err(_) => false,
+fn tell_pair(alloc: Global, pair: Pair, answer: &mut Answer) {
+    let Pair { file, canonical } = pair;
+    let (Ok(file), Ok(canonical)) = (file.into_bytes(), canonical.into_bytes()) else {
+        return answer.lack_memory();
     };
-    let bytes = pair.canonical.len();
-    let told = format!(in alloc; "accepted={accepted} canonical={canonical} bytes={bytes}")?;
-    answer.extend_from_slice(told.as_bytes())
+    answer.say("accepted=");
+    answer.say_truth(accept(alloc, &file).is_ok());
+    answer.say(" canonical=");
+    answer.say_truth(is_canonical(alloc, &file, &canonical));
+    answer.say(" bytes=");
+    answer.say_number(canonical.len() as u64);
+}
+
+/// Whether a file has these canonical bytes.
+fn is_canonical(alloc: Global, file: &[u8], wanted: &[u8]) -> bool {
+    match canonicalise(alloc, file) {
+        Ok(text) => text.as_slice() == wanted,
+        Err(_) => false,
+    }
+}
+
+/// Says a record with one pointer.
+fn say_record(out: &mut Answer, start: &str, number: u64, link: &str, target: u64) {
+    out.say(start);
+    out.say_number(number);
+    out.say(link);
+    out.say_number(target);
+    out.say("@\n");
 }
 
 /// So many persons, each with a family of its own. The families are put before the persons, so the family of the first
 /// person is X1, and this person comes behind all families.
-fn push_couples(alloc: Global, count: u32, pair: &mut Pair) -> Result<(), AllocError> {
+fn say_couples(count: u64, pair: &mut Pair) {
     for number in 0..count {
-        let person = format!(in alloc; "0 @P{number}@ INDI\n1 FAMS @F{number}@\n")?;
-        pair.file.extend_from_slice(person.as_bytes())?;
-        let family = format!(in alloc; "0 @F{number}@ FAM\n1 HUSB @P{number}@\n")?;
-        pair.file.extend_from_slice(family.as_bytes())?;
+        say_record(&mut pair.file, "0 @P", number, "@ INDI\n1 FAMS @F", number);
+        say_record(&mut pair.file, "0 @F", number, "@ FAM\n1 HUSB @P", number);
     }
-    let count = u64::from(count);
     for number in 1..=count {
         let person = number.saturating_add(count);
-        let family = format!(in alloc; "0 @X{number}@ FAM\n1 HUSB @X{person}@\n")?;
-        pair.canonical.extend_from_slice(family.as_bytes())?;
+        say_record(
+            &mut pair.canonical,
+            "0 @X",
+            number,
+            "@ FAM\n1 HUSB @X",
+            person,
+        );
     }
     for number in 1..=count {
-        let own = number.saturating_add(count);
-        let person = format!(in alloc; "0 @X{own}@ INDI\n1 FAMS @X{number}@\n")?;
-        pair.canonical.extend_from_slice(person.as_bytes())?;
+        let person = number.saturating_add(count);
+        say_record(
+            &mut pair.canonical,
+            "0 @X",
+            person,
+            "@ INDI\n1 FAMS @X",
+            number,
+        );
     }
-    Ok(())
+}
+
+fn say_often(out: &mut Answer, count: u32, text: &str) {
+    for _ in 0..count {
+        out.say(text);
+    }
 }
 
 /// A record with so many pairs of substructures, of two tags in turn.
-fn push_siblings(count: u32, pair: &mut Pair) -> Result<(), AllocError> {
-    pair.file.extend_from_slice(b"0 INDI\n")?;
-    pair.canonical.extend_from_slice(b"0 INDI\n")?;
-    for _ in 0..count {
-        pair.file.extend_from_slice(b"1 _B\n1 _A\n")?;
-    }
-    for _ in 0..count {
-        pair.canonical.extend_from_slice(b"1 _A\n")?;
-    }
-    for _ in 0..count {
-        pair.canonical.extend_from_slice(b"1 _B\n")?;
-    }
-    Ok(())
+fn say_siblings(count: u32, pair: &mut Pair) {
+    pair.file.say("0 INDI\n");
+    say_often(&mut pair.file, count, "1 _B\n1 _A\n");
+    pair.canonical.say("0 INDI\n");
+    say_often(&mut pair.canonical, count, "1 _A\n");
+    say_often(&mut pair.canonical, count, "1 _B\n");
 }
 
 /// A note of so many lines, of 1,000 characters each.
-fn push_long_lines(alloc: Global, count: u32, pair: &mut Pair) -> Result<(), AllocError> {
-    let mut line = Vec::from_slice(alloc, b"2 CONT ")?;
-    for _ in 0..1000 {
-        line.push(b'x')?;
-    }
-    line.push(b'\n')?;
-    pair.file.extend_from_slice(b"1 NOTE\n")?;
-    pair.canonical.extend_from_slice(b"1 NOTE\n")?;
+fn say_long_lines(out: &mut Answer, count: u32) {
+    out.say("1 NOTE\n");
     for _ in 0..count {
-        pair.file.extend_from_slice(&line)?;
-        pair.canonical.extend_from_slice(&line)?;
+        out.say("2 CONT ");
+        say_often(out, 20, FIFTY);
+        out.say("\n");
     }
-    Ok(())
 }

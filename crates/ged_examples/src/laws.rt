@@ -1,5 +1,5 @@
 // The laws of `ged_line` and `ged_tree`, which are functions that do nothing and return.
-use crate::saying::say;
+use crate::answers::Answer;
 use ged_line::{line_or_fault, one_cut, one_line, one_reading, spelling_spells, written_is_read};
 use ged_tree::{
     are_lines, begins_on_line, counted_lines, document_or_fault, document_or_fault_of_file,
@@ -7,21 +7,16 @@ use ged_tree::{
     listed_at_place, next_line, none_shared, one_document, one_fault_in_file, one_first_fault,
     one_for_each_place, one_list, one_place, pass_is_document,
 };
-use std::alloc::AllocError;
 
 /// Answers a call on an argument; false where this module has no call of this name.
-pub(crate) fn answer(
-    call: &str,
-    argument: &[u8],
-    answer: &mut Vec<u8>,
-) -> Result<bool, AllocError> {
+pub(crate) fn answer(call: &str, argument: &[u8], answer: &mut Answer) -> bool {
     match call {
         "laws_of_lines" => call_laws_of_lines(argument),
         "laws_of_trees" => call_laws_of_trees(argument),
-        _ => return Ok(false),
+        _ => return false,
     }
-    say(answer, "returned")?;
-    Ok(true)
+    answer.say("returned");
+    true
 }
 
 fn call_laws_of_lines(piece: &[u8]) {

@@ -1,275 +1,284 @@
 // Calls of `ged_line`, each under its name there.
+use crate::answers::Answer;
 use crate::parts::{Parts, read_parts, say_line, say_line_fault, say_view};
-use crate::saying::{say, say_number, say_order, say_truth};
 use ged_line::{
-    LineAt, LineView, ParseFault, RespellFault, Tag, Text, Xref, first_line, is_plain, parse_line,
-    read_lines, respell_lines, split_pieces, tag_order, text_behind_mark, view_line, view_lines,
-    view_text, write_head, write_line, write_lines, write_parts, write_view,
+    Line, LineAt, LineView, ParseFault, RespellFault, Tag, Text, Xref, first_line, is_plain,
+    parse_line, read_lines, respell_lines, split_pieces, tag_order, text_behind_mark, view_line,
+    view_lines, view_text, write_head, write_line, write_lines, write_parts, write_view,
 };
-use std::alloc::{AllocError, Global};
-use std::cmp::Ordering;
+use std::alloc::Global;
 use std::str;
 
 /// Answers a call on an argument; false where this module has no call of this name.
-pub(crate) fn answer(
-    alloc: Global,
-    call: &str,
-    argument: &[u8],
-    answer: &mut Vec<u8>,
-) -> Result<bool, AllocError> {
-    if answer_of_piece(alloc, call, argument, answer)?
-        || answer_of_file(alloc, call, argument, answer)?
+pub(crate) fn answer(alloc: Global, call: &str, argument: &[u8], answer: &mut Answer) -> bool {
+    if answer_of_piece(alloc, call, argument, answer)
+        || answer_of_file(alloc, call, argument, answer)
     {
-        return Ok(true);
+        return true;
     }
     let Ok(text) = str::from_utf8(argument) else {
-        return Ok(false);
+        return false;
     };
-    Ok(
-        answer_of_text(alloc, call, text, answer)?
-            || answer_of_names(alloc, call, text, answer)?
-            || answer_of_parts(alloc, call, text, answer)?,
-    )
+    answer_of_text(alloc, call, text, answer)
+        || answer_of_names(alloc, call, text, answer)
+        || answer_of_parts(alloc, call, text, answer)
 }
 
 /// Calls about a piece of a file.
-fn answer_of_piece(
-    alloc: Global,
-    call: &str,
-    piece: &[u8],
-    answer: &mut Vec<u8>,
-) -> Result<bool, AllocError> {
+fn answer_of_piece(alloc: Global, call: &str, piece: &[u8], answer: &mut Answer) -> bool {
     match call {
-        "view_line" => match view_line(piece) {
-            Ok(view) => say_view(alloc, answer, &view)?,
-            Err(fault) => say_line_fault(alloc, answer, fault)?,
-        },
-        "write_view" => match view_line(piece) {
-            Ok(view) => write_view(&view, answer)?,
-            Err(fault) => say_line_fault(alloc, answer, fault)?,
+        "view_line" | "write_view" => match view_line(piece) {
+            Ok(view) => say_of_view(call, &view, answer),
+            Err(fault) => say_line_fault(answer, fault),
         },
         "parse_line" | "write_line" | "Line::as_view" => match parse_line(alloc, piece) {
-            Ok(line) => match call {
-                "parse_line" => say_line(alloc, answer, &line)?,
-                "write_line" => write_line(&line, answer)?,
-                _ => say_view(alloc, answer, &line.as_view())?,
-            },
-            Err(ParseFault::Bad(fault)) => say_line_fault(alloc, answer, fault)?,
-            Err(ParseFault::Memory(error)) => return Err(error),
+            Ok(line) => say_of_line(call, &line, answer),
+            Err(ParseFault::Bad(fault)) => say_line_fault(answer, fault),
+            Err(ParseFault::Memory(_)) => answer.lack_memory(),
         },
-        _ => return Ok(false),
+        _ => return false,
     }
-    Ok(true)
+    true
 }
 
-fn say_line_at(alloc: Global, answer: &mut Vec<u8>, at: LineAt) -> Result<(), AllocError> {
-    say_line_fault(alloc, answer, at.fault)?;
-    say(answer, " at ")?;
-    say_number(alloc, answer, at.line)
+fn say_of_view(call: &str, view: &LineView<'_>, answer: &mut Answer) {
+    if call == "view_line" {
+        return say_view(answer, view);
+    }
+    let done = write_view(view, &mut answer.bytes);
+    answer.note(done);
+}
+
+fn say_of_line(call: &str, line: &Line, answer: &mut Answer) {
+    match call {
+        "parse_line" => say_line(answer, line),
+        "write_line" => {
+            let done = write_line(line, &mut answer.bytes);
+            answer.note(done);
+        }
+        _ => say_view(answer, &line.as_view()),
+    }
+}
+
+fn say_line_at(answer: &mut Answer, at: LineAt) {
+    say_line_fault(answer, at.fault);
+    answer.say(" at ");
+    answer.say_number(at.line);
 }
 
 /// Calls about a file.
-fn answer_of_file(
-    alloc: Global,
-    call: &str,
-    file: &[u8],
-    answer: &mut Vec<u8>,
-) -> Result<bool, AllocError> {
+fn answer_of_file(alloc: Global, call: &str, file: &[u8], answer: &mut Answer) -> bool {
     match call {
-        "split_pieces" => {
-            for piece in split_pieces(file) {
-                answer.extend_from_slice(piece)?;
-                answer.push(b'\n')?;
-            }
-        }
-        "read_lines" => say_lines(alloc, file, answer)?,
-        "write_lines" => {
-            let read = read_lines(alloc, file)?;
-            let written = write_lines(alloc, read.lines.as_slice())?;
-            answer.extend_from_slice(written.as_slice())?;
-        }
+        "split_pieces" => say_pieces(file, answer),
+        "read_lines" => say_lines(alloc, file, answer),
+        "write_lines" => say_written(alloc, file, answer),
         "respell_lines" => match respell_lines(alloc, file) {
-            Ok(text) => answer.extend_from_slice(text.as_slice())?,
-            Err(RespellFault::At(at)) => say_line_at(alloc, answer, at)?,
-            Err(RespellFault::Memory(error)) => return Err(error),
+            Ok(text) => answer.say_bytes(&text),
+            Err(RespellFault::At(at)) => say_line_at(answer, at),
+            Err(RespellFault::Memory(_)) => answer.lack_memory(),
         },
-        "view_lines" => say_levels(alloc, file, answer)?,
-        "SpelledLine::text" => say_texts(alloc, file, answer)?,
-        "text_behind_mark" => say(answer, text_behind_mark(file).unwrap_or("None"))?,
-        _ => return Ok(false),
+        "view_lines" => say_levels(file, answer),
+        "SpelledLine::text" => say_texts(file, answer),
+        "text_behind_mark" => answer.say(text_behind_mark(file).unwrap_or("None")),
+        _ => return false,
     }
-    Ok(true)
+    true
+}
+
+fn say_pieces(file: &[u8], answer: &mut Answer) {
+    for piece in split_pieces(file) {
+        answer.say_bytes(piece);
+        answer.say("\n");
+    }
 }
 
 /// The parts of each line that is read, one line for each, and where reading stopped.
-fn say_lines(alloc: Global, file: &[u8], answer: &mut Vec<u8>) -> Result<(), AllocError> {
-    let read = read_lines(alloc, file)?;
-    for line in read.lines.iter() {
-        say_line(alloc, answer, line)?;
-        answer.push(b'\n')?;
+fn say_lines(alloc: Global, file: &[u8], answer: &mut Answer) {
+    if let Some(read) = answer.given(read_lines(alloc, file)) {
+        for line in &read.lines {
+            say_line(answer, line);
+            answer.say("\n");
+        }
+        if let Some(at) = read.stop {
+            say_line_at(answer, at);
+        }
     }
-    if let Some(at) = read.stop {
-        say_line_at(alloc, answer, at)?;
+}
+
+/// The lines that are read, as they are written.
+fn say_written(alloc: Global, file: &[u8], answer: &mut Answer) {
+    if let Some(read) = answer.given(read_lines(alloc, file)) {
+        if let Some(written) = answer.given(write_lines(alloc, &read.lines)) {
+            answer.say_bytes(&written);
+        }
     }
-    Ok(())
 }
 
 /// The level of each line or its fault, one line for each.
-fn say_levels(alloc: Global, file: &[u8], answer: &mut Vec<u8>) -> Result<(), AllocError> {
+fn say_levels(file: &[u8], answer: &mut Answer) {
     for told in view_lines(file) {
         match told {
-            Ok(spelled) => say_number(alloc, answer, u64::from(spelled.line.level()))?,
-            Err(fault) => say_line_fault(alloc, answer, fault)?,
+            Ok(spelled) => answer.say_number(u64::from(spelled.line.level())),
+            Err(fault) => say_line_fault(answer, fault),
         }
-        answer.push(b'\n')?;
+        answer.say("\n");
     }
-    Ok(())
 }
 
 /// The text of each line or its fault, one line for each.
-fn say_texts(alloc: Global, file: &[u8], answer: &mut Vec<u8>) -> Result<(), AllocError> {
+fn say_texts(file: &[u8], answer: &mut Answer) {
     for told in view_lines(file) {
         match told {
-            Ok(spelled) => say(answer, spelled.text)?,
-            Err(fault) => say_line_fault(alloc, answer, fault)?,
+            Ok(spelled) => answer.say(spelled.text),
+            Err(fault) => say_line_fault(answer, fault),
         }
-        answer.push(b'\n')?;
+        answer.say("\n");
     }
-    Ok(())
 }
 
 /// Calls about a text.
-fn answer_of_text(
-    alloc: Global,
-    call: &str,
-    text: &str,
-    answer: &mut Vec<u8>,
-) -> Result<bool, AllocError> {
+fn answer_of_text(alloc: Global, call: &str, text: &str, answer: &mut Answer) -> bool {
     match call {
-        "is_plain" => say_truth(answer, is_plain(text))?,
+        "is_plain" => answer.say_truth(is_plain(text)),
         "view_text" if is_plain(text) => match view_text(text) {
-            Ok(view) => say_view(alloc, answer, &view)?,
-            Err(fault) => say_line_fault(alloc, answer, fault)?,
+            Ok(view) => say_view(answer, &view),
+            Err(fault) => say_line_fault(answer, fault),
         },
-        "first_line" => say_first_line(alloc, text, answer)?,
+        "first_line" => say_first_line(text, answer),
         "Text::copy" => {
-            let text = Text::from_string(String::from_str(alloc, text)?);
-            let copy = text.copy(alloc)?;
-            say(answer, if copy == text { "equal " } else { "other " })?;
-            say(answer, text.as_str())?;
-            answer.push(b' ')?;
-            say(answer, copy.into_string().as_str())?;
+            if let Some(own) = answer.given(String::from_str(alloc, text)) {
+                say_copy_of_text(alloc, &Text::from_string(own), answer);
+            }
         }
-        _ => return Ok(false),
+        _ => return false,
     }
-    Ok(true)
+    true
+}
+
+/// Whether a copy is the text, and both.
+fn say_copy_of_text(alloc: Global, text: &Text, answer: &mut Answer) {
+    if let Some(copy) = answer.given(text.copy(alloc)) {
+        answer.say(if copy == *text { "equal " } else { "other " });
+        answer.say(text.as_str());
+        answer.say(" ");
+        answer.say(copy.into_string().as_str());
+    }
 }
 
 /// The first line of a text by its parts and by its text, and what is behind it.
-fn say_first_line(alloc: Global, text: &str, answer: &mut Vec<u8>) -> Result<(), AllocError> {
+fn say_first_line(text: &str, answer: &mut Answer) {
     let Some((told, behind)) = first_line(text) else {
-        return say(answer, "None");
+        return answer.say("None");
     };
     match told {
         Ok(spelled) => {
-            say_view(alloc, answer, &spelled.line)?;
-            say(answer, " spelled=")?;
-            say(answer, spelled.text)?;
+            say_view(answer, &spelled.line);
+            answer.say(" spelled=");
+            answer.say(spelled.text);
         }
-        Err(fault) => say_line_fault(alloc, answer, fault)?,
+        Err(fault) => say_line_fault(answer, fault),
     }
-    say(answer, " behind=")?;
-    say(answer, behind)
+    answer.say(" behind=");
+    answer.say(behind);
 }
 
-/// Calls about a tag, an identifier, or two of them with a space between.
-fn answer_of_names(
-    alloc: Global,
-    call: &str,
-    text: &str,
-    answer: &mut Vec<u8>,
-) -> Result<bool, AllocError> {
+/// Calls about a tag, an identifier, or two tags with a space between.
+fn answer_of_names(alloc: Global, call: &str, text: &str, answer: &mut Answer) -> bool {
     match call {
-        "Tag::read" => match Tag::read(alloc, text)? {
-            Some(tag) => say(answer, tag.as_str())?,
-            None => say(answer, "None")?,
+        "Tag::read" | "Tag::copy" => match Tag::read(alloc, text) {
+            Ok(Some(tag)) => say_of_tag(alloc, call, &tag, answer),
+            Ok(None) => say_none_read(call, answer),
+            Err(_) => answer.lack_memory(),
         },
-        "Xref::read" => match Xref::read(alloc, text)? {
-            Some(name) => say(answer, name.as_str())?,
-            None => say(answer, "None")?,
+        "Xref::read" | "Xref::copy" => match Xref::read(alloc, text) {
+            Ok(Some(name)) => say_of_xref(alloc, call, &name, answer),
+            Ok(None) => say_none_read(call, answer),
+            Err(_) => answer.lack_memory(),
         },
-        "Tag::copy" => {
-            if let Some(tag) = Tag::read(alloc, text)? {
-                let copy = tag.copy(alloc)?;
-                say(answer, if copy == tag { "equal " } else { "other " })?;
-                say(answer, copy.as_str())?;
+        "Tag::order" | "tag_order" => {
+            if let Some((first, second)) = text.split_once(' ') {
+                say_order_of_tags(alloc, call, first, second, answer);
             }
         }
-        "Xref::copy" => {
-            if let Some(name) = Xref::read(alloc, text)? {
-                let copy = name.copy(alloc)?;
-                say(answer, if copy == name { "equal " } else { "other " })?;
-                say(answer, copy.as_str())?;
-            }
-        }
-        "Tag::order" | "tag_order" => say_order_of_tags(alloc, call, text, answer)?,
-        _ => return Ok(false),
+        _ => return false,
     }
-    Ok(true)
+    true
+}
+
+/// What is told of a text that is no tag or identifier: nothing of its copy.
+fn say_none_read(call: &str, answer: &mut Answer) {
+    if call.ends_with("::read") {
+        answer.say("None");
+    }
+}
+
+fn say_of_tag(alloc: Global, call: &str, tag: &Tag, answer: &mut Answer) {
+    if call == "Tag::read" {
+        return answer.say(tag.as_str());
+    }
+    if let Some(copy) = answer.given(tag.copy(alloc)) {
+        answer.say(if copy == *tag { "equal " } else { "other " });
+        answer.say(copy.as_str());
+    }
+}
+
+fn say_of_xref(alloc: Global, call: &str, name: &Xref, answer: &mut Answer) {
+    if call == "Xref::read" {
+        return answer.say(name.as_str());
+    }
+    if let Some(copy) = answer.given(name.copy(alloc)) {
+        answer.say(if copy == *name { "equal " } else { "other " });
+        answer.say(copy.as_str());
+    }
 }
 
 /// The order of two tags by one of the two calls that tell it.
-fn say_order_of_tags(
-    alloc: Global,
-    call: &str,
-    text: &str,
-    answer: &mut Vec<u8>,
-) -> Result<(), AllocError> {
-    let Some((first, second)) = text.split_once(' ') else {
-        return Ok(());
-    };
-    let (Some(tag), Some(other)) = (Tag::read(alloc, first)?, Tag::read(alloc, second)?) else {
-        return Ok(());
-    };
-    let order: Ordering = match call {
-        "Tag::order" => tag.order(&other),
-        _ => tag_order(tag.as_str(), other.as_str()),
-    };
-    say_order(answer, order)
+fn say_order_of_tags(alloc: Global, call: &str, first: &str, second: &str, answer: &mut Answer) {
+    let tag = answer.given(Tag::read(alloc, first)).flatten();
+    let other = answer.given(Tag::read(alloc, second)).flatten();
+    if let (Some(tag), Some(other)) = (tag, other) {
+        answer.say_order(match call {
+            "Tag::order" => tag.order(&other),
+            _ => tag_order(tag.as_str(), other.as_str()),
+        });
+    }
 }
 
 /// Calls about the parts of a line.
-fn answer_of_parts(
-    alloc: Global,
-    call: &str,
-    text: &str,
-    answer: &mut Vec<u8>,
-) -> Result<bool, AllocError> {
+fn answer_of_parts(alloc: Global, call: &str, text: &str, answer: &mut Answer) -> bool {
     let Some(parts) = read_parts(text) else {
-        return Ok(false);
+        return false;
     };
-    let Parts {
-        level,
-        xref,
-        tag,
-        value,
-    } = parts;
     match call {
-        "Line::new" => match parts.into_line(alloc)? {
-            Some(line) => say_line(alloc, answer, &line)?,
-            None => say(answer, "None")?,
+        "Line::new" => match parts.into_line(alloc) {
+            Ok(Some(line)) => say_line(answer, &line),
+            Ok(None) => answer.say("None"),
+            Err(_) => answer.lack_memory(),
         },
-        "LineView::new" => match LineView::new(level, xref, tag, value) {
-            Some(view) => say_view(alloc, answer, &view)?,
-            None => say(answer, "None")?,
+        "LineView::new" => match view_of(parts) {
+            Some(view) => say_view(answer, &view),
+            None => answer.say("None"),
         },
         "write_parts" => {
-            if let Some(view) = LineView::new(level, xref, tag, value) {
-                write_parts(view.level(), view.xref(), view.tag(), view.value(), answer)?;
+            if let Some(view) = view_of(parts) {
+                say_by_parts(&view, answer);
             }
         }
-        "write_head" if level <= 99 => write_head(level, xref, answer)?,
-        _ => return Ok(false),
+        "write_head" if parts.level <= 99 => {
+            let done = write_head(parts.level, parts.xref, &mut answer.bytes);
+            answer.note(done);
+        }
+        _ => return false,
     }
-    Ok(true)
+    true
+}
+
+fn view_of(parts: Parts<'_>) -> Option<LineView<'_>> {
+    LineView::new(parts.level, parts.xref, parts.tag, parts.value)
+}
+
+fn say_by_parts(view: &LineView<'_>, answer: &mut Answer) {
+    let (level, xref, tag, value) = (view.level(), view.xref(), view.tag(), view.value());
+    let done = write_parts(level, xref, tag, value, &mut answer.bytes);
+    answer.note(done);
 }

@@ -1,49 +1,53 @@
 // Documents that are made by hand. Their structures are told as in a file, with `;` between two of them and `/` between two
 // lines of a payload, and no character is refused.
+use crate::answers::Answer;
 use crate::forests::say_forest;
-use crate::saying::say;
 use crate::trees::say_lines_of;
 use ged_line::{Tag, Text, Xref};
 use ged_tree::{Document, Node, Payload, RecordNode, TextLines};
 use std::alloc::{AllocError, Global};
 
 /// Answers a call on a text; false where this module has no call of this name.
-pub(crate) fn answer(
-    alloc: Global,
-    call: &str,
-    text: &str,
-    answer: &mut Vec<u8>,
-) -> Result<bool, AllocError> {
+pub(crate) fn answer(alloc: Global, call: &str, text: &str, answer: &mut Answer) -> bool {
     match call {
-        "Document::new" => match make_document(alloc, text)? {
-            Some(document) => say_forest(alloc, &document, answer)?,
-            None => say(answer, "None")?,
+        "Document::new" | "Document::new/to_lines" => match make_document(alloc, text) {
+            Ok(Some(document)) => say_made(alloc, call, &document, answer),
+            Ok(None) => answer.say("None"),
+            Err(_) => answer.lack_memory(),
         },
-        "Document::new/to_lines" => match make_document(alloc, text)? {
-            Some(document) => say_lines_of(alloc, &document, answer)?,
-            None => say(answer, "None")?,
-        },
-        "TextLines::new" => say_text_lines(alloc, text, answer)?,
-        _ => return Ok(false),
+        "TextLines::new" => {
+            if let Some(lines) = answer.given(read_texts(alloc, text)) {
+                match TextLines::new(lines) {
+                    Some(made) => say_text_lines(alloc, made, answer),
+                    None => answer.say("None"),
+                }
+            }
+        }
+        _ => return false,
     }
-    Ok(true)
+    true
 }
 
-/// The lines of a copy of the text that the lines of a text are, by both ways to have them, or `None`.
-fn say_text_lines(alloc: Global, text: &str, answer: &mut Vec<u8>) -> Result<(), AllocError> {
-    let Some(made) = TextLines::new(read_texts(alloc, text)?) else {
-        return say(answer, "None");
-    };
-    let copy = made.copy(alloc)?;
-    for line in copy.as_slice() {
-        say(answer, line.as_str())?;
-        answer.push(b'/')?;
+fn say_made(alloc: Global, call: &str, document: &Document, answer: &mut Answer) {
+    if call == "Document::new" {
+        say_forest(document, answer);
+    } else {
+        say_lines_of(alloc, document, answer);
+    }
+}
+
+/// The lines of a copy of the text that the lines of a text are, by both ways to have them.
+fn say_text_lines(alloc: Global, made: TextLines, answer: &mut Answer) {
+    if let Some(copy) = answer.given(made.copy(alloc)) {
+        for line in copy.as_slice() {
+            answer.say(line.as_str());
+            answer.say("/");
+        }
     }
     for line in made.into_lines() {
-        answer.push(b' ')?;
-        say(answer, line.as_str())?;
+        answer.say(" ");
+        answer.say(line.as_str());
     }
-    Ok(())
 }
 
 /// The lines of a text, each but the last with `/` behind it; the empty text has none.

@@ -3,6 +3,7 @@
 #![tactic(auto)]
 
 mod agreement;
+mod answers;
 mod canon;
 mod devices;
 mod escapes;
@@ -25,7 +26,6 @@ mod questions;
 mod ranges;
 mod respelling;
 mod rows;
-mod saying;
 mod still;
 mod tables;
 mod trees;
@@ -33,9 +33,10 @@ mod values;
 mod ways;
 mod whole;
 
+use answers::Answer;
 use growths::{Marks, refuse_growths};
 use rows::{Tally, ask_rows};
-use std::alloc::{AllocError, Global};
+use std::alloc::Global;
 use std::process::ExitCode;
 use std::{env, fs, io};
 
@@ -66,49 +67,19 @@ fn refuse_growths_of(rt: &HostRuntime, call: &str, names: &[String]) -> io::Resu
     }
     let mut marks = Marks::new(rt.stderr());
     refuse_growths(rt.alloc(), call, files.as_slice(), &mut marks)?;
+    marks.finish()?;
     Ok(ExitCode::SUCCESS)
 }
 
 /// Answers a call on an argument; false where no module has a call of this name.
-fn answer_call(
-    alloc: Global,
-    call: &str,
-    argument: &[u8],
-    answer: &mut Vec<u8>,
-) -> Result<bool, AllocError> {
-    if lines::answer(alloc, call, argument, answer)? {
-        return Ok(true);
-    }
-    if laws::answer(call, argument, answer)? {
-        return Ok(true);
-    }
-    if trees::answer(alloc, call, argument, answer)? {
-        return Ok(true);
-    }
-    if values::answer(alloc, call, argument, answer)? {
-        return Ok(true);
-    }
-    if tables::answer(alloc, call, argument, answer)? {
-        return Ok(true);
-    }
-    if questions::answer(alloc, call, argument, answer)? {
-        return Ok(true);
-    }
-    if canon::answer(alloc, call, argument, answer)? {
-        return Ok(true);
-    }
-    answer_whole(alloc, call, argument, answer)
-}
-
-/// Answers a call on whole files; false where there is none of this name.
-fn answer_whole(
-    alloc: Global,
-    call: &str,
-    argument: &[u8],
-    answer: &mut Vec<u8>,
-) -> Result<bool, AllocError> {
-    if whole::answer(alloc, call, argument, answer)? {
-        return Ok(true);
-    }
-    devices::answer(alloc, call, argument, answer)
+fn answer_call(alloc: Global, call: &str, argument: &[u8], answer: &mut Answer) -> bool {
+    lines::answer(alloc, call, argument, answer)
+        || laws::answer(call, argument, answer)
+        || trees::answer(alloc, call, argument, answer)
+        || values::answer(alloc, call, argument, answer)
+        || tables::answer(alloc, call, argument, answer)
+        || questions::answer(alloc, call, argument, answer)
+        || canon::answer(alloc, call, argument, answer)
+        || whole::answer(alloc, call, argument, answer)
+        || devices::answer(alloc, call, argument, answer)
 }

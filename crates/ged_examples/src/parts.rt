@@ -1,6 +1,6 @@
 // The parts of a line, as rows have them: `level=1 xref=I1 tag=NOTE text=x`, where what a line does not have is left out, and
 // in place of a text may stand `void` or `pointer=F1`.
-use crate::saying::{say, say_number};
+use crate::answers::Answer;
 use ged_line::{Line, LineFault, LineValue, LineView, Tag, Text, ValueView, Xref};
 use std::alloc::{AllocError, Global};
 
@@ -47,72 +47,70 @@ fn read_value(text: &str) -> Option<ValueView<'_>> {
     Some(ValueView::Text(text.strip_prefix("text=")?))
 }
 
+/// The identifier of a name, if there is one; `None` where the name is none of an identifier.
+fn read_xref(alloc: Global, name: Option<&str>) -> Result<Option<Option<Xref>>, AllocError> {
+    match name {
+        Some(name) => Ok(Xref::read(alloc, name)?.map(Some)),
+        None => Ok(Some(None)),
+    }
+}
+
+/// The value that shows as a view; `None` where a pointer's name is none of an identifier.
+fn copy_value(alloc: Global, value: ValueView<'_>) -> Result<Option<LineValue>, AllocError> {
+    match value {
+        ValueView::Empty => Ok(Some(LineValue::Empty)),
+        ValueView::Void => Ok(Some(LineValue::Void)),
+        ValueView::Pointer(name) => Ok(Xref::read(alloc, name)?.map(LineValue::Pointer)),
+        ValueView::Text(text) => Ok(Some(LineValue::Text(Text::from_str(alloc, text)?))),
+    }
+}
+
 impl Parts<'_> {
     /// The line that is made of copies of the parts; `None` also where a name is none.
     pub(crate) fn into_line(self, alloc: Global) -> Result<Option<Line>, AllocError> {
-        let xref = match self.xref {
-            Some(name) => {
-                let Some(xref) = Xref::read(alloc, name)? else {
-                    return Ok(None);
-                };
-                Some(xref)
-            }
-            None => None,
-        };
-        let Some(tag) = Tag::read(alloc, self.tag)? else {
+        let (Some(xref), Some(tag), Some(value)) = (
+            read_xref(alloc, self.xref)?,
+            Tag::read(alloc, self.tag)?,
+            copy_value(alloc, self.value)?,
+        ) else {
             return Ok(None);
-        };
-        let value = match self.value {
-            ValueView::Empty => LineValue::Empty,
-            ValueView::Void => LineValue::Void,
-            ValueView::Pointer(name) => {
-                let Some(name) = Xref::read(alloc, name)? else {
-                    return Ok(None);
-                };
-                LineValue::Pointer(name)
-            }
-            ValueView::Text(text) => LineValue::Text(Text::from_str(alloc, text)?),
         };
         Ok(Line::new(self.level, xref, tag, value))
     }
 }
 
-fn say_parts(alloc: Global, answer: &mut Vec<u8>, parts: Parts<'_>) -> Result<(), AllocError> {
-    say(answer, "level=")?;
-    say_number(alloc, answer, u64::from(parts.level))?;
+fn say_parts(answer: &mut Answer, parts: Parts<'_>) {
+    answer.say("level=");
+    answer.say_number(u64::from(parts.level));
     if let Some(name) = parts.xref {
-        say(answer, " xref=")?;
-        say(answer, name)?;
+        answer.say(" xref=");
+        answer.say(name);
     }
-    say(answer, " tag=")?;
-    say(answer, parts.tag)?;
+    answer.say(" tag=");
+    answer.say(parts.tag);
     let (word, text) = match parts.value {
         ValueView::Empty => ("", ""),
         ValueView::Void => (" void", ""),
         ValueView::Pointer(name) => (" pointer=", name),
         ValueView::Text(text) => (" text=", text),
     };
-    say(answer, word)?;
-    say(answer, text)
+    answer.say(word);
+    answer.say(text);
 }
 
 /// The parts that a view shows.
-pub(crate) fn say_view(
-    alloc: Global,
-    answer: &mut Vec<u8>,
-    view: &LineView<'_>,
-) -> Result<(), AllocError> {
+pub(crate) fn say_view(answer: &mut Answer, view: &LineView<'_>) {
     let parts = Parts {
         level: view.level(),
         xref: view.xref(),
         tag: view.tag(),
         value: view.value(),
     };
-    say_parts(alloc, answer, parts)
+    say_parts(answer, parts);
 }
 
 /// The parts that a line shows.
-pub(crate) fn say_line(alloc: Global, answer: &mut Vec<u8>, line: &Line) -> Result<(), AllocError> {
+pub(crate) fn say_line(answer: &mut Answer, line: &Line) {
     let value = match line.value() {
         LineValue::Empty => ValueView::Empty,
         LineValue::Void => ValueView::Void,
@@ -125,17 +123,13 @@ pub(crate) fn say_line(alloc: Global, answer: &mut Vec<u8>, line: &Line) -> Resu
         tag: line.tag().as_str(),
         value,
     };
-    say_parts(alloc, answer, parts)
+    say_parts(answer, parts);
 }
 
 /// `F 3` is said of an empty line.
-pub(crate) fn say_line_fault(
-    alloc: Global,
-    answer: &mut Vec<u8>,
-    fault: LineFault,
-) -> Result<(), AllocError> {
-    say(answer, "F ")?;
-    say_number(alloc, answer, line_fault_number(fault))
+pub(crate) fn say_line_fault(answer: &mut Answer, fault: LineFault) {
+    answer.say("F ");
+    answer.say_number(line_fault_number(fault));
 }
 
 /// The number of a fault, from 1 on in the order in which they are told.

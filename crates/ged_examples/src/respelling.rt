@@ -2,14 +2,14 @@
 use crate::agreement::{Answered, Ways, add_runs, in_file};
 use ged_line::{RespellFault, read_lines, respell_lines, write_lines};
 use ged_tool::{Command, Fault, Settings};
-use std::alloc::{AllocError, Global};
+use std::alloc::Global;
 
 /// The lines of a file in their canonical spelling, as values that are read and written.
-fn lines_by_values(alloc: Global, file: &[u8]) -> Result<Answered, AllocError> {
-    let read = read_lines(alloc, file)?;
+fn lines_by_values(alloc: Global, file: &[u8]) -> Answered {
+    let read = read_lines(alloc, file).map_err(Fault::Memory)?;
     match read.stop {
-        Some(at) => Ok(Err(in_file(at.line, at.fault.into()))),
-        None => Ok(Ok(write_lines(alloc, read.lines.as_slice())?)),
+        Some(at) => Err(in_file(at.line, at.fault.into())),
+        None => write_lines(alloc, &read.lines).map_err(Fault::Memory),
     }
 }
 
@@ -22,13 +22,9 @@ fn respelled(alloc: Global, file: &[u8]) -> Answered {
 }
 
 /// The lines of a file in their canonical spelling, by each call that writes them.
-pub(crate) fn lines_ways(
-    alloc: Global,
-    settings: Settings,
-    file: &[u8],
-) -> Result<Ways, AllocError> {
+pub(crate) fn lines_ways(alloc: Global, settings: Settings, file: &[u8]) -> Ways {
     let mut ways = Ways::of(respelled(alloc, file));
-    ways.add("write_lines", lines_by_values(alloc, file)?);
-    add_runs(alloc, settings, Command::Lines, file, &mut ways)?;
-    Ok(ways)
+    ways.add("write_lines", lines_by_values(alloc, file));
+    add_runs(alloc, settings, Command::Lines, file, &mut ways);
+    ways
 }

@@ -1,5 +1,6 @@
 // Rows of data, each of which says what a call answers about a file or an argument.
 use crate::answer_call;
+use crate::answers::Answer;
 use crate::escapes::{escape, unescape};
 use std::alloc::{AllocError, Global};
 use std::io;
@@ -59,26 +60,29 @@ struct Asked {
 
 /// Asks a row's call; `None` where its texts cannot be read or no call has its name.
 fn ask(alloc: Global, row: &Row<'_>, file: &[u8]) -> Result<Option<Asked>, AllocError> {
-    let mut wanted = Vec::new(alloc);
-    let mut own = Vec::new(alloc);
-    if !unescape(alloc, row.wanted, &mut wanted)?
-        || !unescape(alloc, row.argument.unwrap_or(""), &mut own)?
+    let mut wanted = Answer::new(alloc);
+    let mut own = Answer::new(alloc);
+    if !unescape(alloc, row.wanted, &mut wanted)
+        || !unescape(alloc, row.argument.unwrap_or(""), &mut own)
     {
         return Ok(None);
     }
+    let wanted = wanted.into_bytes()?;
+    let own = own.into_bytes()?;
     let about = match row.argument {
         Some(_) => own.as_slice(),
         None => file,
     };
-    let mut got = Vec::new(alloc);
-    match answer_call(alloc, row.call, about, &mut got) {
-        Ok(true) => Ok(Some(Asked { wanted, got })),
-        Ok(false) => Ok(None),
-        Err(_) => {
-            let got = Vec::from_slice(alloc, b"Memory")?;
-            Ok(Some(Asked { wanted, got }))
-        }
+    let mut got = Answer::new(alloc);
+    if !answer_call(alloc, row.call, about, &mut got) {
+        return Ok(None);
     }
+    if got.lacks_memory() {
+        got = Answer::new(alloc);
+        got.say("Memory");
+    }
+    let got = got.into_bytes()?;
+    Ok(Some(Asked { wanted, got }))
 }
 
 /// Asks the row of a line, and tells it where it is answered otherwise.
@@ -132,11 +136,12 @@ pub(crate) fn ask_rows<R: Print + AllocGlobal>(
         }
         let place = format!(in rt.alloc(); "{name}:{number}")?;
         if let Some(escaped) = file_of(line) {
-            file.clear();
-            if !unescape(rt.alloc(), escaped, &mut file)? {
+            let mut meant = Answer::new(rt.alloc());
+            if !unescape(rt.alloc(), escaped, &mut meant) {
                 println!(rt; "FAILED {place}: an unknown escape")?;
                 tally.count(false);
             }
+            file = meant.into_bytes()?;
             continue;
         }
         let is_right = ask_line(rt, place.as_str(), line, file.as_slice())?;

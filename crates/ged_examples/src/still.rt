@@ -1,18 +1,17 @@
 // The calls that take no memory, whose answers are the same where every growth is refused.
 ghost use Rattle.ged_link.specs.Indexes.{IsIndexOf};
 
-use crate::growing::{Made, made_fault, text};
+use crate::answers::Answer;
+use crate::growing::say_made_fault;
 use crate::growths::Marks;
 use ged_canon::{Edition, is_normal_in};
 use ged_line::{LineFault, ParseFault, parse_line};
 use ged_link::Index;
 use ged_schema::check;
-use ged_tool::accept;
+use ged_tool::{Accepted, accept};
 use ged_tree::{Document, Flat, Forest, PayloadView, flatten};
 use ged_value::{Given, Kind, fits};
 use std::alloc::Global;
-use std::io;
-use std::io::Write;
 
 /// A number for many answers, in their order. It takes no memory.
 #[derive(Clone, Copy)]
@@ -76,7 +75,9 @@ fn add_forest<F: Forest>(forest: &F, digest: &mut Digest) {
         for number in 0..forest.further(place) {
             digest.add_text(forest.further_line(place, number));
         }
-        digest.add(forest.further_lines(place).count() as u64);
+        if let Some(further) = forest.further_lines(place) {
+            digest.add(further.count() as u64);
+        }
     }
 }
 
@@ -94,27 +95,32 @@ fn digest_of(document: &Document, index: &Index, flat: &Flat<'_>) -> u64
 }
 
 /// Makes all calls that take no memory on a file.
-pub(crate) fn no_growth<E: Write>(
+pub(crate) fn no_growth(alloc: Global, file: &[u8], marks: &mut Marks, answer: &mut Answer) {
+    match accept(alloc, file) {
+        Ok(accepted) => match flatten(alloc, file) {
+            Ok(flat) => call_still(alloc, &accepted, &flat, marks, answer),
+            Err(_) => answer.say("a fault"),
+        },
+        Err(fault) => say_made_fault(answer, fault),
+    }
+}
+
+fn call_still(
     alloc: Global,
-    file: &[u8],
-    marks: &mut Marks<E>,
-) -> io::Result<Made> {
-    let accepted = match accept(alloc, file) {
-        Ok(accepted) => accepted,
-        Err(fault) => return made_fault(alloc, fault),
+    accepted: &Accepted<'_>,
+    flat: &Flat<'_>,
+    marks: &mut Marks,
+    answer: &mut Answer,
+) {
+    let Ok(document) = accepted.document(alloc) else {
+        return answer.lack_memory();
     };
-    let Ok(flat) = flatten(alloc, file) else {
-        return text(alloc, b"a fault");
-    };
-    let document = accepted.document(alloc)?;
-    let index = accepted.index();
-    marks.begin()?;
+    marks.begin();
     let empty = parse_line(alloc, b"");
-    let digest = digest_of(&document, index, &flat);
-    marks.end()?;
-    let Err(ParseFault::Bad(LineFault::EmptyLine)) = empty else {
-        return text(alloc, b"the empty line has another fault");
-    };
-    let told = format!(in alloc; "{digest}")?;
-    text(alloc, told.as_bytes())
+    let digest = digest_of(&document, accepted.index(), flat);
+    marks.end();
+    match empty {
+        Err(ParseFault::Bad(LineFault::EmptyLine)) => answer.say_number(digest),
+        _ => answer.say("the empty line has another fault"),
+    }
 }

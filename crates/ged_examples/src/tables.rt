@@ -1,9 +1,9 @@
 // Calls of `ged_schema`: the rows of the tables, and what they find in a file, which any forest answers.
 ghost use Rattle.ged_link.specs.Indexes.{IsIndexOf};
 
-use crate::links::{say_notices, say_optional};
+use crate::answers::Answer;
+use crate::links::say_notices;
 use crate::questions::Question;
-use crate::saying::{say, say_fault, say_number};
 use ged_line::Tag;
 use ged_link::{Index, LinkFault, resolve};
 use ged_schema::{
@@ -13,7 +13,8 @@ use ged_schema::{
     rows, unlisted, unlisted_has_place,
 };
 use ged_tree::Forest;
-use std::alloc::{AllocError, Global};
+use std::alloc::Global;
+use std::io::Write;
 
 pub(crate) fn has_call(name: &str) -> bool {
     [
@@ -32,35 +33,28 @@ pub(crate) fn tell<F: Forest>(
     alloc: Global,
     question: Question<'_>,
     forest: &F,
-    told: &mut Vec<u8>,
-) -> Result<(), AllocError> {
+    told: &mut Answer,
+) {
     match question.name {
-        "unlisted" => say_notices(alloc, told, unlisted(alloc, forest)?.as_slice()),
-        "first_unlisted" => say_optional(alloc, told, first_unlisted(forest)),
+        "unlisted" => {
+            if let Some(notices) = told.given(unlisted(alloc, forest)) {
+                say_notices(told, &notices);
+            }
+        }
+        "first_unlisted" => told.say_optional(first_unlisted(forest)),
         _ => tell_resolved(alloc, question, forest, told),
     }
 }
 
-fn tell_resolved<F: Forest>(
-    alloc: Global,
-    question: Question<'_>,
-    forest: &F,
-    told: &mut Vec<u8>,
-) -> Result<(), AllocError> {
+fn tell_resolved<F: Forest>(alloc: Global, question: Question<'_>, forest: &F, told: &mut Answer) {
     match resolve(alloc, forest) {
-        Ok(index) => tell_index(alloc, question, forest, &index, told),
-        Err(LinkFault::Memory(error)) => Err(error),
-        Err(_) => say(told, "no index"),
+        Ok(index) => tell_index(question, forest, &index, told),
+        Err(LinkFault::Memory(_)) => told.lack_memory(),
+        Err(_) => told.say("no index"),
     }
 }
 
-fn tell_index<F: Forest>(
-    alloc: Global,
-    question: Question<'_>,
-    forest: &F,
-    index: &Index,
-    told: &mut Vec<u8>,
-) -> Result<(), AllocError>
+fn tell_index<F: Forest>(question: Question<'_>, forest: &F, index: &Index, told: &mut Answer)
     requires { IsIndexOf (F.trees forest.now) index.now }
 {
     let profile = match question.word {
@@ -68,12 +62,12 @@ fn tell_index<F: Forest>(
         _ => Profile::Lenient,
     };
     match question.name {
-        "check_tables" => say_judgment(alloc, told, check(forest, index)),
-        "check_as" => say_judgment(alloc, told, check_as(profile, forest, index)),
-        "check_coverage" => say_coverage(alloc, told, check_coverage(profile, forest, index)),
+        "check_tables" => say_judgment(told, check(forest, index)),
+        "check_as" => say_judgment(told, check_as(profile, forest, index)),
+        "check_coverage" => say_coverage(told, check_coverage(profile, forest, index)),
         _ => {
             state_laws(profile, forest, index);
-            say(told, "stated")
+            told.say("stated")
         }
     }
 }
@@ -90,136 +84,120 @@ fn fault_number(fault: SchemaFault) -> u64 {
     }
 }
 
-fn say_judgment(
-    alloc: Global,
-    told: &mut Vec<u8>,
-    judgment: Result<(), SchemaAt>,
-) -> Result<(), AllocError> {
+fn say_judgment(told: &mut Answer, judgment: Result<(), SchemaAt>) {
     match judgment {
-        Ok(()) => say(told, "Checked"),
-        Err(at) => say_fault(alloc, told, fault_number(at.fault), at.line),
+        Ok(()) => told.say("Checked"),
+        Err(at) => told.say_fault(fault_number(at.fault), at.line),
     }
 }
 
-fn say_coverage(
-    alloc: Global,
-    told: &mut Vec<u8>,
-    judgment: Result<Coverage, SchemaAt>,
-) -> Result<(), AllocError> {
+fn say_coverage(told: &mut Answer, judgment: Result<Coverage, SchemaAt>) {
     match judgment {
-        Ok(Coverage::Whole) => say(told, "Whole"),
-        Ok(Coverage::Partial) => say(told, "Partial"),
-        Err(at) => say_fault(alloc, told, fault_number(at.fault), at.line),
+        Ok(Coverage::Whole) => told.say("Whole"),
+        Ok(Coverage::Partial) => told.say("Partial"),
+        Err(at) => told.say_fault(fault_number(at.fault), at.line),
     }
 }
 
 /// Answers a call on an argument; false where this module has no call of this name.
-pub(crate) fn answer(
-    alloc: Global,
-    call: &str,
-    argument: &[u8],
-    answer: &mut Vec<u8>,
-) -> Result<bool, AllocError> {
+pub(crate) fn answer(alloc: Global, call: &str, argument: &[u8], answer: &mut Answer) -> bool {
     let Ok(text) = str::from_utf8(argument) else {
-        return Ok(false);
+        return false;
     };
     let (word, name) = text.split_once(' ').unwrap_or((text, ""));
-    let Some(context) = context_named(word) else {
-        return Ok(false);
+    let Some((_, context)) = CONTEXTS.iter().find(|(name, _)| *name == word) else {
+        return false;
     };
     match call {
-        "rows" => say_rows(alloc, context, answer)?,
-        "lookup" => say_found(alloc, answer, found_by_tag(alloc, context, name)?.as_ref())?,
-        "lookup_name" => say_found(alloc, answer, lookup_name(context, name).as_ref())?,
-        "ContextRows::row" => say_found(alloc, answer, ContextRows::of(context).row(name))?,
-        _ => return Ok(false),
+        "rows" => say_rows(*context, answer),
+        "lookup" => match Tag::read(alloc, name) {
+            Ok(tag) => {
+                let found = tag.and_then(|tag| lookup(*context, &tag));
+                say_found(answer, found.as_ref());
+            }
+            Err(_) => answer.lack_memory(),
+        },
+        "lookup_name" => say_found(answer, lookup_name(*context, name).as_ref()),
+        "ContextRows::row" => say_found(answer, ContextRows::of(*context).row(name)),
+        _ => return false,
     }
-    Ok(true)
+    true
 }
 
-fn found_by_tag(alloc: Global, context: Context, name: &str) -> Result<Option<Rule>, AllocError> {
-    match Tag::read(alloc, name)? {
-        Some(tag) => Ok(lookup(context, &tag)),
-        None => Ok(None),
-    }
-}
-
-fn say_rows(alloc: Global, context: Context, answer: &mut Vec<u8>) -> Result<(), AllocError> {
+fn say_rows(context: Context, answer: &mut Answer) {
     for rule in rows(context) {
-        say_rule(alloc, answer, rule)?;
-        say(answer, "\n")?;
+        say_rule(answer, rule);
+        answer.say("\n");
     }
-    Ok(())
 }
 
-fn say_found(alloc: Global, answer: &mut Vec<u8>, rule: Option<&Rule>) -> Result<(), AllocError> {
+fn say_found(answer: &mut Answer, rule: Option<&Rule>) {
     match rule {
-        Some(rule) => say_rule(alloc, answer, rule),
-        None => say(answer, "None"),
+        Some(rule) => say_rule(answer, rule),
+        None => answer.say("None"),
     }
 }
 
 /// Says a row as the tables write it.
-fn say_rule(alloc: Global, answer: &mut Vec<u8>, rule: &Rule) -> Result<(), AllocError> {
-    say(answer, rule.tag)?;
-    say(answer, " ")?;
-    say_number(alloc, answer, u64::from(rule.least))?;
-    say(answer, ":")?;
+fn say_rule(answer: &mut Answer, rule: &Rule) {
+    answer.say(rule.tag);
+    answer.say(" ");
+    answer.say_number(u64::from(rule.least));
+    answer.say(":");
     match rule.most {
-        Some(most) => say_number(alloc, answer, u64::from(most))?,
-        None => say(answer, "M")?,
+        Some(most) => answer.say_number(u64::from(most)),
+        None => answer.say("M"),
     }
-    say(answer, " ")?;
-    say(answer, rule.kind.word())?;
-    say_context(alloc, answer, rule.below)
+    answer.say(" ");
+    answer.say(rule.kind.word());
+    answer.say(" ");
+    say_context(answer, rule.below);
 }
 
-/// Says a context behind a space.
-fn say_context(alloc: Global, answer: &mut Vec<u8>, context: Context) -> Result<(), AllocError> {
-    let word = format!(in alloc; " {context:?}")?;
-    say(answer, word.as_str())
+fn say_context(answer: &mut Answer, context: Context) {
+    let done = write!(answer.bytes, "{context:?}");
+    if done.is_err() {
+        answer.lack_memory();
+    }
 }
 
-fn context_named(name: &str) -> Option<Context> {
-    let context = match name {
-        "File" => Context::File,
-        "Head" => Context::Head,
-        "Gedc" => Context::Gedc,
-        "Schma" => Context::Schma,
-        "HeadSour" => Context::HeadSour,
-        "HeadData" => Context::HeadData,
-        "HeadPlac" => Context::HeadPlac,
-        "DateTime" => Context::DateTime,
-        "DateMore" => Context::DateMore,
-        "Phrase" => Context::Phrase,
-        "Typed" => Context::Typed,
-        "Indi" => Context::Indi,
-        "IndiFact" => Context::IndiFact,
-        "IndiNamed" => Context::IndiNamed,
-        "IndiBirth" => Context::IndiBirth,
-        "IndiAdop" => Context::IndiAdop,
-        "AdopFamc" => Context::AdopFamc,
-        "IndiFamc" => Context::IndiFamc,
-        "Notes" => Context::Notes,
-        "NameMore" => Context::NameMore,
-        "NameTran" => Context::NameTran,
-        "Fam" => Context::Fam,
-        "FamFact" => Context::FamFact,
-        "FamNamed" => Context::FamNamed,
-        "FamAge" => Context::FamAge,
-        "NonEvent" => Context::NonEvent,
-        "Chan" => Context::Chan,
-        "Crea" => Context::Crea,
-        "Asso" => Context::Asso,
-        "Cite" => Context::Cite,
-        "CiteData" => Context::CiteData,
-        "Note" => Context::Note,
-        "Leaf" => Context::Leaf,
-        "Unchecked" => Context::Unchecked,
-        _ => return None,
-    };
-    Some(context)
-}
+/// The contexts by their names.
+const CONTEXTS: [(&str, Context); 34] = [
+    ("File", Context::File),
+    ("Head", Context::Head),
+    ("Gedc", Context::Gedc),
+    ("Schma", Context::Schma),
+    ("HeadSour", Context::HeadSour),
+    ("HeadData", Context::HeadData),
+    ("HeadPlac", Context::HeadPlac),
+    ("DateTime", Context::DateTime),
+    ("DateMore", Context::DateMore),
+    ("Phrase", Context::Phrase),
+    ("Typed", Context::Typed),
+    ("Indi", Context::Indi),
+    ("IndiFact", Context::IndiFact),
+    ("IndiNamed", Context::IndiNamed),
+    ("IndiBirth", Context::IndiBirth),
+    ("IndiAdop", Context::IndiAdop),
+    ("AdopFamc", Context::AdopFamc),
+    ("IndiFamc", Context::IndiFamc),
+    ("Notes", Context::Notes),
+    ("NameMore", Context::NameMore),
+    ("NameTran", Context::NameTran),
+    ("Fam", Context::Fam),
+    ("FamFact", Context::FamFact),
+    ("FamNamed", Context::FamNamed),
+    ("FamAge", Context::FamAge),
+    ("NonEvent", Context::NonEvent),
+    ("Chan", Context::Chan),
+    ("Crea", Context::Crea),
+    ("Asso", Context::Asso),
+    ("Cite", Context::Cite),
+    ("CiteData", Context::CiteData),
+    ("Note", Context::Note),
+    ("Leaf", Context::Leaf),
+    ("Unchecked", Context::Unchecked),
+];
 
 /// Calls each law of the definitions once: their contracts are proved, and they change nothing.
 fn state_laws<F: Forest>(profile: Profile, forest: &F, index: &Index)

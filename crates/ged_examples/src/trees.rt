@@ -1,52 +1,42 @@
 // Calls of `ged_tree`, each under its name there.
+use crate::answers::Answer;
 use crate::forests::{say_forest, say_rests, say_steps};
 use crate::made;
 use crate::nodes::say_nodes;
 use crate::parts::{line_fault_number, say_line_fault};
-use crate::saying::{say, say_fault, say_number};
 use crate::ways::say_each_way;
 use ged_line::{read_lines, split_pieces, view_line, write_line};
 use ged_tree::{
     BuildFault, Document, Flat, Forest, Judge, TreeFault, build, document_of, flatten, line_of,
     to_lines,
 };
-use std::alloc::{AllocError, Global};
+use std::alloc::Global;
 use std::str;
 
 /// Answers a call on an argument; false where this module has no call of this name.
-pub(crate) fn answer(
-    alloc: Global,
-    call: &str,
-    argument: &[u8],
-    answer: &mut Vec<u8>,
-) -> Result<bool, AllocError> {
+pub(crate) fn answer(alloc: Global, call: &str, argument: &[u8], answer: &mut Answer) -> bool {
     match call {
         "flatten" | "document_of" | "rest_of_line" | "next_in_run" | "size" | "document_of/size" =>
-            answer_of_table(alloc, call, argument, answer)?,
+            answer_of_table(alloc, call, argument, answer),
         "build" | "Document::copy" | "to_lines" | "Node::copy" => {
-            answer_of_document(alloc, call, argument, answer)?;
+            answer_of_document(alloc, call, argument, answer);
         }
-        "structures_by_each_way" => say_each_way(alloc, argument, answer)?,
-        "Judge::line" => say_judgements(alloc, argument, answer)?,
+        "structures_by_each_way" => say_each_way(alloc, argument, answer),
+        "Judge::line" => say_judgements(argument, answer),
         _ => return answer_of_other(alloc, call, argument, answer),
     }
-    Ok(true)
+    true
 }
 
 /// Calls whose names go on behind `::` or `/`.
-fn answer_of_other(
-    alloc: Global,
-    call: &str,
-    argument: &[u8],
-    answer: &mut Vec<u8>,
-) -> Result<bool, AllocError> {
+fn answer_of_other(alloc: Global, call: &str, argument: &[u8], answer: &mut Answer) -> bool {
     if call.starts_with("line_of/") || call.starts_with("Document::of_file/") {
-        answer_of_document(alloc, call, argument, answer)?;
-        return Ok(true);
+        answer_of_document(alloc, call, argument, answer);
+        return true;
     }
     match str::from_utf8(argument) {
         Ok(text) => made::answer(alloc, call, text, answer),
-        Err(_) => Ok(false),
+        Err(_) => false,
     }
 }
 
@@ -65,136 +55,103 @@ fn tree_fault_number(fault: TreeFault) -> u64 {
     }
 }
 
-pub(crate) fn say_build_fault(
-    alloc: Global,
-    answer: &mut Vec<u8>,
-    fault: &BuildFault,
-) -> Result<(), AllocError> {
+pub(crate) fn say_build_fault(answer: &mut Answer, fault: &BuildFault) {
     match fault {
-        BuildFault::At(at) => say_fault(alloc, answer, tree_fault_number(at.fault), at.line),
-        BuildFault::Memory(_) => Err(AllocError),
+        BuildFault::At(at) => answer.say_fault(tree_fault_number(at.fault), at.line),
+        BuildFault::Memory(_) => answer.lack_memory(),
     }
 }
 
 /// Calls about a file's table.
-fn answer_of_table(
-    alloc: Global,
-    call: &str,
-    file: &[u8],
-    answer: &mut Vec<u8>,
-) -> Result<(), AllocError> {
+fn answer_of_table(alloc: Global, call: &str, file: &[u8], answer: &mut Answer) {
     match flatten(alloc, file) {
         Ok(flat) => say_of_table(alloc, call, &flat, answer),
-        Err(fault) => say_build_fault(alloc, answer, &fault),
+        Err(fault) => say_build_fault(answer, &fault),
     }
 }
 
-fn say_of_table(
-    alloc: Global,
-    call: &str,
-    flat: &Flat<'_>,
-    answer: &mut Vec<u8>,
-) -> Result<(), AllocError> {
+fn say_of_table(alloc: Global, call: &str, flat: &Flat<'_>, answer: &mut Answer) {
     match call {
-        "flatten" => say_forest(alloc, flat, answer),
+        "flatten" => say_forest(flat, answer),
         "rest_of_line" => say_rests(flat, answer),
-        "next_in_run" => say_steps(alloc, flat, answer),
-        "size" => say_number(alloc, answer, flat.size() as u64),
+        "next_in_run" => say_steps(flat, answer),
+        "size" => answer.say_number(flat.size() as u64),
         _ => {
-            let document = document_of(alloc, flat)?;
-            say_of_document(alloc, call, &document, answer)
+            if let Some(document) = answer.given(document_of(alloc, flat)) {
+                say_of_document(alloc, call, &document, answer);
+            }
         }
     }
 }
 
 /// Calls about the document of the lines that are read of a file.
-fn answer_of_document(
-    alloc: Global,
-    call: &str,
-    file: &[u8],
-    answer: &mut Vec<u8>,
-) -> Result<(), AllocError> {
-    let lines = read_lines(alloc, file)?;
-    match build(alloc, &lines) {
-        Ok(document) => say_of_document(alloc, call, &document, answer),
-        Err(fault) => say_build_fault(alloc, answer, &fault),
+fn answer_of_document(alloc: Global, call: &str, file: &[u8], answer: &mut Answer) {
+    if let Some(lines) = answer.given(read_lines(alloc, file)) {
+        match build(alloc, &lines) {
+            Ok(document) => say_of_document(alloc, call, &document, answer),
+            Err(fault) => say_build_fault(answer, &fault),
+        }
     }
 }
 
-fn say_of_document(
-    alloc: Global,
-    call: &str,
-    document: &Document,
-    answer: &mut Vec<u8>,
-) -> Result<(), AllocError> {
+fn say_of_document(alloc: Global, call: &str, document: &Document, answer: &mut Answer) {
     match call {
-        "build" | "document_of" => say_forest(alloc, document, answer),
+        "build" | "document_of" => say_forest(document, answer),
         "Document::of_file/rest_of_line" => say_rests(document, answer),
-        "Document::of_file/next_in_run" => say_steps(alloc, document, answer),
-        "Document::of_file/size" | "document_of/size" => {
-            say_number(alloc, answer, document.size() as u64)
-        }
+        "Document::of_file/next_in_run" => say_steps(document, answer),
+        "Document::of_file/size" | "document_of/size" => answer.say_number(document.size() as u64),
         "Node::copy" => say_nodes(alloc, document, answer),
         "to_lines" => say_lines_of(alloc, document, answer),
         "Document::copy" => {
-            let copy = document.copy(alloc)?;
-            say_forest(alloc, &copy, answer)
+            if let Some(copy) = answer.given(document.copy(alloc)) {
+                say_forest(&copy, answer);
+            }
         }
         _ => match call.strip_prefix("line_of/") {
             Some(words) => say_line_of(alloc, words, document, answer),
-            None => say(answer, "no such call"),
+            None => answer.say("no such call"),
         },
     }
 }
 
 /// The lines of a document, as they are written.
-pub(crate) fn say_lines_of(
-    alloc: Global,
-    document: &Document,
-    answer: &mut Vec<u8>,
-) -> Result<(), AllocError> {
-    let lines = to_lines(alloc, document)?;
-    for line in lines.iter() {
-        write_line(line, answer)?;
+pub(crate) fn say_lines_of(alloc: Global, document: &Document, answer: &mut Answer) {
+    if let Some(lines) = answer.given(to_lines(alloc, document)) {
+        for line in &lines {
+            let done = write_line(line, &mut answer.bytes);
+            answer.note(done);
+        }
     }
-    Ok(())
 }
 
 /// What a judge of a file's lines answers for each, and whether TRLR has come.
-fn say_judgements(alloc: Global, file: &[u8], answer: &mut Vec<u8>) -> Result<(), AllocError> {
+fn say_judgements(file: &[u8], answer: &mut Answer) {
     let mut judge = Judge::new();
     for piece in split_pieces(file) {
         match view_line(piece) {
             Ok(line) => match judge.line(&line) {
-                Ok(()) => say(answer, "Ok")?,
+                Ok(()) => answer.say("Ok"),
                 Err(fault) => {
-                    say(answer, "F ")?;
-                    say_number(alloc, answer, tree_fault_number(fault))?;
+                    answer.say("F ");
+                    answer.say_number(tree_fault_number(fault));
                 }
             },
-            Err(fault) => say_line_fault(alloc, answer, fault)?,
+            Err(fault) => say_line_fault(answer, fault),
         }
-        say(answer, if judge.has_ended() { " ended\n" } else { "\n" })?;
+        answer.say(if judge.has_ended() { " ended\n" } else { "\n" });
     }
-    Ok(())
 }
 
 /// The line of the structure that a path of numbers leads to.
-fn say_line_of(
-    alloc: Global,
-    words: &str,
-    document: &Document,
-    answer: &mut Vec<u8>,
-) -> Result<(), AllocError> {
+fn say_line_of(alloc: Global, words: &str, document: &Document, answer: &mut Answer) {
     let mut path = Vec::new(alloc);
     for word in words.split_terminator('/') {
         let Ok(number) = word.parse::<usize>() else {
-            return say(answer, "no path");
+            return answer.say("no path");
         };
-        path.push(number)?;
+        if path.push(number).is_err() {
+            return answer.lack_memory();
+        }
     }
-    match line_of(document, path.as_slice()) {
-        Some(line) => say_number(alloc, answer, line),
-        None => say(answer, "None"),
-    }
+    answer.say_optional(line_of(document, &path));
 }

@@ -1,5 +1,5 @@
 // Calls of `ged_value`.
-use crate::saying::{say, say_number, say_truth};
+use crate::answers::Answer;
 use ged_value::{
     Age, Bound, Calendar, Date, DateValue, ExactDate, Given, Kind, Period, PersonName, Time, fits,
     fitting_without_zeros, leaving_out, leaving_out_zeros, one_reading, read_age, read_date,
@@ -9,49 +9,43 @@ use ged_value::{
 use std::alloc::{AllocError, Global};
 
 /// Answers a call on an argument; false where this module has no call of this name.
-pub(crate) fn answer(
-    alloc: Global,
-    call: &str,
-    argument: &[u8],
-    answer: &mut Vec<u8>,
-) -> Result<bool, AllocError> {
+pub(crate) fn answer(alloc: Global, call: &str, argument: &[u8], answer: &mut Answer) -> bool {
     let Ok(text) = str::from_utf8(argument) else {
-        return Ok(false);
+        return false;
     };
-    if answer_value(call, text, answer)? || answer_kind(call, text, answer)? {
-        return Ok(true);
-    }
-    answer_words(alloc, call, text, answer)
+    answer_value(call, text, answer)
+        || answer_kind(call, text, answer)
+        || answer_words(alloc, call, text, answer)
 }
 
 /// The calls that read a value.
-fn answer_value(call: &str, text: &str, answer: &mut Vec<u8>) -> Result<bool, AllocError> {
+fn answer_value(call: &str, text: &str, answer: &mut Answer) -> bool {
     match call {
-        "read_date" => say_value(answer, read_date(text))?,
-        "read_period" => say_period(answer, read_period(text))?,
-        "read_exact_date" => say_exact(answer, read_exact_date(text))?,
-        "read_time" => say_time(answer, read_time(text))?,
-        "read_age" => say_age(answer, read_age(text))?,
-        "read_name" => say_name(answer, read_name(text))?,
-        _ => return Ok(false),
+        "read_date" => say_value(answer, read_date(text)),
+        "read_period" => say_period(answer, read_period(text)),
+        "read_exact_date" => say_exact(answer, read_exact_date(text)),
+        "read_time" => say_time(answer, read_time(text)),
+        "read_age" => say_age(answer, read_age(text)),
+        "read_name" => say_name(answer, read_name(text)),
+        _ => return false,
     }
-    Ok(true)
+    true
 }
 
 /// Says a part, if it is there, with a space before it where others stand before it.
-fn say_part(answer: &mut Vec<u8>, name: &str, text: Option<&str>) -> Result<(), AllocError> {
+fn say_part(answer: &mut Answer, name: &str, text: Option<&str>) {
     let Some(text) = text else {
-        return Ok(());
+        return;
     };
-    if !answer.is_empty() {
-        say(answer, " ")?;
+    if !answer.as_slice().is_empty() {
+        answer.say(" ");
     }
-    say(answer, name)?;
-    say(answer, "=")?;
-    say(answer, text)
+    answer.say(name);
+    answer.say("=");
+    answer.say(text)
 }
 
-fn say_date(answer: &mut Vec<u8>, date: Date<'_>) -> Result<(), AllocError> {
+fn say_date(answer: &mut Answer, date: Date<'_>) {
     let (name, calendar) = match date.calendar {
         Calendar::Gregorian => ("calendar", "Gregorian"),
         Calendar::Julian => ("calendar", "Julian"),
@@ -59,96 +53,88 @@ fn say_date(answer: &mut Vec<u8>, date: Date<'_>) -> Result<(), AllocError> {
         Calendar::Hebrew => ("calendar", "Hebrew"),
         Calendar::Extension(tag) => ("extension", tag),
     };
-    say_part(answer, name, Some(calendar))?;
-    say_part(answer, "day", date.day)?;
-    say_part(answer, "month", date.month)?;
-    say_part(answer, "year", Some(date.year))?;
+    say_part(answer, name, Some(calendar));
+    say_part(answer, "day", date.day);
+    say_part(answer, "month", date.month);
+    say_part(answer, "year", Some(date.year));
     say_part(answer, "epoch", date.epoch)
 }
 
 /// Says a word, and one date or two behind it.
-fn say_dates(
-    answer: &mut Vec<u8>,
-    word: &str,
-    first: Option<Date<'_>>,
-    second: Option<Date<'_>>,
-) -> Result<(), AllocError> {
-    say(answer, word)?;
-    if let Some(date) = first {
-        say_date(answer, date)?;
-    }
-    match second {
-        Some(date) => say_date(answer, date),
-        None => Ok(()),
+fn say_dates(answer: &mut Answer, word: &str, date: Date<'_>, last: Option<Date<'_>>) {
+    answer.say(word);
+    say_date(answer, date);
+    if let Some(date) = last {
+        say_date(answer, date);
     }
 }
 
-fn say_period(answer: &mut Vec<u8>, period: Option<Period<'_>>) -> Result<(), AllocError> {
+fn say_period(answer: &mut Answer, period: Option<Period<'_>>) {
     match period {
-        Some(Period::Empty) => say(answer, "Empty"),
-        Some(Period::To(date)) => say_dates(answer, "To", Some(date), None),
-        Some(Period::From(date)) => say_dates(answer, "From", Some(date), None),
-        Some(Period::FromTo(start, end)) => say_dates(answer, "FromTo", Some(start), Some(end)),
-        None => say(answer, "None"),
+        Some(Period::Empty) => answer.say("Empty"),
+        Some(Period::To(date)) => say_dates(answer, "To", date, None),
+        Some(Period::From(date)) => say_dates(answer, "From", date, None),
+        Some(Period::FromTo(start, end)) => say_dates(answer, "FromTo", start, Some(end)),
+        None => answer.say("None"),
     }
 }
 
-fn say_value(answer: &mut Vec<u8>, value: Option<DateValue<'_>>) -> Result<(), AllocError> {
+fn say_value(answer: &mut Answer, value: Option<DateValue<'_>>) {
     let Some(value) = value else {
-        return say(answer, "None");
+        return answer.say("None");
     };
     match value {
         DateValue::Span(period) => {
-            say(answer, "Span ")?;
+            answer.say("Span ");
             say_period(answer, Some(period))
         }
-        DateValue::Plain(date) => say_dates(answer, "Plain", Some(date), None),
-        DateValue::Between(first, last) => say_dates(answer, "Between", Some(first), Some(last)),
-        DateValue::After(date) => say_dates(answer, "After", Some(date), None),
-        DateValue::Before(date) => say_dates(answer, "Before", Some(date), None),
-        DateValue::About(date) => say_dates(answer, "About", Some(date), None),
-        DateValue::Calculated(date) => say_dates(answer, "Calculated", Some(date), None),
-        DateValue::Estimated(date) => say_dates(answer, "Estimated", Some(date), None),
+        DateValue::Plain(date) => say_dates(answer, "Plain", date, None),
+        DateValue::Between(first, last) => say_dates(answer, "Between", first, Some(last)),
+        DateValue::After(date) => say_dates(answer, "After", date, None),
+        DateValue::Before(date) => say_dates(answer, "Before", date, None),
+        DateValue::About(date) => say_dates(answer, "About", date, None),
+        DateValue::Calculated(date) => say_dates(answer, "Calculated", date, None),
+        DateValue::Estimated(date) => say_dates(answer, "Estimated", date, None),
     }
 }
 
-fn say_exact(answer: &mut Vec<u8>, date: Option<ExactDate<'_>>) -> Result<(), AllocError> {
+fn say_exact(answer: &mut Answer, date: Option<ExactDate<'_>>) {
     let Some(date) = date else {
-        return say(answer, "None");
+        return answer.say("None");
     };
-    say_part(answer, "day", Some(date.day))?;
-    say_part(answer, "month", Some(date.month))?;
+    say_part(answer, "day", Some(date.day));
+    say_part(answer, "month", Some(date.month));
     say_part(answer, "year", Some(date.year))
 }
 
-fn say_time(answer: &mut Vec<u8>, time: Option<Time<'_>>) -> Result<(), AllocError> {
+fn say_time(answer: &mut Answer, time: Option<Time<'_>>) {
     let Some(time) = time else {
-        return say(answer, "None");
+        return answer.say("None");
     };
-    say_part(answer, "hour", Some(time.hour))?;
-    say_part(answer, "minute", Some(time.minute))?;
-    say_part(answer, "second", time.second)?;
-    say_part(answer, "fraction", time.fraction)?;
+    say_part(answer, "hour", Some(time.hour));
+    say_part(answer, "minute", Some(time.minute));
+    say_part(answer, "second", time.second);
+    say_part(answer, "fraction", time.fraction);
     say_part(answer, "zone", time.utc.then_some("utc"))
 }
 
-fn say_age(answer: &mut Vec<u8>, age: Option<Age<'_>>) -> Result<(), AllocError> {
+fn say_age(answer: &mut Answer, age: Option<Age<'_>>) {
     let Some(age) = age else {
-        return say(answer, "None");
+        return answer.say("None");
     };
     let bound = match age.bound {
         Some(Bound::Less) => Some("Less"),
         Some(Bound::Greater) => Some("Greater"),
         None => None,
     };
-    say_part(answer, "bound", bound)?;
-    say_part(answer, "years", age.years)?;
-    say_part(answer, "months", age.months)?;
-    say_part(answer, "weeks", age.weeks)?;
+    say_part(answer, "bound", bound);
+    say_part(answer, "years", age.years);
+    say_part(answer, "months", age.months);
+    say_part(answer, "weeks", age.weeks);
     say_part(answer, "days", age.days)
 }
 
-fn say_name(answer: &mut Vec<u8>, name: Option<PersonName<'_>>) -> Result<(), AllocError> {
+fn say_name(answer: &mut Answer, name: Option<PersonName<'_>>) {
     match name {
         Some(PersonName::Plain(text)) => say_part(answer, "plain", Some(text)),
         Some(
@@ -158,154 +144,146 @@ fn say_name(answer: &mut Vec<u8>, name: Option<PersonName<'_>>) -> Result<(), Al
                 after,
             },
         ) => {
-            say_part(answer, "before", Some(before))?;
-            say_part(answer, "surname", Some(surname))?;
+            say_part(answer, "before", Some(before));
+            say_part(answer, "surname", Some(surname));
             say_part(answer, "after", Some(after))
         }
-        None => say(answer, "None"),
+        None => answer.say("None"),
     }
 }
 
 /// The calls that ask about a kind, whose word stands first in the text.
-fn answer_kind(call: &str, text: &str, answer: &mut Vec<u8>) -> Result<bool, AllocError> {
+fn answer_kind(call: &str, text: &str, answer: &mut Answer) -> bool {
     let (word, line) = text.split_once(' ').unwrap_or((text, ""));
-    let Some(kind) = kind_named(word) else {
-        return Ok(false);
+    let Some((_, kind)) = KINDS.iter().find(|(name, _)| *name == word) else {
+        return false;
     };
+    let kind = *kind;
     match call {
-        "word" => say(answer, kind.word())?,
-        "fits" => say_truth(answer, fits(kind, Given::One(line)))?,
-        "fits/many" => say_truth(answer, fits(kind, Given::Many))?,
-        "fits/pointer" => say_truth(answer, fits(kind, Given::Pointer))?,
-        "fits/void" => say_truth(answer, fits(kind, Given::Void))?,
-        _ => return Ok(false),
+        "word" => answer.say(kind.word()),
+        "fits" => answer.say_truth(fits(kind, Given::One(line))),
+        "fits/many" => answer.say_truth(fits(kind, Given::Many)),
+        "fits/pointer" => answer.say_truth(fits(kind, Given::Pointer)),
+        "fits/void" => answer.say_truth(fits(kind, Given::Void)),
+        _ => return false,
     }
-    Ok(true)
+    true
 }
 
-fn kind_named(name: &str) -> Option<Kind> {
-    let kind = match name {
-        "Nothing" => Kind::Nothing,
-        "Text" => Kind::Text,
-        "Free" => Kind::Free,
-        "EventFlag" => Kind::EventFlag,
-        "Integer" => Kind::Integer,
-        "Version" => Kind::Version,
-        "DateValue" => Kind::DateValue,
-        "DatePeriod" => Kind::DatePeriod,
-        "DateExact" => Kind::DateExact,
-        "Time" => Kind::Time,
-        "Age" => Kind::Age,
-        "Name" => Kind::Name,
-        "EnumAny" => Kind::EnumAny,
-        "SexEnum" => Kind::SexEnum,
-        "PediEnum" => Kind::PediEnum,
-        "StatEnum" => Kind::StatEnum,
-        "NameTypeEnum" => Kind::NameTypeEnum,
-        "ResnList" => Kind::ResnList,
-        "ToFam" => Kind::ToFam,
-        "ToIndi" => Kind::ToIndi,
-        "ToSubm" => Kind::ToSubm,
-        "ToSnote" => Kind::ToSnote,
-        "ToSour" => Kind::ToSour,
-        "ToObje" => Kind::ToObje,
-        _ => return None,
-    };
-    Some(kind)
-}
+/// The kinds by their words.
+const KINDS: [(&str, Kind); 24] = [
+    ("Nothing", Kind::Nothing),
+    ("Text", Kind::Text),
+    ("Free", Kind::Free),
+    ("EventFlag", Kind::EventFlag),
+    ("Integer", Kind::Integer),
+    ("Version", Kind::Version),
+    ("DateValue", Kind::DateValue),
+    ("DatePeriod", Kind::DatePeriod),
+    ("DateExact", Kind::DateExact),
+    ("Time", Kind::Time),
+    ("Age", Kind::Age),
+    ("Name", Kind::Name),
+    ("EnumAny", Kind::EnumAny),
+    ("SexEnum", Kind::SexEnum),
+    ("PediEnum", Kind::PediEnum),
+    ("StatEnum", Kind::StatEnum),
+    ("NameTypeEnum", Kind::NameTypeEnum),
+    ("ResnList", Kind::ResnList),
+    ("ToFam", Kind::ToFam),
+    ("ToIndi", Kind::ToIndi),
+    ("ToSubm", Kind::ToSubm),
+    ("ToSnote", Kind::ToSnote),
+    ("ToSour", Kind::ToSour),
+    ("ToObje", Kind::ToObje),
+];
 
 /// The calls that ask about words.
-fn answer_words(
-    alloc: Global,
-    call: &str,
-    text: &str,
-    answer: &mut Vec<u8>,
-) -> Result<bool, AllocError> {
+fn answer_words(alloc: Global, call: &str, text: &str, answer: &mut Answer) -> bool {
     match call {
-        "trim_zeros" => say(answer, trim_zeros(text))?,
-        "trim_zeros/words" => say_trimmed(answer, text)?,
-        "without_default" => say_words(answer, text)?,
-        "Words" => show_words(alloc, answer, text)?,
-        "days" => say_days(alloc, answer, text)?,
-        "value_laws" => state_laws(answer)?,
-        _ => return Ok(false),
+        "trim_zeros" => answer.say(trim_zeros(text)),
+        "trim_zeros/words" => say_trimmed(answer, text),
+        "without_default" => say_words(answer, text),
+        "Words" => show_words(alloc, answer, text),
+        "days" => say_days(alloc, answer, text),
+        "value_laws" => state_laws(answer),
+        _ => return false,
     }
-    Ok(true)
+    true
 }
 
-fn say_trimmed(answer: &mut Vec<u8>, text: &str) -> Result<(), AllocError> {
+fn say_trimmed(answer: &mut Answer, text: &str) {
     for word in text.split(' ') {
-        say(answer, trim_zeros(word))?;
-        say(answer, "\n")?;
+        answer.say(trim_zeros(word));
+        answer.say("\n");
     }
-    Ok(())
 }
 
-fn say_words(answer: &mut Vec<u8>, text: &str) -> Result<(), AllocError> {
+fn say_words(answer: &mut Answer, text: &str) {
     for word in without_default(text) {
-        say(answer, word)?;
-        say(answer, "\n")?;
+        answer.say(word);
+        answer.say("\n");
     }
-    Ok(())
 }
 
 /// Shows the words of a text that are left behind the first.
-fn show_words(alloc: Global, answer: &mut Vec<u8>, text: &str) -> Result<(), AllocError> {
+fn show_words(alloc: Global, answer: &mut Answer, text: &str) {
     let mut words = without_default(text);
     let _ = words.next();
-    let shown = format!(in alloc; "{words:?}")?;
-    say(answer, shown.as_str())
+    match format!(in alloc; "{words:?}") {
+        Ok(shown) => answer.say(shown.as_str()),
+        Err(AllocError) => answer.lack_memory(),
+    }
 }
 
 /// Says for each month behind a calendar's word how many days it takes.
-fn say_days(alloc: Global, answer: &mut Vec<u8>, text: &str) -> Result<(), AllocError> {
+fn say_days(alloc: Global, answer: &mut Answer, text: &str) {
     let (calendar, months) = text.split_once(' ').unwrap_or((text, ""));
     for month in months.split(' ') {
-        say_part(answer, month, Some(""))?;
-        match days_of(alloc, calendar, month)? {
-            Some(days) => say_number(alloc, answer, u64::from(days))?,
-            None => say(answer, "None")?,
+        say_part(answer, month, Some(""));
+        match days_of(alloc, calendar, month) {
+            Ok(days) => answer.say_optional(days),
+            Err(AllocError) => answer.lack_memory(),
         }
     }
-    Ok(())
 }
 
 /// How many days a month takes, of those from 0 to 99: all from 1 on to the greatest, and the month stands without a day as
 /// well. `None` where it takes any others, or none.
-fn days_of(alloc: Global, calendar: &str, month: &str) -> Result<Option<u8>, AllocError> {
-    if !is_dated(alloc, calendar, "", month)? {
-        return Ok(None);
-    }
-    let mut days = 0u8;
-    for day in 0..100u8 {
+fn days_of(alloc: Global, calendar: &str, month: &str) -> Result<Option<u64>, AllocError> {
+    let mut days = 0u64;
+    for day in 0..100u64 {
         if is_day(alloc, calendar, day, month)? {
-            if days.checked_add(1) != Some(day) {
+            if days.saturating_add(1) != day {
                 return Ok(None);
             }
             days = day;
         }
     }
-    Ok(Some(days))
+    Ok(is_dated(alloc, &[calendar, " ", month, " 1900"])?.then_some(days))
 }
 
-fn is_day(alloc: Global, calendar: &str, day: u8, month: &str) -> Result<bool, AllocError> {
-    let day = format!(in alloc; "{day} ")?;
-    is_dated(alloc, calendar, day.as_str(), month)
+fn is_day(alloc: Global, calendar: &str, day: u64, month: &str) -> Result<bool, AllocError> {
+    let day = day.to_string(alloc)?;
+    is_dated(alloc, &[calendar, " ", day.as_str(), " ", month, " 1900"])
 }
 
-/// Whether a month and what stands before it make a date.
-fn is_dated(alloc: Global, calendar: &str, day: &str, month: &str) -> Result<bool, AllocError> {
-    let text = format!(in alloc; "{calendar} {day}{month} 1900")?;
+/// Whether these parts of a text make a date.
+fn is_dated(alloc: Global, parts: &[&str]) -> Result<bool, AllocError> {
+    let mut text = String::new(alloc);
+    for part in parts {
+        text.push_str(part)?;
+    }
     Ok(read_date(text.as_str()).is_some())
 }
 
 /// Calls each law of the definitions once: their contracts are proved, and they do nothing.
-fn state_laws(answer: &mut Vec<u8>) -> Result<(), AllocError> {
+fn state_laws(answer: &mut Answer) {
     one_reading();
     two_texts();
     leaving_out();
     trimming();
     leaving_out_zeros();
     fitting_without_zeros();
-    say(answer, "stated")
+    answer.say("stated")
 }

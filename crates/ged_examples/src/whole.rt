@@ -3,18 +3,20 @@
 // A call may begin with `strict.`, with `second.` or with `strict.second.`, for the settings under which it is asked. What
 // each call answers stands at the head of data/whole.rows.
 use crate::agreement::{
-    Ways, accept_ways, are_plain, canon_ways, check_ways, document_ways, push_fault, push_outcome,
-    show_ways, two_parts,
+    Answered, Ways, accept_ways, answered, are_plain, canon_ways, check_ways, document_ways,
+    say_fault, say_outcome, show_ways, two_parts,
 };
+use crate::answers::Answer;
 use crate::feeding::answer_pieces;
-use crate::large::{answer_large, is_large};
+use crate::large;
 use crate::ranges::Ranges;
 use crate::respelling::lines_ways;
 use ged_tool::{
-    Edition, Fault, FileFault, Input, Outcome, Output, Profile, SameFault, Settings, Which, accept,
-    run_same, run_same_as, same, same_as,
+    Accepted, Edition, Fault, FileFault, Input, Outcome, Output, Profile, SameFault, Settings,
+    Which, accept, run_same, run_same_as, same, same_as,
 };
 use std::alloc::{AllocError, Global};
+use std::io::Write;
 
 /// More bytes than any file here has.
 const LIMIT: u64 = 1_073_741_824;
@@ -39,67 +41,32 @@ pub(crate) fn settings_of(call: &str) -> (Settings, &str) {
 }
 
 /// Answers a call on an argument; false where this module has no call of this name.
-pub(crate) fn answer(
-    alloc: Global,
-    call: &str,
-    argument: &[u8],
-    answer: &mut Vec<u8>,
-) -> Result<bool, AllocError> {
+pub(crate) fn answer(alloc: Global, call: &str, argument: &[u8], answer: &mut Answer) -> bool {
     let (settings, name) = settings_of(call);
-    if let Some(ways) = ask(alloc, settings, name, argument)? {
-        ways.tell(alloc, answer)?;
-        return Ok(true);
-    }
-    if answer_other(alloc, settings, name, argument, answer)? {
-        return Ok(true);
-    }
-    if is_large(name) {
-        answer_large(alloc, name, argument, answer)?;
-        return Ok(true);
-    }
-    Ok(false)
+    answer_by_ways(alloc, settings, name, argument, answer)
+        || answer_other(alloc, settings, name, argument, answer)
+        || large::answer(alloc, name, argument, answer)
 }
 
-/// The answers to a call on one file, by each way.
-fn ask(
+/// Answers the calls on one file, each by every way.
+fn answer_by_ways(
     alloc: Global,
     settings: Settings,
     name: &str,
     file: &[u8],
-) -> Result<Option<Ways>, AllocError> {
-    match name {
-        "accept" | "check" | "show" => Ok(Some(ask_words(alloc, settings, name, file)?)),
-        "canon" | "lines" | "document" => Ok(Some(ask_files(alloc, settings, name, file)?)),
-        _ => Ok(None),
-    }
-}
-
-/// The answers to a call that tells of a file.
-fn ask_words(
-    alloc: Global,
-    settings: Settings,
-    name: &str,
-    file: &[u8],
-) -> Result<Ways, AllocError> {
-    match name {
+    answer: &mut Answer,
+) -> bool {
+    let ways = match name {
         "accept" => accept_ways(alloc, settings, file),
         "check" => check_ways(alloc, settings, file),
-        _ => show_ways(alloc, settings, file),
-    }
-}
-
-/// The answers to a call that spells a file anew.
-fn ask_files(
-    alloc: Global,
-    settings: Settings,
-    name: &str,
-    file: &[u8],
-) -> Result<Ways, AllocError> {
-    match name {
+        "show" => show_ways(alloc, settings, file),
         "canon" => canon_ways(alloc, settings, file),
         "lines" => lines_ways(alloc, settings, file),
-        _ => document_ways(alloc, settings, file),
-    }
+        "document" => document_ways(alloc, settings, file),
+        _ => return false,
+    };
+    ways.say(answer);
+    true
 }
 
 /// Answers the calls that are no call on one file.
@@ -108,169 +75,144 @@ fn answer_other(
     settings: Settings,
     name: &str,
     argument: &[u8],
-    answer: &mut Vec<u8>,
-) -> Result<bool, AllocError> {
+    answer: &mut Answer,
+) -> bool {
     match name {
-        "same" => answer_same(alloc, settings, argument, answer)?,
-        "cuts" => answer_cuts(alloc, settings, argument, answer)?,
-        "agreeing_cuts" => answer_agreeing_cuts(alloc, settings, argument, answer)?,
-        "record_named" => answer_record(alloc, argument, answer)?,
-        "pieces" => answer_pieces(alloc, argument, answer)?,
-        "settings" => answer_settings(answer)?,
-        "faults" => answer_faults(alloc, answer)?,
-        "statuses" => answer_statuses(alloc, answer)?,
-        _ => return Ok(false),
+        "same" => answer_same(alloc, settings, argument, answer),
+        "cuts" => answer_cuts(alloc, settings, argument, answer),
+        "agreeing_cuts" => answer_agreeing_cuts(alloc, settings, argument, answer),
+        "record_named" => answer_record(alloc, argument, answer),
+        "pieces" => answer_pieces(alloc, argument, answer),
+        "settings" => answer_settings(answer),
+        "faults" => answer_faults(answer),
+        "statuses" => answer_statuses(answer),
+        _ => return false,
     }
-    Ok(true)
+    true
 }
 
 /// What a comparison is told as.
-fn compared_text(alloc: Global, compared: Result<bool, SameFault>) -> Result<Vec<u8>, AllocError> {
-    let mut text = Vec::new(alloc);
+fn told_compared(alloc: Global, compared: Result<bool, SameFault>) -> Answered {
+    let mut told = Answer::new(alloc);
     match compared {
-        Ok(true) => text.extend_from_slice(b"true")?,
-        Ok(false) => text.extend_from_slice(b"false")?,
+        Ok(is_same) => told.say_truth(is_same),
         Err(SameFault { which, fault }) => {
             let which = Some(which);
-            push_outcome(alloc, &Outcome::Failed { which, fault }, &mut text)?;
+            say_outcome(&mut told, Outcome::Failed { which, fault });
         }
     }
-    Ok(text)
+    answered(told)
 }
 
 /// What a run over two files is told as: its word where it wrote this word's line, or its fault where it wrote nothing.
-fn outcome_text(alloc: Global, outcome: Outcome, written: &[u8]) -> Result<Vec<u8>, AllocError> {
-    let mut text = Vec::new(alloc);
+fn told_outcome(alloc: Global, outcome: Outcome, written: &[u8]) -> Answered {
+    let mut told = Answer::new(alloc);
     match outcome {
-        Outcome::Done if written == SAME => text.extend_from_slice(b"true")?,
-        Outcome::Different if written == DIFFERENT => text.extend_from_slice(b"false")?,
+        Outcome::Done if written == SAME => told.say("true"),
+        Outcome::Different if written == DIFFERENT => told.say("false"),
         Outcome::Failed { which: _, fault: _ } if written.is_empty() => {
-            push_outcome(alloc, &outcome, &mut text)?;
+            say_outcome(&mut told, outcome);
         }
-        _ => text.extend_from_slice(b"an outcome with another text than its own")?,
+        _ => told.say("an outcome with another text than its own"),
     }
-    Ok(text)
+    answered(told)
 }
 
-fn run_compared(
-    alloc: Global,
-    settings: Settings,
-    first: &[u8],
-    second: &[u8],
-) -> Result<Vec<u8>, AllocError> {
+fn run_compared(alloc: Global, settings: Settings, first: &[u8], second: &[u8]) -> Answered {
     let mut written = Vec::new(alloc);
     let (mut left, mut right) = (Input::new(first), Input::new(second));
     let mut writer = Output::new(&mut written);
     let outcome = run_same_as(alloc, settings, LIMIT, &mut left, &mut right, &mut writer);
-    outcome_text(alloc, outcome, &written)
+    told_outcome(alloc, outcome, &written)
 }
 
-fn run_compared_plainly(alloc: Global, first: &[u8], second: &[u8]) -> Result<Vec<u8>, AllocError> {
+fn run_compared_plainly(alloc: Global, first: &[u8], second: &[u8]) -> Answered {
     let mut written = Vec::new(alloc);
     let (mut left, mut right) = (Input::new(first), Input::new(second));
     let mut writer = Output::new(&mut written);
     let outcome = run_same(alloc, LIMIT, &mut left, &mut right, &mut writer);
-    outcome_text(alloc, outcome, &written)
+    told_outcome(alloc, outcome, &written)
 }
 
 /// Whether two files are the same, by each call that compares them.
-fn answer_same(
-    alloc: Global,
-    settings: Settings,
-    argument: &[u8],
-    answer: &mut Vec<u8>,
-) -> Result<(), AllocError> {
+fn answer_same(alloc: Global, settings: Settings, argument: &[u8], answer: &mut Answer) {
     let (first, second) = two_parts(argument);
-    let told = compared_text(alloc, same_as(alloc, settings, first, second))?;
-    let mut ways = Ways::of(Ok(told));
-    ways.add(
-        "run_same_as",
-        Ok(run_compared(alloc, settings, first, second)?),
-    );
+    let compared = same_as(alloc, settings, first, second);
+    let mut ways = Ways::of(told_compared(alloc, compared));
+    ways.add("run_same_as", run_compared(alloc, settings, first, second));
     if are_plain(settings) {
-        let told = compared_text(alloc, same(alloc, first, second))?;
-        ways.add("same", Ok(told));
-        ways.add("run_same", Ok(run_compared_plainly(alloc, first, second)?));
+        ways.add("same", told_compared(alloc, same(alloc, first, second)));
+        ways.add("run_same", run_compared_plainly(alloc, first, second));
     }
-    ways.tell(alloc, answer)
+    ways.say(answer);
 }
 
 /// The verdict on each front of a file.
-fn answer_cuts(
-    alloc: Global,
-    settings: Settings,
-    file: &[u8],
-    answer: &mut Vec<u8>,
-) -> Result<(), AllocError> {
+fn answer_cuts(alloc: Global, settings: Settings, file: &[u8], answer: &mut Answer) {
     let mut ranges = Ranges::new(alloc);
     for length in 0..=file.len() {
-        let mut told = Vec::new(alloc);
+        let mut told = Answer::new(alloc);
         let front = file.get(..length).unwrap_or(file);
-        accept_ways(alloc, settings, front)?.tell(alloc, &mut told)?;
-        ranges.add(length, told)?;
+        accept_ways(alloc, settings, front).say(&mut told);
+        ranges.add(length, told);
     }
-    answer.extend_from_slice(&ranges.finish()?)
+    answer.append(&ranges.finish());
 }
 
 /// Whether all ways agree on each front of a file: the lengths at which they do.
-fn answer_agreeing_cuts(
-    alloc: Global,
-    settings: Settings,
-    file: &[u8],
-    answer: &mut Vec<u8>,
-) -> Result<(), AllocError> {
+fn answer_agreeing_cuts(alloc: Global, settings: Settings, file: &[u8], answer: &mut Answer) {
     let mut ranges = Ranges::new(alloc);
     for length in 0..=file.len() {
+        let mut told = Answer::new(alloc);
         let front = file.get(..length).unwrap_or(file);
-        let ways = accept_ways(alloc, settings, front)?;
-        ranges.add(length, Vec::from_slice(alloc, ways.agreement())?)?;
+        accept_ways(alloc, settings, front).say_agreement(&mut told);
+        ranges.add(length, told);
     }
-    answer.extend_from_slice(&ranges.finish()?)
+    answer.append(&ranges.finish());
 }
 
 /// The number of the record of a name in a file, and whether a pointer names it.
-fn answer_record(alloc: Global, argument: &[u8], answer: &mut Vec<u8>) -> Result<(), AllocError> {
+fn answer_record(alloc: Global, argument: &[u8], answer: &mut Answer) {
     let (name, file) = two_parts(argument);
     let Ok(name) = std::str::from_utf8(name) else {
-        return answer.extend_from_slice(b"the name is not text");
+        return answer.say("the name is not text");
     };
-    let accepted = match accept(alloc, file) {
-        Ok(accepted) => accepted,
-        Err(fault) => return push_fault(alloc, &fault, answer),
-    };
-    let index = accepted.index();
-    let told = match index.record_named(name) {
-        None => format!(in alloc; "None")?,
-        Some(number) => {
-            let used = index.is_used(number);
-            format!(in alloc; "{number} used={used}")?
-        }
-    };
-    answer.extend_from_slice(told.as_bytes())
+    match accept(alloc, file) {
+        Ok(accepted) => say_record(&accepted, name, answer),
+        Err(fault) => say_fault(answer, fault),
+    }
 }
 
-fn push_settings(name: &str, settings: Settings, answer: &mut Vec<u8>) -> Result<(), AllocError> {
-    let profile = match settings.profile() {
+fn say_record(accepted: &Accepted<'_>, name: &str, answer: &mut Answer) {
+    let index = accepted.index();
+    let number = index.record_named(name);
+    answer.say_optional(number.map(|number| number as u64));
+    if let Some(number) = number {
+        answer.say(" used=");
+        answer.say_truth(index.is_used(number));
+    }
+}
+
+fn say_settings(answer: &mut Answer, name: &str, settings: Settings) {
+    answer.say(name);
+    answer.say(match settings.profile() {
         Profile::Lenient => " lenient",
         Profile::Strict => " strict",
-    };
-    let edition = match settings.edition() {
+    });
+    answer.say(match settings.edition() {
         Edition::First => " first\n",
         Edition::Second => " second\n",
-    };
-    answer.extend_from_slice(name.as_bytes())?;
-    answer.extend_from_slice(profile.as_bytes())?;
-    answer.extend_from_slice(edition.as_bytes())
+    });
 }
 
 /// What settings choose.
-fn answer_settings(answer: &mut Vec<u8>) -> Result<(), AllocError> {
+fn answer_settings(answer: &mut Answer) {
     let new = Settings::new();
-    push_settings("new:", new, answer)?;
-    push_settings("strict:", new.strict(), answer)?;
-    push_settings("second:", new.second(), answer)?;
-    push_settings("strict, second:", new.strict().second(), answer)?;
-    push_settings("second, strict:", new.second().strict(), answer)
+    say_settings(answer, "new:", new);
+    say_settings(answer, "strict:", new.strict());
+    say_settings(answer, "second:", new.second());
+    say_settings(answer, "strict, second:", new.strict().second());
+    say_settings(answer, "second, strict:", new.second().strict());
 }
 
 const KINDS: [FileFault; 25] = [
@@ -302,37 +244,34 @@ const KINDS: [FileFault; 25] = [
 ];
 
 /// The faults of a file by their numbers and names.
-fn answer_faults(alloc: Global, answer: &mut Vec<u8>) -> Result<(), AllocError> {
+fn answer_faults(answer: &mut Answer) {
     for kind in KINDS {
         let number = Fault::InFile { line: 104, kind }.number();
-        let told = format!(in alloc; "{number} {kind}\n")?;
-        answer.extend_from_slice(told.as_bytes())?;
+        if writeln!(answer.bytes, "{number} {kind}").is_err() {
+            answer.lack_memory();
+        }
     }
-    Ok(())
 }
 
-fn push_status(
-    alloc: Global,
-    which: Option<Which>,
-    fault: Fault,
-    answer: &mut Vec<u8>,
-) -> Result<(), AllocError> {
-    push_fault(alloc, &fault, answer)?;
-    let number = fault.number();
-    let status = Outcome::Failed { which, fault }.status();
-    let told = format!(in alloc; ": {number}, {status}\n")?;
-    answer.extend_from_slice(told.as_bytes())
+fn say_status(answer: &mut Answer, which: Option<Which>, fault: Fault) {
+    say_fault(answer, fault);
+    answer.say(": ");
+    answer.say_number(u64::from(fault.number()));
+    answer.say(", ");
+    answer.say_number(u64::from(Outcome::Failed { which, fault }.status()));
+    answer.say("\n");
 }
 
 /// The numbers of faults and the statuses of the outcomes that have them.
-fn answer_statuses(alloc: Global, answer: &mut Vec<u8>) -> Result<(), AllocError> {
-    let done = Outcome::Done.status();
-    let different = Outcome::Different.status();
-    let told = format!(in alloc; "Done: {done}\nDifferent: {different}\n")?;
-    answer.extend_from_slice(told.as_bytes())?;
+fn answer_statuses(answer: &mut Answer) {
+    answer.say("Done: ");
+    answer.say_number(u64::from(Outcome::Done.status()));
+    answer.say("\nDifferent: ");
+    answer.say_number(u64::from(Outcome::Different.status()));
+    answer.say("\n");
     for which in [None, Some(Which::First), Some(Which::Second)] {
         for kind in [FileFault::LevelTooLarge, FileFault::UnlistedTag] {
-            push_status(alloc, which, Fault::InFile { line: 104, kind }, answer)?;
+            say_status(answer, which, Fault::InFile { line: 104, kind });
         }
         for fault in [
             Fault::TooLong,
@@ -340,8 +279,7 @@ fn answer_statuses(alloc: Global, answer: &mut Vec<u8>) -> Result<(), AllocError
             Fault::WriteFailed,
             Fault::Memory(AllocError),
         ] {
-            push_status(alloc, which, fault, answer)?;
+            say_status(answer, which, fault);
         }
     }
-    Ok(())
 }

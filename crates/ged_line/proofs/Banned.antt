@@ -11,7 +11,7 @@ use lib.Utf8.{encodes, encode}
 use Rattle.std.specs.List.{list_any}
 use Rattle.ged_line.specs.Characters.{is_banned, has_banned, is_plain}
 use Rattle.ged_line.specs.Lines.{is_line_text}
-use Rattle.ged_line.specs.ByteTests.{is_control, is_special, ControlAt, NoncharacterAt}
+use Rattle.ged_line.specs.inner.ByteTests.{is_control, is_special, ControlAt, NoncharacterAt}
 use Rattle.ged_line.proofs.NameTests.{bool_cases, or_cases, and_left, and_right, and_true}
 
 data IsBannedChar (c : ℕ) : Type 0 where

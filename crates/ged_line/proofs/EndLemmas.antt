@@ -8,7 +8,7 @@ use Rattle.std.proofs.lemmas.Simd.{bit_mask_l, get_or-chunk, length-chunk, map-m
 use Rattle.std.specs.Int.{bit_at, trailing_zeros}
 use Rattle.std.specs.Simd.Lanes.{chunk, mask_l, top, zip2}
 use Rattle.memchr.specs.Find.{IsFirst, Passes, is_byte2}
-use Rattle.ged_line.specs.ByteTests.{is_special}
+use Rattle.ged_line.specs.inner.ByteTests.{is_special}
 
 -- what `simd_eq` gives at one lane
 abbrev equal : ℕ → ℕ → ℕ

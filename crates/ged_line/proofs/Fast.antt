@@ -13,7 +13,7 @@ use Rattle.ged_line.specs.Names.{is_tag}
 use Rattle.ged_line.specs.Lines.{Empty, Text, is_value, IsValuePart}
 use Rattle.ged_line.specs.Views.{viewed_value}
 use Rattle.ged_line.specs.Faults.{word, IsPointer, BeginsWith}
-use Rattle.ged_line.specs.declared.view.ValueView.{ValueView}
+use Rattle.ged_line.specs.declared.line.view.ValueView.{ValueView}
 use Rattle.ged_line.specs.declared.fault.LineFault.{LineFault}
 use Rattle.ged_line.specs.declared.fault.LineFault.TheVariants.{BadValue}
 use Rattle.ged_line.proofs.Values.{text_is}

@@ -16,7 +16,7 @@ use Rattle.ged_line.specs.Reading.{TellsLines}
 use Rattle.ged_line.specs.declared.fault.LineFault.{LineFault}
 use Rattle.ged_line.specs.declared.fault.LineFault.TheVariants.{EmptyLine}
 use Rattle.ged_line.specs.declared.fault.LineAt.{LineAt}
-use Rattle.ged_line.specs.declared.lines.Lines.{Lines}
+use Rattle.ged_line.specs.declared.owned.lines.Lines.{Lines}
 use Rattle.ged_line.proofs.Cutting.{pieces_only, length-AreCutInto}
 use Rattle.ged_line.proofs.LineLaws.{IsPlain, one_line, no_fault, line_plain}
 

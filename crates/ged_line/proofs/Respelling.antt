@@ -9,10 +9,10 @@ use Rattle.ged_line.specs.Faults.{IsFaultOf}
 use Rattle.ged_line.specs.Pieces.{AreCutInto, pieces_of}
 use Rattle.ged_line.specs.Spelling.{spelling, value_part, spelled_lines}
 use Rattle.ged_line.specs.Files.{StopsIn}
-use Rattle.ged_line.specs.Reading.{IsRespelledBehind}
+use Rattle.ged_line.specs.inner.Reading.{IsRespelledBehind}
 use Rattle.ged_line.specs.declared.fault.LineFault.{LineFault}
-use Rattle.ged_line.specs.declared.view.ValueView.{ValueView}
-use Rattle.ged_line.specs.declared.view.ValueView.TheVariants as views
+use Rattle.ged_line.specs.declared.line.view.ValueView.{ValueView}
+use Rattle.ged_line.specs.declared.line.view.ValueView.TheVariants as views
 use Rattle.ged_line.proofs.Cuts.{Lacks, cut_not_whole}
 use Rattle.ged_line.proofs.NameTests.{tag_some}
 use Rattle.ged_line.proofs.Cutting.{are_cut, length-AreCutInto}

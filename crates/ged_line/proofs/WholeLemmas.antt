@@ -4,7 +4,8 @@ use Rattle.std.specs.List.{last_or, slice_get}
 use Rattle.std.proofs.lemmas.List.Elements.{recursion_from_All, All-from_get_or}
 use Rattle.ged_line.specs.Bytes.{Bytes}
 use Rattle.ged_line.specs.Pieces.{HasNoEnd, IsBehindMark, AreCutInto, ArePiecesOf, with_front, pieces_of}
-use Rattle.ged_line.specs.WholeLines.{EndsLine, AreWhole, IsBehindEnd, WholePiecesStay, OneWholeFront}
+use Rattle.ged_line.specs.WholeLines.{EndsLine, AreWhole, WholePiecesStay, OneWholeFront}
+use Rattle.ged_line.specs.inner.WholeLines.{IsBehindEnd}
 use Rattle.ged_line.proofs.Cutting.{same_or_not, pieces_front, pieces_only, after_lf, after_cr, are_cut, is_end_first}
 use Rattle.ged_line.proofs.BlockLemmas.{pieces_some, with_front-append, not_feed}
 

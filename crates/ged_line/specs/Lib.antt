@@ -1,6 +1,5 @@
 pub mod Bytes
 pub mod Characters
-pub mod ByteTests
 pub mod Names
 pub mod Lines
 pub mod Views
@@ -11,3 +10,4 @@ pub mod Files
 pub mod Spelling
 pub mod Reading
 pub mod Laws
+pub mod inner

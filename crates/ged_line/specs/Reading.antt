@@ -1,13 +1,12 @@
 -- What reading answers.
-use Rattle.std.specs.Prelude.{◌≡◌, ℕ, List, [], ◌∷◌, ◌++◌, length, Option, Result, MatchOption, MatchResult}
+use Rattle.std.specs.Prelude.{◌≡◌, List, [], ◌∷◌, Option, Result, MatchOption, MatchResult}
 use Rattle.ged_line.specs.Bytes.{Bytes}
 use Rattle.ged_line.specs.Lines.{LineParts, LineText}
 use Rattle.ged_line.specs.Faults.{IsFaultOf}
-use Rattle.ged_line.specs.Files.{FileText, SpellLines, StopsIn, StopsAt, IsFirstFault}
-use Rattle.ged_line.specs.Spelling.{spelled_lines}
+use Rattle.ged_line.specs.Files.{FileText, StopsAt, IsFirstFault}
 use Rattle.ged_line.specs.declared.fault.LineFault.{LineFault}
-use Rattle.ged_line.specs.declared.spelled.SpelledLine.{SpelledLine}
-use Rattle.ged_line.specs.declared.lines.Lines.{Lines}
+use Rattle.ged_line.specs.declared.file.spelled_line.SpelledLine.{SpelledLine}
+use Rattle.ged_line.specs.declared.owned.lines.Lines.{Lines}
 use Rattle.ged_line.specs.declared.fault.ParseFault.{ParseFault}
 use Rattle.ged_line.specs.declared.fault.ParseFault.TheVariants as parsing
 use Rattle.ged_line.specs.declared.fault.RespellFault.{RespellFault}
@@ -37,13 +36,3 @@ TellsLines file read = MatchOption read.stop (FileText read.lines.items file) (�
 abbrev pub TellsRespell : RespellFault → Bytes → Type 0
 TellsRespell (respelling.At at) file = IsFirstFault file at.line at.fault
 TellsRespell (respelling.Memory error) file = Unit {0}
-
--- the first fault of bytes without a mark
-abbrev pub TellsRespellIn : RespellFault → Bytes → Type 0
-TellsRespellIn (respelling.At at) bytes = (lines : List LineParts) × StopsIn bytes lines at.line at.fault
-TellsRespellIn (respelling.Memory error) bytes = Unit {0}
-
--- bytes without a mark spell so many lines, whose canonical spelling is put behind what stood there
-abbrev pub IsRespelledBehind : Bytes → ℕ → Bytes → Bytes → Type 0
-IsRespelledBehind bytes count old new = (lines : List LineParts) × SpellLines lines bytes × (count ≡ length lines)
-    × (new ≡ old ++ spelled_lines lines)

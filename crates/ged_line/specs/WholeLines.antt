@@ -1,5 +1,5 @@
 -- Bytes that come one part after another, and those of their lines that are whole (FamilySearch GEDCOM 7.0, "Lines").
-use Rattle.std.specs.Prelude.{◌≡◌, ◌≢◌, List, [], ◌∷◌, ◌++◌, ◌⊎◌, Some, None}
+use Rattle.std.specs.Prelude.{◌≡◌, List, [], ◌++◌, ◌⊎◌, Some, None}
 use Rattle.std.specs.List.{last_or}
 use Rattle.ged_line.specs.Bytes.{Bytes, carriage_return, line_feed}
 use Rattle.ged_line.specs.Pieces.{HasNoEnd, ArePiecesOf}
@@ -18,11 +18,6 @@ pub record IsWholeFront (bytes front : Bytes) : Type 0 where
   pub parts : bytes ≡ front ++ waiting
   pub whole : AreWhole front
   pub unended : HasNoEnd waiting
-
--- what comes behind a front, but for a LF that belongs to the CR at the front's end
-abbrev pub IsBehindEnd : Bytes → Bytes → Bytes → Type 0
-IsBehindEnd front more rest = ((last_or None front ≡ Some carriage_return) × (more ≡ line_feed ∷ rest))
-    ⊎ ((more ≡ rest) × (last_or None front ≡ Some carriage_return → (bytes : Bytes) → more ≢ line_feed ∷ bytes))
 
 -- the pieces of whole lines stay what they are, whatever comes behind them
 abbrev pub WholePiecesStay : Type 0

@@ -1,7 +1,7 @@
 // Laws of the definitions that the contracts of this crate cite. The functions do nothing: their contracts are proved.
 ghost use Rattle.ged_line.specs.Laws.{OneLine, IsLineOrFaulty, OneCut, OneReading, SpellingSpells, WrittenIsRead};
 
-use crate::scan::view_line;
+use crate::line::read::view_line;
 
 /// A piece has one line at most.
 pub fn one_line()

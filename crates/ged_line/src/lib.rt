@@ -4,37 +4,27 @@
 //! types are copies of what a view shows.
 #![tactic(auto)]
 
-mod blocks;
-mod characters;
-mod cut;
-mod ends;
+mod bytes;
 mod fault;
+mod file;
 mod laws;
 mod line;
-mod lines;
-mod names;
-mod pieces;
-mod respell;
-mod scan;
-mod spelled;
-mod text;
-mod view;
-mod views;
-mod whole;
-mod write;
+mod owned;
 
-pub use characters::is_plain;
+pub use bytes::characters::is_plain;
 pub use fault::{LineAt, LineFault, ParseFault, RespellFault};
+pub use file::line_views::{LineViews, first_line, text_behind_mark, view_lines};
+pub use file::pieces::{Pieces, split_pieces};
+pub use file::respell::respell_lines;
+pub use file::spelled_line::SpelledLine;
+pub use file::whole_lines::{further_lines, one_whole_front, split_whole, whole_pieces_stay};
 pub use laws::{line_or_fault, one_cut, one_line, one_reading, spelling_spells, written_is_read};
-pub use line::{Line, LineValue, parse_line};
-pub use lines::{Lines, read_lines};
-pub use names::{Tag, Xref, tag_order};
-pub use pieces::{Pieces, split_pieces};
-pub use respell::respell_lines;
-pub use scan::{view_line, view_text};
-pub use spelled::SpelledLine;
-pub use text::Text;
-pub use view::{LineView, ValueView};
-pub use views::{LineViews, first_line, text_behind_mark, view_lines};
-pub use whole::{further_lines, one_whole_front, split_whole, whole_pieces_stay};
-pub use write::{write_head, write_line, write_lines, write_parts, write_view};
+pub use line::names::tag_order;
+pub use line::read::{view_line, view_text};
+pub use line::view::{LineView, ValueView};
+pub use line::write::{write_head, write_parts, write_view};
+pub use owned::line::{Line, LineValue, parse_line};
+pub use owned::lines::{Lines, read_lines};
+pub use owned::names::{Tag, Xref};
+pub use owned::text::Text;
+pub use owned::write::{write_line, write_lines};

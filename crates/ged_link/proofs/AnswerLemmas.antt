@@ -8,14 +8,14 @@ use Rattle.ged_line.specs.Bytes.{Bytes}
 use Rattle.ged_tree.specs.Trees.{Structure, Trees, none, tree, trees_count}
 use Rattle.ged_tree.specs.Documents.{are_at}
 use Rattle.ged_tree.specs.Places.{structure_at}
-use Rattle.ged_tree.specs.declared.payload.Payload.{Payload}
-use Rattle.ged_tree.specs.declared.payload.Payload.TheVariants.{Void, Pointer, Text}
+use Rattle.ged_tree.specs.declared.owned.payload.Payload.{Payload}
+use Rattle.ged_tree.specs.declared.owned.payload.Payload.TheVariants.{Void, Pointer, Text}
 use Rattle.ged_link.specs.declared.pairs.Role.{Role}
 use Rattle.ged_link.specs.declared.pairs.Role.TheVariants.{Partner, Child}
 use Rattle.ged_link.specs.Links.{IsAmong, SomeIn, SomeTree}
 use Rattle.ged_link.specs.LinkFaults.{HasXref}
 use Rattle.ged_link.specs.Notices.{Link, links, PointsBack, IsUnanswered, IsOneWay}
-use Rattle.ged_link.specs.LinkWalks.{role_under, is_role, target, is_place, linked, has_link_to, has_pair, other_tag, is_unanswered, is_one_way_for, is_one_way}
+use Rattle.ged_link.specs.inner.LinkWalks.{role_under, is_role, target, is_place, linked, has_link_to, has_pair, other_tag, is_unanswered, is_one_way_for, is_one_way}
 use Rattle.ged_link.proofs.LinkLemmas.{both, level_parts, unnamed}
 use Rattle.ged_link.proofs.PlaceCases.{place_cases, at_first, at_below, at_next}
 

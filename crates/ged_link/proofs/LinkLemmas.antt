@@ -9,8 +9,8 @@ use Rattle.ged_tree.specs.Trees.{Structure, Trees, none, tree, trees_count}
 use Rattle.ged_tree.specs.Documents.{is_document, are_at, is_structure_at, is_xref_at}
 use Rattle.ged_tree.specs.Places.{structure_at}
 use Rattle.ged_tree.specs.Runs.{trees_between, IsRun}
-use Rattle.ged_tree.specs.declared.payload.Payload.{Payload}
-use Rattle.ged_tree.specs.declared.payload.Payload.TheVariants.{Void, Pointer, Text}
+use Rattle.ged_tree.specs.declared.owned.payload.Payload.{Payload}
+use Rattle.ged_tree.specs.declared.owned.payload.Payload.TheVariants.{Void, Pointer, Text}
 use Rattle.ged_link.specs.Links.{SomeTree, IsAmong, AreDistinct, with_xref, xrefs, Names, IsNamed}
 use Rattle.ged_link.specs.LinkFaults.{HasXref, HasPointer, IsRepeated}
 use Rattle.ged_link.proofs.PlaceCases.{place_cases, at_first, at_below, at_next, in_run}

@@ -11,7 +11,7 @@ use Rattle.ged_link.specs.declared.index.RecordPlace.{RecordPlace}
 use Rattle.ged_link.specs.declared.names.Names.{Names}
 use Rattle.ged_link.specs.NameNumbers.{name_number, is_up_to, short_number}
 use Rattle.ged_link.specs.Indexes.{found_by}
-use Rattle.ged_link.specs.Resolving.{AddsName}
+use Rattle.ged_link.specs.inner.Resolving.{AddsName}
 use Rattle.ged_link.proofs.LinkLemmas.{both}
 
 abbrev are_bytes : Bytes → Bool

@@ -7,7 +7,7 @@ use Rattle.ged_tree.specs.Places.{structure_at}
 use Rattle.ged_link.specs.Links.{IsAmong, SomeTree}
 use Rattle.ged_link.specs.LinkFaults.{HasXref, IsLowest}
 use Rattle.ged_link.specs.Notices.{IsOneWay, OneWay, SomeTreeFrom, OneWayAt, AreRising, AreOneWay}
-use Rattle.ged_link.specs.LinkWalks.{is_one_way, one_way_below, one_way_places}
+use Rattle.ged_link.specs.inner.LinkWalks.{is_one_way, one_way_below, one_way_places}
 use Rattle.ged_link.proofs.LinkLemmas.{document_level}
 use Rattle.ged_link.proofs.PlaceCases.{at_first, at_next}
 use Rattle.ged_link.proofs.AnswerLemmas.{is_one_way-IsOneWay, IsOneWay-is_one_way}

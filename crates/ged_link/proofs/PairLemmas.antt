@@ -13,8 +13,8 @@ use Rattle.ged_link.specs.declared.pairs.Role.{Role}
 use Rattle.ged_link.specs.declared.pairs.Role.TheVariants.{Partner, Child}
 use Rattle.ged_link.specs.declared.pairs.Told.{Told}
 use Rattle.ged_link.specs.declared.pairs.Pairs.{Pairs}
-use Rattle.ged_link.specs.LinkWalks.{pair_eq, role_under, target, has_link_to, has_pair, other_tag, is_unanswered, is_one_way_for, is_one_way, one_way_below, one_way_places}
-use Rattle.ged_link.specs.PairSets.{PairMap, is_listed, in_order, tells, told_more, links_to, AreBothBefore, ArePairs, AreAnswered}
+use Rattle.ged_link.specs.inner.LinkWalks.{pair_eq, role_under, target, has_link_to, has_pair, other_tag, is_unanswered, is_one_way_for, is_one_way, one_way_below, one_way_places}
+use Rattle.ged_link.specs.inner.PairSets.{PairMap, is_listed, in_order, tells, told_more, links_to, AreBothBefore, ArePairs, AreAnswered}
 
 or_true : (b : Bool) → b || true ≡ true
 or_true true = refl

@@ -21,7 +21,7 @@ use Rattle.ged_link.specs.RecordTypes.{IsTypeOf}
 use Rattle.ged_link.specs.LinkFaults.{HasXref, IsRepeated, IsLowest}
 use Rattle.ged_link.specs.declared.names.Names.{Names}
 use Rattle.ged_link.specs.Indexes.{found_in, AreRecords, AreTyped}
-use Rattle.ged_link.specs.Resolving.{AddsName, AreRecordsBefore}
+use Rattle.ged_link.specs.inner.Resolving.{AddsName, AreRecordsBefore}
 use Rattle.ged_link.proofs.LinkLemmas.{both, document_level, level_parts, unnamed, unnamed_run}
 use Rattle.ged_link.proofs.PlaceCases.{place_cases, at_first, at_below}
 

@@ -8,19 +8,19 @@ use Rattle.std.proofs.lemmas.Option.{slice_get_within}
 use Rattle.ged_line.specs.Bytes.{Bytes}
 use Rattle.ged_tree.specs.Trees.{Trees, trees_count, records_of}
 use Rattle.ged_tree.specs.Places.{structure_at}
-use Rattle.ged_tree.specs.declared.payload.Payload.{Payload}
-use Rattle.ged_tree.specs.declared.payload.Payload.TheVariants.{Void, Pointer, Text}
-use Rattle.ged_tree.specs.declared.payload.PayloadView.{PayloadView}
-use Rattle.ged_tree.specs.declared.payload.PayloadView.TheVariants as views
+use Rattle.ged_tree.specs.declared.owned.payload.Payload.{Payload}
+use Rattle.ged_tree.specs.declared.owned.payload.Payload.TheVariants.{Void, Pointer, Text}
+use Rattle.ged_tree.specs.declared.forest.payload.PayloadView.{PayloadView}
+use Rattle.ged_tree.specs.declared.forest.payload.PayloadView.TheVariants as views
 use Rattle.ged_tree.specs.Views.{payload_of, is_pointer}
 use Rattle.ged_link.specs.declared.index.RecordPlace.{RecordPlace}
 use Rattle.ged_link.specs.Links.{identifiers}
 use Rattle.ged_link.specs.LinkFaults.{HasXref, HasPointer, IsDangling, IsLowest}
 use Rattle.ged_link.specs.declared.names.Names.{Names}
 use Rattle.ged_link.specs.Indexes.{found_in, AreRecords, number_in}
-use Rattle.ged_link.specs.LinkWalks.{target}
-use Rattle.ged_link.specs.Resolving.{AreUsedBefore, NoneDanglesBefore, AreFollowed, AreUsed}
-use Rattle.ged_link.specs.declared.following.Followed.{Followed}
+use Rattle.ged_link.specs.inner.LinkWalks.{target}
+use Rattle.ged_link.specs.inner.Resolving.{AreUsedBefore, NoneDanglesBefore, AreFollowed, AreUsed}
+use Rattle.ged_link.specs.declared.pointers.Followed.{Followed}
 use Rattle.ged_link.proofs.LinkLemmas.{named_at, at_named}
 use Rattle.ged_link.proofs.TargetLemmas.{none_told}
 

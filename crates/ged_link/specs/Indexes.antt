@@ -1,6 +1,6 @@
 -- Which document an index is of. The contracts of its calls say what follows; what it holds is told here for the proofs.
 use Rattle.std.specs.Prelude.{◌≡◌, ℕ, true, false, List, Option, Some, None, ◌↔◌, nat_eq, slice_index_or, option_map}
-use Rattle.std.specs.HashMap.{get, get_by_text, hasher_of}
+use Rattle.std.specs.HashMap.{get, get_by_text}
 use Rattle.ged_line.specs.Bytes.{Bytes}
 use Rattle.ged_tree.specs.Trees.{Trees}
 use Rattle.ged_tree.specs.Places.{structure_at}
@@ -29,10 +29,6 @@ number_in records name = option_map (λ found. found.number) (found_in records n
 
 abbrev pub place_in : Names → Bytes → Option ℕ
 place_in records name = option_map (λ found. found.place) (found_in records name)
-
--- both maps hash under the key
-abbrev pub HasKey : Names → ℕ → Type 0
-HasKey records key = ((hasher_of records.short).key ≡ key) × ((hasher_of records.long).key ≡ key)
 
 -- each record that has a name has its type by its number
 abbrev pub AreTyped : Trees → Names → List (Option RecordType) → Type 0

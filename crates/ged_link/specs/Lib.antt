@@ -5,10 +5,7 @@ pub mod LinkLaws
 pub mod ResolvedLaws
 pub mod Notices
 pub mod NameNumbers
-pub mod Keys
 pub mod Targets
 pub mod Places
 pub mod Indexes
-pub mod LinkWalks
-pub mod PairSets
-pub mod Resolving
+pub mod inner

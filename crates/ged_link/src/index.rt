@@ -2,15 +2,15 @@
 ghost use Rattle.std.specs.Prelude.{◌≡◌, ◌↔◌, ℕ, Some, true, IsTrue};
 ghost use Rattle.ged_tree.specs.Trees.{Trees};
 ghost use Rattle.ged_tree.specs.Places.{structure_at};
-ghost use Rattle.ged_tree.specs.declared.payload.Payload.TheVariants.{Pointer};
+ghost use Rattle.ged_tree.specs.declared.owned.payload.Payload.TheVariants.{Pointer};
 ghost use Rattle.ged_link.specs.Links.{IsRecordNumber, IsUsed};
 ghost use Rattle.ged_link.specs.LinkFaults.{HasXref};
 ghost use Rattle.ged_link.specs.RecordTypes.{HasRecordOf};
 ghost use Rattle.ged_link.specs.Indexes.{IsIndexOf, number_in, place_in};
 
-use crate::following::Followed;
 use crate::names::Names;
 use crate::places::{RecordCursor, next_record, searched_record};
+use crate::pointers::Followed;
 use crate::record_type::{RecordType, is_typed};
 use crate::targets::{PointerCursor, next_number, searched_number};
 use ged_line::Xref;

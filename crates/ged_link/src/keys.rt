@@ -1,8 +1,8 @@
 // The keys of the maps of an index, and the hashers that begin with them.
-ghost use Rattle.std.specs.Prelude.{◌≡◌, ℕ, Some, fold};
+ghost use Rattle.std.specs.Prelude.{◌≡◌, Some, fold};
 ghost use Rattle.ged_tree.specs.Runs.{trees_between, IsRun};
 ghost use Rattle.ged_link.specs.Links.{identifiers};
-ghost use Rattle.ged_link.specs.Keys.{fed_name, names_key as key_of_names, fed_link, links_key as key_of_links};
+ghost use Rattle.ged_link.specs.inner.Keys.{fed_name, names_key as key_of_names, links_key as key_of_links};
 
 use crate::names::number_of;
 use ged_tree::{Forest, next_in_run};

@@ -2,7 +2,6 @@
 #![tactic(auto)]
 
 mod fault;
-mod following;
 mod index;
 mod keys;
 mod laws;
@@ -12,6 +11,7 @@ mod names;
 mod notices;
 mod pairs;
 mod places;
+mod pointers;
 mod record_type;
 mod resolving;
 mod targets;

@@ -1,7 +1,7 @@
 // The links of a document, as they stand in it.
 ghost use Rattle.std.specs.Prelude.{◌≡◌, ℕ, false, OnOk, ◌&&◌, ◌||◌};
-ghost use Rattle.ged_link.specs.LinkWalks.{pair_eq, role_eq};
-ghost use Rattle.ged_link.specs.PairSets.{lists_have};
+ghost use Rattle.ged_link.specs.inner.LinkWalks.{pair_eq, role_eq};
+ghost use Rattle.ged_link.specs.inner.PairSets.{lists_have};
 
 use crate::pairs::Role;
 use std::alloc::{AllocError, Global};

@@ -4,9 +4,9 @@ ghost use Rattle.ged_tree.specs.Trees.{trees_count};
 ghost use Rattle.ged_tree.specs.Places.{structure_at};
 ghost use Rattle.ged_tree.specs.Runs.{trees_between, IsRun};
 ghost use Rattle.ged_link.specs.Indexes.{AreRecords, place_in};
-ghost use Rattle.ged_link.specs.LinkWalks.{role_under, target, one_way_below, one_way_places};
-ghost use Rattle.ged_link.specs.LinkWalks.{is_one_way as one_way_under, other_tag as tag_of_other};
-ghost use Rattle.ged_link.specs.PairSets.{ArePairs};
+ghost use Rattle.ged_link.specs.inner.LinkWalks.{role_under, target, one_way_below, one_way_places};
+ghost use Rattle.ged_link.specs.inner.LinkWalks.{is_one_way as one_way_under, other_tag as tag_of_other};
+ghost use Rattle.ged_link.specs.inner.PairSets.{ArePairs};
 
 use crate::index::find_place;
 use crate::names::Names;

@@ -1,9 +1,10 @@
 // Records by the names of their cross-reference identifiers.
 ghost use Rattle.std.specs.Prelude.{◌≡◌, ◌<◌, ℕ, IfOk, IfSome, OnOk, None, is_none};
 ghost use Rattle.std.specs.HashMap.{get_by_text};
-ghost use Rattle.ged_link.specs.Indexes.{found_in, HasKey};
+ghost use Rattle.ged_link.specs.Indexes.{found_in};
+ghost use Rattle.ged_link.specs.inner.Indexes.{HasKey};
 ghost use Rattle.ged_link.specs.NameNumbers.{number_up_to, short_number};
-ghost use Rattle.ged_link.specs.Resolving.{AddsName};
+ghost use Rattle.ged_link.specs.inner.Resolving.{AddsName};
 
 use crate::index::RecordPlace;
 use crate::keys::{Keyed, KeyedNumbers};

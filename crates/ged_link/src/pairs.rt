@@ -1,9 +1,9 @@
 // The pairs of records that are linked with each other, and which of the two tells it.
 ghost use Rattle.std.specs.Prelude.{◌≡◌, ℕ, true, IfOk, OnOk, Some, cond, ◌||◌};
 ghost use Rattle.std.specs.HashMap.{get, hasher_of};
-ghost use Rattle.ged_link.specs.LinkWalks.{pair_eq};
-ghost use Rattle.ged_link.specs.PairSets.{in_order as order_of, told_more, links_to, is_listed, lists_have, pairs_have, AreAnswered};
-ghost use Rattle.ged_link.specs.Keys.{links_key as key_of_links};
+ghost use Rattle.ged_link.specs.inner.LinkWalks.{pair_eq};
+ghost use Rattle.ged_link.specs.inner.PairSets.{in_order as order_of, told_more, links_to, is_listed, lists_have, pairs_have, AreAnswered};
+ghost use Rattle.ged_link.specs.inner.Keys.{links_key as key_of_links};
 
 use crate::keys::{KeyedNumbers, links_key};
 use crate::link_lists::LinkLists;

@@ -17,7 +17,7 @@ use Rattle.ged_schema.specs.declared.context.Context.TheVariants.{Unchecked}
 use Rattle.ged_schema.specs.Rows.{Row}
 use Rattle.ged_schema.specs.Tables.{rows, row}
 use Rattle.ged_schema.specs.Unlisted.{unlisted_notice}
-use Rattle.ged_schema.specs.Listings.{ListsUnlisted}
+use Rattle.ged_schema.specs.inner.Listings.{ListsUnlisted}
 
 -- nothing is unlisted where nothing is asked
 pub unlisted_unchecked : (place : ℕ) (t : Trees) → ListsUnlisted Unchecked place t []

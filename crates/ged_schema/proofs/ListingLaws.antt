@@ -9,7 +9,7 @@ use Rattle.ged_schema.specs.declared.context.Context.{Context}
 use Rattle.ged_schema.specs.declared.context.Context.TheVariants.{File}
 use Rattle.ged_schema.specs.Tables.{context_below}
 use Rattle.ged_schema.specs.Unlisted.{Unlisted, IsUnlisted, UnlistedFrom, AreUnlisted, AreUnlistedNotices, unlisted_notice}
-use Rattle.ged_schema.specs.Listings.{OwnPlace, ListsUnlisted}
+use Rattle.ged_schema.specs.inner.Listings.{OwnPlace, ListsUnlisted}
 use Rattle.ged_schema.proofs.FirstUnlisted.{unlisted_within, has_place, place_has}
 
 among_append : (x : ℕ) (xs ys : List ℕ) → IsAmong x (xs ++ ys) → IsAmong x xs ⊎ IsAmong x ys

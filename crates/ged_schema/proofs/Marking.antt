@@ -17,7 +17,7 @@ use Rattle.ged_schema.specs.Rows.{Row, as_row}
 use Rattle.ged_schema.specs.Tables.{rows, row}
 use Rattle.ged_schema.specs.Payloads.{IsOfKind, target}
 use Rattle.ged_schema.specs.Checked.{count_of, IsAtMost, CountsRight, PointsRight, AreChecked}
-use Rattle.ged_schema.specs.Marks.{allows_one, is_needed, are_simple, IsNeededMarked, MarksOneMore}
+use Rattle.ged_schema.specs.inner.Marks.{allows_one, is_needed, are_simple, IsNeededMarked, MarksOneMore}
 use Rattle.ged_schema.proofs.Numbers.{rule_stands, numbered_row}
 use Rattle.ged_schema.proofs.Runs.{count_same, count_other, IsOnlyNumber, checked_some}
 

@@ -2,12 +2,11 @@ pub mod Rows
 pub mod Groups
 pub mod Tables
 pub mod Slots
-pub mod Marks
 pub mod Laws
 pub mod CheckedLaws
 pub mod Payloads
 pub mod Checked
 pub mod Faults
 pub mod Unlisted
-pub mod Listings
 pub mod Profiles
+pub mod inner

@@ -1,8 +1,8 @@
 -- Which payloads are of a kind, and where its pointers lead (FamilySearch GEDCOM 7.0, "Data types").
 use Rattle.std.specs.Prelude.{◌≡◌, true, [], ◌∷◌, Option, Some, None, ⊤, codes}
 use Rattle.ged_line.specs.Bytes.{Bytes}
-use Rattle.ged_tree.specs.declared.payload.Payload.{Payload}
-use Rattle.ged_tree.specs.declared.payload.Payload.TheVariants.{Void, Pointer, Text}
+use Rattle.ged_tree.specs.declared.owned.payload.Payload.{Payload}
+use Rattle.ged_tree.specs.declared.owned.payload.Payload.TheVariants.{Void, Pointer, Text}
 use Rattle.ged_value.specs.declared.kind.Kind.{Kind}
 use Rattle.ged_value.specs.declared.kind.Kind.TheVariants.{ToFam, ToIndi, ToSubm, ToSnote, ToSour, ToObje}
 use Rattle.ged_schema.specs.Rows.{Row}

@@ -12,9 +12,9 @@ mod fault;
 mod laws;
 mod lookups;
 mod notices;
-mod passing;
 mod payloads;
 mod profile;
+mod quick_check;
 mod rule;
 mod slots;
 mod tables;
@@ -27,7 +27,7 @@ pub use laws::{
     checked_or_fault, distinct_tags, fault_of_unchecked, no_fault_of_checked, none_is_unlisted,
     one_first_fault, one_listing, one_notice, tags_agree, unlisted_has_place,
 };
-pub use lookups::{lookup, lookup_name};
+pub use lookups::{context_below, lookup, lookup_name};
 pub use notices::{Coverage, first_unlisted, unlisted};
 pub use profile::{Profile, check_as, check_coverage};
 pub use rule::Rule;

@@ -1,7 +1,8 @@
 // The row of a tag in a context.
 ghost use Rattle.std.specs.Prelude.{◌≡◌, option_map};
+ghost use Rattle.std.specs.Option.{option_copied};
 ghost use Rattle.ged_schema.specs.Rows.{as_row};
-ghost use Rattle.ged_schema.specs.Tables.{row};
+ghost use Rattle.ged_schema.specs.Tables.{row, below_row};
 
 use crate::context::Context;
 use crate::rule::Rule;
@@ -23,4 +24,15 @@ pub fn lookup_name(context: Context, name: &str) -> Option<Rule>
     ensures { option_map as_row result ≡ row context name.now }
 {
     rule_among(rows(context), seed_of(context), name).copied()
+}
+
+/// The context below a structure with this row, or with none: there nothing is asked. Takes no memory.
+#[inline(always)]
+pub fn context_below(rule: Option<&Rule>) -> Context
+    ensures { result ≡ below_row (option_map as_row (option_copied rule.entry)) }
+{
+    match rule {
+        Some(rule) => rule.below,
+        None => Context::Unchecked,
+    }
 }

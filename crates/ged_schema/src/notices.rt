@@ -1,14 +1,13 @@
 // Structures with a standard tag that the tables do not list where they stand.
 ghost use Rattle.std.specs.Prelude.{◌≡◌, ◌≢◌, ◌<◌, ◌++◌, true, List, ℕ, map, OnOk, IfOk, IsTrue, ◌↔◌, MatchOption};
 ghost use Rattle.ged_line.specs.Names.{is_standard_tag, is_tag};
-ghost use Rattle.ged_tree.specs.Trees.{trees_count};
 ghost use Rattle.ged_tree.specs.Documents.{is_document};
 ghost use Rattle.ged_tree.specs.Runs.{IsRun, trees_between};
 ghost use Rattle.ged_tree.specs.Places.{line_at};
 ghost use Rattle.ged_link.specs.LinkFaults.{IsLowest};
 ghost use Rattle.ged_schema.specs.declared.context.Context.TheVariants.{File, Unchecked};
 ghost use Rattle.ged_schema.specs.Unlisted.{AreUnlistedNotices, IsCoverage, Unlisted, UnlistedAt, UnlistedFrom, unlisted_notice};
-ghost use Rattle.ged_schema.specs.Listings.{ListsUnlisted};
+ghost use Rattle.ged_schema.specs.inner.Listings.{ListsUnlisted};
 
 use crate::context::Context;
 use crate::slots::{rule_among, seed_of};

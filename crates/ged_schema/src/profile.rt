@@ -1,5 +1,5 @@
 // Profiles: whether notices refuse a document.
-ghost use Rattle.std.specs.Prelude.{◌≡◌, ◌↔◌, ℕ, MatchOption, MatchResult};
+ghost use Rattle.std.specs.Prelude.{◌≡◌, ℕ, MatchOption, MatchResult};
 ghost use Rattle.ged_tree.specs.Places.{line_at};
 ghost use Rattle.ged_link.specs.Indexes.{IsIndexOf};
 ghost use Rattle.ged_link.specs.LinkFaults.{IsLowest};

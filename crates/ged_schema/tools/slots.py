@@ -1,17 +1,21 @@
 #!/usr/bin/env python3
-"""Prints the weights, the seeds and the slots of src/slots.rt for the rows of src/tables.
+"""Prints the weights, the seeds and the slots of src/slots.rt for the rows of src/tables, and the needed rows of src/quick_check.rt.
 
 A tag's slot is the sum of its context's seed and of its first three bytes and its last one, each times a weight, modulo
 the number of slots. A byte that the tag doesn't have counts as 0. The script takes the first weights, among sums of few
 powers of two, under which each context finds a seed that puts none of its rows on a slot which keeps another number:
 the contexts with the most rows first, each with its least such seed.
 
-Run it after a change of the tables, and put what it prints into src/slots.rt and specs/Slots.antt. The proof checks the
-numbers, however they were found.
+Run it after a change of the tables, and put what it prints into src/slots.rt, specs/Slots.antt and src/quick_check.rt. The proof
+checks the numbers, however they were found.
+
+With the word --compare it prints nothing of this, and tells instead whether the sources have just these numbers. The last line is
+then 'N passed, M failed', and the status 0 where all passed.
 """
 
 import itertools
 import re
+import sys
 from pathlib import Path
 
 SOURCE = Path(__file__).resolve().parent.parent / "src"
@@ -76,15 +80,57 @@ def print_found(weights, seeds, slots):
         print(f"        {contexts} => {seed},")
 
 
-def main():
-    tables = read_tables()
+def read_needed():
+    """The numbers of the rows of each context that ask for a structure, where there are such rows."""
+    rows = {}
+    for path in sorted((SOURCE / "tables").glob("*.rt")):
+        for name, body in re.findall(r"static (\w+): \[Rule; \d+\] = \[(.*?)\];", path.read_text(), re.S):
+            rows[name] = [number for number, macro in enumerate(re.findall(r'(\w+)!\(\s*"', body)) if macro == "one"]
+    arms = re.findall(r"Context::(\w+) => &(\w+),", (SOURCE / "tables.rt").read_text())
+    return {context: rows[name] for context, name in arms if rows[name]}
+
+
+def print_needed(needed):
+    for number in sorted({number for numbers in needed.values() for number in numbers}):
+        contexts = " | ".join(f"Context::{context}" for context in needed if number in needed[context])
+        print(f"        {contexts} => Some({number}),")
+
+
+def read_arms(text, value):
+    """The contexts of the arms of a match, each with the number that its arm gives in this form."""
+    arms = re.findall(rf"((?:Context::\w+[\s|]*)+)=> {value},", text)
+    return {context: int(number) for left, number in arms for context in re.findall(r"Context::(\w+)", left)}
+
+
+def compare(seeds, slots, needed):
+    """Tells whether the sources have these seeds, slots and needed rows; and answers the status."""
+    code = (SOURCE / "slots.rt").read_text()
+    array = re.search(r"static SLOTS: \[u8; \d+\] = \[(.*?)\];", code, re.S)[1]
+    checks = {
+        "the slots": [int(number) for number in re.findall(r"\d+", array)] == [slots.get(slot, 0) for slot in range(SLOTS)],
+        "the seeds": read_arms(code, r"(\d+)") == seeds,
+        "the needed rows": read_arms((SOURCE / "quick_check.rt").read_text(), r"Some\((\d+)\)")
+        == {context: numbers[0] for context, numbers in needed.items()},
+    }
+    for name, is_same in checks.items():
+        print(f"ok: {name} are those of the tables" if is_same else f"FAILED: {name} are not those of the tables")
+    failed = list(checks.values()).count(False)
+    print(f"{len(checks) - failed} passed, {failed} failed")
+    return 1 if failed else 0
+
+
+def main(words):
+    tables, needed = read_tables(), read_needed()
     for weights in sorted(itertools.product(WEIGHTS, repeat=4), key=lambda four: (sum(w & (w - 1) > 0 for w in four), sum(four))):
         found = find_slots(tables, weights)
+        if found is not None and words[1:] == ["--compare"]:
+            return compare(*found, needed)
         if found is not None:
             print_found(weights, *found)
-            return
+            print_needed(needed)
+            return 0
     raise SystemExit("no weights were found")
 
 
 if __name__ == "__main__":
-    main()
+    sys.exit(main(sys.argv))

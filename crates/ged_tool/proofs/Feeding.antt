@@ -19,7 +19,7 @@ use Rattle.ged_tool.specs.declared.faults.FileFault.{FileFault}
 use Rattle.ged_tool.specs.declared.faults.FileFault.TheVariants.{NoTrailer}
 use Rattle.ged_tool.specs.declared.faults.Fault.{Fault}
 use Rattle.ged_tool.specs.declared.faults.Fault.TheVariants.{InFile, TooLong, ReadFailed, WriteFailed, Memory}
-use Rattle.ged_tool.specs.declared.judged.Judged.{Judged}
+use Rattle.ged_tool.specs.declared.calls.judged_lines.Judged.{Judged}
 use Rattle.ged_tool.specs.Faults.{file_fault_of_tree}
 use Rattle.ged_tool.specs.Accepted.{FileFaultAt, IsRefusal}
 use Rattle.ged_tool.specs.Fed.{WholeLinesFaultAt}

@@ -13,7 +13,7 @@ use Rattle.ged_tree.specs.Judging.{Facts, StandsFor}
 use Rattle.ged_tree.specs.declared.fault.TreeFault.{TreeFault}
 use Rattle.ged_tree.specs.declared.fault.TreeFault.TheVariants.{Line, NoTrailer}
 use Rattle.ged_tree.proofs.StayLemmas.{not_at_line}
-use Rattle.ged_tool.specs.declared.judged.Judged.{Judged}
+use Rattle.ged_tool.specs.declared.calls.judged_lines.Judged.{Judged}
 use Rattle.ged_tool.specs.Judged.{HasJudged}
 
 -- the pieces of the file before those that are left spell the lines that were judged

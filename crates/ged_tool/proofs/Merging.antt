@@ -2,7 +2,7 @@
 use Rattle.std.proofs.Common.{subst, ◌≡◌, ◌-◌, ◌<◌, ◌≤◌, List, [], ◌∷◌, ◌++◌, length, get_or, take, drop, refl, sym, ap, ◌∙◌, arith}
 use Rattle.std.proofs.lemmas.List.{append_assoc, append-nil, take_rest}
 use Rattle.ged_link.specs.declared.notices.Notice.{Notice}
-use Rattle.ged_tool.specs.Merges.{IsMerge, first_left, second_left, from_first, from_second}
+use Rattle.ged_tool.specs.inner.Merges.{IsMerge, first_left, second_left, from_first, from_second}
 
 -- a list by its first notice and the others, as slices give them
 parts : (xs : List Notice) (d : Notice) → 0 < length xs → xs ≡ get_or xs 0 d ∷ take (length xs - 1) (drop 1 xs)

@@ -9,7 +9,7 @@ use Rattle.ged_link.proofs.CallerLemmas.{one_way_within}
 use Rattle.ged_schema.specs.declared.context.Context.TheVariants.{File}
 use Rattle.ged_schema.specs.Unlisted.{Unlisted, AreUnlisted, AreUnlistedNotices, unlisted_notice}
 use Rattle.ged_schema.proofs.CallerLemmas.{unlisted_within, unlisted_has_place, lower_line, one_notice}
-use Rattle.ged_tool.specs.Merges.{IsMerge, first_left, second_left, from_first, from_second}
+use Rattle.ged_tool.specs.inner.Merges.{IsMerge, first_left, second_left, from_first, from_second}
 use Rattle.ged_tool.specs.Notices.{lines_told, AreNotices}
 
 -- ---- what is among mapped lists

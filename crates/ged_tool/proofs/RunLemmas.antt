@@ -12,7 +12,7 @@ use Rattle.ged_tool.specs.declared.faults.Fault.TheVariants.{InFile, TooLong, Re
 use Rattle.ged_tool.specs.declared.faults.Outcome.{Outcome}
 use Rattle.ged_tool.specs.declared.faults.Outcome.TheVariants.{Failed}
 use Rattle.ged_tool.specs.Run.{IsWhole}
-use Rattle.ged_tool.specs.Steps.{StopsReading}
+use Rattle.ged_tool.specs.inner.Steps.{StopsReading}
 use Rattle.ged_tool.specs.Same.{IsSameRefusal}
 use Rattle.ged_tool.specs.SameRun.{Came, TellsOfFile, SameMeans, IsSameRun}
 

@@ -11,8 +11,8 @@ use Rattle.ged_tool.specs.Canon.{IsCanon}
 use Rattle.ged_tool.specs.Faults.{file_fault_of}
 use Rattle.ged_tool.specs.Notices.{IsVerdict}
 use Rattle.ged_tool.specs.Shown.{IsShown}
-use Rattle.ged_tool.specs.declared.answers.Command.{Command}
-use Rattle.ged_tool.specs.declared.answers.Command.TheVariants.{Lines, Check, Show, Canon}
+use Rattle.ged_tool.specs.declared.runs.answer.Command.{Command}
+use Rattle.ged_tool.specs.declared.runs.answer.Command.TheVariants.{Lines, Check, Show, Canon}
 use Rattle.ged_tool.specs.declared.faults.FileFault.{FileFault}
 
 -- The text is the command's answer to a file of these bytes, under the profile and in the edition. Lines judges lines alone,

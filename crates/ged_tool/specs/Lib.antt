@@ -6,7 +6,6 @@ pub mod Canon
 pub mod Headline
 pub mod Same
 pub mod SameRun
-pub mod Steps
 pub mod Shown
 pub mod Profiles
 pub mod Accepted
@@ -15,4 +14,4 @@ pub mod Judged
 pub mod Laws
 pub mod SameLaws
 pub mod Notices
-pub mod Merges
+pub mod inner

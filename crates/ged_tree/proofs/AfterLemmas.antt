@@ -2,9 +2,9 @@
 use Rattle.std.proofs.Common.{◌≡◌, ℕ, suc, zero, ◌+◌, ◌<◌, ◌≤◌, List, [], ◌∷◌, length, drop, get_or, refl, sym, subst, ◌∙◌, ap, arith, inl, inr}
 use Rattle.std.proofs.lemmas.Bool.{lt-ltb, le-ltb, cases_lt}
 use Rattle.std.proofs.lemmas.List.{drop-drop, drop-map, drop_more, drop_all, length-drop, length-map}
-use Rattle.ged_tree.specs.declared.kept.KeptStructure.{KeptStructure}
+use Rattle.ged_tree.specs.declared.table.packed.KeptStructure.{KeptStructure}
 use Rattle.ged_tree.specs.Rows.{deeper, kept_level, kept_levels, IsClosed}
-use Rattle.ged_tree.specs.Tables.{end_from}
+use Rattle.ged_tree.specs.inner.Tables.{end_from}
 
 pub deeper_more : (level next : ℕ) (levels : List ℕ) → level < next → deeper level (next ∷ levels) ≡ 1 + deeper level levels
 deeper_more level next levels h = rw (lt-ltb level next h) refl

@@ -6,7 +6,7 @@ use Rattle.std.specs.List.Sorted.{IsNonDecreasingBy, IsPartitionPoint}
 use Rattle.std.proofs.lemmas.Bool.{cases_lt, ltb-true, ltb-false}
 use Rattle.std.proofs.lemmas.Bool.Decides.{nat_tests}
 use Rattle.ged_tree.specs.Rows.{text_apart}
-use Rattle.ged_tree.specs.declared.kept.TextApart.{TextApart}
+use Rattle.ged_tree.specs.declared.table.packed.TextApart.{TextApart}
 
 same_place : (a p : ℕ) → a ≡ p → (a == p) ≡ true
 same_place a p h = grind (arith, nat_tests)

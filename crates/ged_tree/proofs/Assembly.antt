@@ -10,8 +10,8 @@ use Rattle.ged_tree.specs.Trees.{Structure, Trees, none, tree, trees_count, furt
 use Rattle.ged_tree.specs.Documents.{is_document, are_at}
 use Rattle.ged_tree.specs.DocumentLines.{line_value, first_value, continued, lines_of}
 use Rattle.ged_tree.specs.Rows.{Row, rows_of, rows_from, further_before, places_of, texts_of, trees_of_rows, flat_rows, flat_trees, IsListed, IsSpelled, Shown, deeper, levels_of}
-use Rattle.ged_tree.specs.Tables.{OwnLine, own_line, own_lines, begins_cont, further_places, further_texts, line_text}
-use Rattle.ged_tree.specs.declared.further.FurtherLine.{FurtherLine}
+use Rattle.ged_tree.specs.inner.Tables.{OwnLine, own_line, own_lines, begins_cont, further_places, further_texts, line_text}
+use Rattle.ged_tree.specs.declared.forest.continuations.FurtherLine.{FurtherLine}
 use Rattle.ged_tree.specs.Spelled.{payload_from}
 use Rattle.ged_tree.proofs.Again.{tree_is, payload_again, laid, document_placed}
 use Rattle.ged_tree.proofs.RowLemmas.{trees_of_rows_of}

@@ -2,9 +2,9 @@
 use Rattle.std.proofs.Common.{◌≡◌, ℕ, ◌+◌, ◌<◌, List, length, drop, map, get_or, slice_set, ◌∙◌, ap}
 use Rattle.std.proofs.Math.Seq.{map-set_same}
 use Rattle.std.proofs.lemmas.List.{drop-set}
-use Rattle.ged_tree.specs.declared.kept.KeptStructure.{KeptStructure}
+use Rattle.ged_tree.specs.declared.table.packed.KeptStructure.{KeptStructure}
 use Rattle.ged_tree.specs.Rows.{IsClosed, deeper, kept_level, kept_levels}
-use Rattle.ged_tree.specs.Tables.{unsized}
+use Rattle.ged_tree.specs.inner.Tables.{unsized}
 
 module _ (items : List KeptStructure) (place : ℕ) (s y : KeptStructure) (is : s ≡ get_or items place s) (h : place < length items) where
   pub others_kept : unsized y ≡ unsized s → map unsized (slice_set items place y) ≡ map unsized items

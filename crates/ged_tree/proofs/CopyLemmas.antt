@@ -11,10 +11,10 @@ use Rattle.std.specs.Prelude.{is_none}
 use Rattle.ged_tree.specs.Trees.{Structure, Trees, none, tree, Tree, trees_of, structure_of}
 use Rattle.ged_tree.specs.Documents.{are_at, is_xref_at, is_payload_at, is_document}
 use Rattle.ged_tree.specs.Records.{record_trees, document_trees}
-use Rattle.ged_tree.specs.declared.node.RecordNode.{RecordNode}
+use Rattle.ged_tree.specs.declared.owned.node.RecordNode.{RecordNode}
 use Rattle.ged_tree.specs.Places.{structure_at}
 use Rattle.ged_tree.specs.Runs.{trees_between, IsStep}
-use Rattle.ged_tree.specs.Copies.{StandBelow}
+use Rattle.ged_tree.specs.inner.Copies.{StandBelow}
 use Rattle.ged_tree.proofs.RowLemmas.{beside}
 use Rattle.ged_tree.proofs.Again.{TreeIs, tree_is, document_is, document_placed}
 

@@ -17,14 +17,15 @@ use Rattle.ged_tree.specs.Places.{structure_at, below_at, place_after, level_at,
 use Rattle.ged_tree.specs.Views.{payload_of, is_pointer}
 use Rattle.ged_tree.specs.Spelled.{payload_from}
 use Rattle.ged_tree.specs.DocumentLines.{line_value, first_value, rest_of_line}
-use Rattle.ged_tree.specs.Tables.{own_value}
-use Rattle.ged_tree.specs.Rows.{Row, row_of, rows_from, texts_of, places_of, further_before, further_at, flat_trees, IsListed, IsFlat, IsSpelled, line_shown, Shown, shown_from, shown_with, text_at, kept_level, kept_levels, kept_further, kept_tag_length, kept_points, names_record, rest_of, HasSlice, deeper}
-use Rattle.ged_tree.specs.declared.payload.PayloadView.{PayloadView}
-use Rattle.ged_tree.specs.declared.payload.PayloadView.TheVariants as views
-use Rattle.ged_tree.specs.declared.payload.Payload.TheVariants.{Text as Texts}
-use Rattle.ged_tree.specs.declared.kept.KeptStructure.{KeptStructure}
-use Rattle.ged_tree.specs.declared.kept.TextApart.{TextApart}
-use Rattle.ged_tree.specs.declared.further.FurtherLine.{FurtherLine}
+use Rattle.ged_tree.specs.inner.Tables.{own_value}
+use Rattle.ged_tree.specs.Rows.{Row, row_of, rows_from, texts_of, places_of, further_before, further_at, flat_trees, IsListed, IsFlat, IsSpelled, line_shown, Shown, shown_from, shown_with, text_at, kept_level, kept_levels, kept_further, kept_tag_length, kept_points, names_record, HasSlice, deeper}
+use Rattle.ged_tree.specs.inner.Rows.{rest_of}
+use Rattle.ged_tree.specs.declared.forest.payload.PayloadView.{PayloadView}
+use Rattle.ged_tree.specs.declared.forest.payload.PayloadView.TheVariants as views
+use Rattle.ged_tree.specs.declared.owned.payload.Payload.TheVariants.{Text as Texts}
+use Rattle.ged_tree.specs.declared.table.packed.KeptStructure.{KeptStructure}
+use Rattle.ged_tree.specs.declared.table.packed.TextApart.{TextApart}
+use Rattle.ged_tree.specs.declared.forest.continuations.FurtherLine.{FurtherLine}
 use Rattle.ged_tree.proofs.FoundLemmas.{line_first, line_below, line_next, few_of_document}
 use Rattle.ged_tree.proofs.RowLemmas.{length-rows_of, rows_at, row_at}
 use Rattle.ged_tree.proofs.KeptLemmas.{length-shown, levels_behind, shown_here, slice_at}

@@ -18,11 +18,11 @@ use Rattle.ged_tree.specs.FileFaults.{ComesAfter, FirstFaultIn, at_piece, at_tex
 use Rattle.ged_tree.specs.Building.{TellsFile}
 use Rattle.ged_tree.specs.declared.fault.TreeFault.{TreeFault}
 use Rattle.ged_tree.proofs.FirstFaults.{no_pass}
-use Rattle.ged_tree.specs.Tables.{HoldsLines, IsSliceAt, TellsLine}
+use Rattle.ged_tree.specs.inner.Tables.{HoldsLines, IsSliceAt, TellsLine}
 use Rattle.ged_tree.specs.declared.fault.TreeFault.TheVariants.{Line}
 use Rattle.ged_tree.specs.declared.fault.BuildFault.{BuildFault}
 use Rattle.ged_tree.specs.declared.fault.BuildFault.TheVariants.{At, Memory}
-use Rattle.ged_tree.specs.declared.table.TableBuilder.{TableBuilder}
+use Rattle.ged_tree.specs.declared.table.builder.TableBuilder.{TableBuilder}
 
 -- the pieces so far spell the lines of the table, and the others are left
 pub record HasTaken (file : Bytes) (table : TableBuilder) (left : List Bytes) : Type 0 where

@@ -7,9 +7,9 @@ use Rattle.std.proofs.lemmas.Bool.{cases_Bool}
 use Rattle.std.proofs.lemmas.Bool.Decides.{nat_tests}
 use Rattle.ged_line.specs.Lines.{LineParts}
 use Rattle.ged_tree.specs.Rows.{further_before, places_of}
-use Rattle.ged_tree.specs.declared.further.FurtherLine.{FurtherLine}
+use Rattle.ged_tree.specs.declared.forest.continuations.FurtherLine.{FurtherLine}
 use Rattle.ged_tree.specs.TreeFaults.{is_cont}
-use Rattle.ged_tree.specs.Tables.{OwnLine, own_lines, begins_cont, further_places}
+use Rattle.ged_tree.specs.inner.Tables.{OwnLine, own_lines, begins_cont, further_places}
 
 low : (a p : ℕ) → a ≤ p → nat_le a p ≡ true
 low a p h = grind (arith, nat_tests)

@@ -14,7 +14,7 @@ use Rattle.ged_line.proofs.CallerLemmas.{nothing_plain}
 use Rattle.ged_tree.proofs.TestParts.{line_is}
 use Rattle.ged_tree.specs.Trees.{Trees, none, tree, further_lines, lines_count}
 use Rattle.ged_tree.specs.Documents.{is_payload_at, is_xref_at, is_structure_at, are_at, is_record_tag, are_records, is_head, is_document}
-use Rattle.ged_tree.specs.declared.payload.Payload.TheVariants.{Text}
+use Rattle.ged_tree.specs.declared.owned.payload.Payload.TheVariants.{Text}
 use Rattle.ged_tree.specs.DocumentLines.{continued, structure_lines, lines_of}
 use Rattle.ged_tree.specs.TreeFaults.{is_cont, is_header, is_trailer, has_trailer, has_forbidden_xref}
 use Rattle.ged_tree.specs.Spelled.{payload_from}

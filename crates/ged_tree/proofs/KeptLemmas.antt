@@ -10,9 +10,9 @@ use Rattle.ged_line.specs.Bytes.{Bytes}
 use Rattle.ged_line.specs.Lines.{LineParts, is_line}
 use Rattle.ged_tree.proofs.TestParts.{line_is}
 use Rattle.ged_tree.specs.Rows.{Shown, shown_with, shown_from, text_at, text_apart, line_shown, IsSpelled, HasSlice, levels_of, kept_level, kept_levels, kept_further}
-use Rattle.ged_tree.specs.Tables.{OwnLine, own_line, go_on, unsized, TellsFurther}
-use Rattle.ged_tree.specs.declared.kept.KeptStructure.{KeptStructure}
-use Rattle.ged_tree.specs.declared.kept.TextApart.{TextApart}
+use Rattle.ged_tree.specs.inner.Tables.{OwnLine, own_line, go_on, unsized, TellsFurther}
+use Rattle.ged_tree.specs.declared.table.packed.KeptStructure.{KeptStructure}
+use Rattle.ged_tree.specs.declared.table.packed.TextApart.{TextApart}
 use Rattle.ged_tree.proofs.ApartLemmas.{apart_other}
 
 -- the mark of a line's level

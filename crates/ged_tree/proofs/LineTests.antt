@@ -12,9 +12,9 @@ use Rattle.ged_tree.proofs.TestParts.{and_left, and_right, and_true}
 use Rattle.ged_tree.specs.Trees.{Structure, Trees, none, tree, further_lines, lines_count}
 use Rattle.ged_tree.specs.Documents.{is_document, is_structure_at, is_head, are_records, is_xref_at, is_payload_at, are_at}
 use Rattle.ged_tree.specs.DocumentLines.{first_value, line_value}
-use Rattle.ged_tree.specs.Walks.{are_levels, HasLinesAt, HaveLinesAt}
-use Rattle.ged_tree.specs.declared.payload.Payload.{Payload}
-use Rattle.ged_tree.specs.declared.payload.Payload.TheVariants.{Void, Pointer, Text}
+use Rattle.ged_tree.specs.inner.Walks.{are_levels, HasLinesAt, HaveLinesAt}
+use Rattle.ged_tree.specs.declared.owned.payload.Payload.{Payload}
+use Rattle.ged_tree.specs.declared.owned.payload.Payload.TheVariants.{Void, Pointer, Text}
 
 -- the parts of a structure's test
 pub record StructureIs (l : ℕ) (s : Structure) : Type 0 where

@@ -3,7 +3,7 @@ use Rattle.std.proofs.Common.{◌≡◌, [], ◌∷◌, Option, None, ap, refl}
 use Rattle.ged_line.specs.Bytes.{Bytes}
 use Rattle.ged_tree.specs.Trees.{Structure, Trees, none, tree, Tree, structure_of}
 use Rattle.ged_tree.specs.Laws.{NodesByTrees, RecordsByTrees, DocumentsByTrees}
-use Rattle.ged_tree.specs.declared.node.RecordNode.{RecordNode}
+use Rattle.ged_tree.specs.declared.owned.node.RecordNode.{RecordNode}
 
 none_or_tree : (s : Structure) (b n : Trees) → none ≡ tree s b n → ⊥
 none_or_tree s b n e = cc

@@ -4,7 +4,7 @@ use Rattle.std.proofs.lemmas.Bool.Decides.{nat_tests}
 use Rattle.ged_tree.specs.Trees.{Structure, Trees, none, tree, trees_count, line_count, lines_count}
 use Rattle.ged_tree.specs.Places.{line_at}
 use Rattle.ged_tree.specs.Paths.{LeadsTo, here, down, along}
-use Rattle.ged_tree.specs.PathLines.{path_line, line_below as line_within, line_of_path}
+use Rattle.ged_tree.specs.inner.PathLines.{path_line, line_below as line_within, line_of_path}
 use Rattle.ged_tree.proofs.FoundLemmas.{line_below, line_next}
 
 pub path_here : (i : ℕ) (s : Structure) (b n : Trees) (k : ℕ) (ks : List ℕ) → k ≡ 0 → path_line i (tree s b n) k ks ≡ line_within i s.payload b ks

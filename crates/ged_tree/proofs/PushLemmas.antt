@@ -8,11 +8,11 @@ use Rattle.ged_line.specs.Lines.{LineParts}
 use Rattle.ged_tree.specs.Rows.{Shown, shown_with, shown_from, text_at, IsSpelled, HasSlice}
 use Rattle.ged_tree.specs.Rows.{texts_of, places_of}
 use Rattle.ged_tree.specs.TreeFaults.{is_cont, is_trailer}
-use Rattle.ged_tree.specs.Tables.{OwnLine, own_line, line_text, table_shown, IsKept, IsSliceAt, Shows, HasStructure, IsPut, TellsFurther}
-use Rattle.ged_tree.specs.declared.further.FurtherLine.{FurtherLine}
-use Rattle.ged_tree.specs.declared.kept.KeptStructure.{KeptStructure}
-use Rattle.ged_tree.specs.declared.kept.TextApart.{TextApart}
-use Rattle.ged_tree.specs.declared.table.TableBuilder.{TableBuilder}
+use Rattle.ged_tree.specs.inner.Tables.{OwnLine, own_line, line_text, table_shown, IsKept, IsSliceAt, Shows, HasStructure, IsPut, TellsFurther}
+use Rattle.ged_tree.specs.declared.forest.continuations.FurtherLine.{FurtherLine}
+use Rattle.ged_tree.specs.declared.table.packed.KeptStructure.{KeptStructure}
+use Rattle.ged_tree.specs.declared.table.packed.TextApart.{TextApart}
+use Rattle.ged_tree.specs.declared.table.builder.TableBuilder.{TableBuilder}
 use Rattle.ged_tree.proofs.ApartLemmas.{apart_here, low_at, low_later, low_push}
 use Rattle.ged_tree.proofs.KeptLemmas.{text_of_apart, text_of_slice, shown-append, shown_apart, slices_push, spelled_push}
 

@@ -10,8 +10,8 @@ use Rattle.ged_line.specs.Names.{is_tag, is_xref}
 use Rattle.ged_line.specs.Lines.{LineParts, line_parts, is_line, is_value, may_be_xref, Value}
 use Rattle.ged_tree.specs.Trees.{Trees, none, tree, further_lines, lines_count}
 use Rattle.ged_tree.specs.Documents.{is_payload_at, is_xref_at, are_at, is_document}
-use Rattle.ged_tree.specs.declared.payload.Payload.{Payload}
-use Rattle.ged_tree.specs.declared.payload.Payload.TheVariants.{Void, Pointer, Text}
+use Rattle.ged_tree.specs.declared.owned.payload.Payload.{Payload}
+use Rattle.ged_tree.specs.declared.owned.payload.Payload.TheVariants.{Void, Pointer, Text}
 use Rattle.ged_tree.specs.DocumentLines.{line_value, first_value, continued, structure_lines, lines_of, trailer_line, document_lines, HasLines}
 use Rattle.ged_tree.proofs.Grown.{length_lines}
 use Rattle.ged_tree.proofs.Again.{tree_is, document_is}

@@ -12,9 +12,9 @@ use Rattle.ged_tree.specs.DocumentLines.{lines_of, trailer_line, HasLines}
 use Rattle.ged_tree.specs.TreeFaults.{is_cont, is_trailer, is_empty, has_trailer, fault_after, Pass, more, FirstFault, no_lines, past_last}
 use Rattle.ged_tree.specs.Judging.{StandsFor}
 use Rattle.ged_tree.specs.Rows.{Shown, shown_from, IsSpelled, IsClosed, IsFlat}
-use Rattle.ged_tree.specs.Tables.{OwnLine, own_line, own_lines, begins_cont, go_on, with_line, further_places, further_texts, but_trailer, unsized, table_shown, IsKept, HoldsLines, IsPut}
-use Rattle.ged_tree.specs.declared.kept.KeptStructure.{KeptStructure}
-use Rattle.ged_tree.specs.declared.table.TableBuilder.{TableBuilder}
+use Rattle.ged_tree.specs.inner.Tables.{OwnLine, own_line, own_lines, begins_cont, go_on, with_line, further_places, further_texts, but_trailer, unsized, table_shown, IsKept, HoldsLines, IsPut}
+use Rattle.ged_tree.specs.declared.table.packed.KeptStructure.{KeptStructure}
+use Rattle.ged_tree.specs.declared.table.builder.TableBuilder.{TableBuilder}
 use Rattle.ged_tree.specs.declared.fault.TreeFault.TheVariants.{NoHeader, NoTrailer}
 use Rattle.ged_tree.proofs.Law.{made, free_after, ended}
 use Rattle.ged_tree.proofs.Assembly.{Lists, lists}

@@ -1,9 +1,7 @@
 -- What a judge keeps of the lines so far. Only the contracts of `Judge` cite this.
-use Rattle.std.specs.Prelude.{◌≡◌, ℕ, Bool, List, [], ◌∷◌, Option, option_map}
+use Rattle.std.specs.Prelude.{◌≡◌, ℕ, Bool, List, Option, option_map}
 use Rattle.ged_line.specs.Lines.{LineParts}
 use Rattle.ged_tree.specs.TreeFaults.{is_cont, is_reference, line_before, has_trailer}
-use Rattle.ged_tree.specs.declared.fault.TreeFault.{TreeFault}
-use Rattle.ged_tree.specs.declared.fault.TreeFault.TheVariants.{NoHeader, SecondHeader, TrailerNotEmpty, AfterTrailer}
 
 -- what a line tells about the faults of the next: its level, whether it is a CONT, and whether it has a pointer or void
 pub record Seen : Type 0 where
@@ -25,7 +23,3 @@ facts_of lines = record { before = option_map seen (line_before lines); ended = 
 -- a judge of these facts stands for these lines
 abbrev pub StandsFor : Facts → List LineParts → Type 0
 StandsFor facts lines = facts ≡ facts_of lines
-
--- the last of the faults that stand at a line: those of HEAD and TRLR
-abbrev pub end_faults : List TreeFault
-end_faults = NoHeader ∷ SecondHeader ∷ TrailerNotEmpty ∷ AfterTrailer ∷ []

@@ -6,7 +6,7 @@ use Rattle.ged_tree.specs.Places.{structure_at, level_at, line_at}
 use Rattle.ged_tree.specs.Entries.{entries_of}
 use Rattle.ged_tree.specs.Paths.{LeadsTo}
 use Rattle.ged_tree.specs.Records.{record_trees, document_trees}
-use Rattle.ged_tree.specs.declared.node.RecordNode.{RecordNode}
+use Rattle.ged_tree.specs.declared.owned.node.RecordNode.{RecordNode}
 use Rattle.ged_tree.specs.DocumentLines.{first_value, document_lines}
 
 -- a list of structures belongs to one document and no other

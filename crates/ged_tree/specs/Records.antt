@@ -1,7 +1,7 @@
 -- The trees of a document's parts.
 use Rattle.std.specs.Prelude.{List, [], ◌∷◌, None}
 use Rattle.ged_tree.specs.Trees.{Trees, none, tree, Tree, structure_of}
-use Rattle.ged_tree.specs.declared.node.RecordNode.{RecordNode}
+use Rattle.ged_tree.specs.declared.owned.node.RecordNode.{RecordNode}
 
 -- the trees of records, side by side
 abbrev pub record_trees : List RecordNode → Trees

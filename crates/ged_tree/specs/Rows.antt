@@ -6,15 +6,13 @@ use Rattle.std.specs.Str.{IsCharBoundary}
 use Rattle.ged_line.specs.Bytes.{Bytes}
 use Rattle.ged_line.specs.Lines.{LineParts, LineText, Value, xref_part}
 use Rattle.ged_line.specs.Lines as value
-use Rattle.ged_line.specs.Spelling.{value_part}
 use Rattle.ged_tree.specs.Trees.{Structure, Trees, none, tree, trees_count, further_lines, line_count, lines_count}
 use Rattle.ged_tree.specs.Documents.{is_document}
 use Rattle.ged_tree.specs.Runs.{leading}
 use Rattle.ged_tree.specs.Spelled.{shown_line, payload_from}
-use Rattle.ged_tree.specs.declared.flat_structure.FlatStructure.{FlatStructure}
-use Rattle.ged_tree.specs.declared.further.FurtherLine.{FurtherLine}
-use Rattle.ged_tree.specs.declared.kept.KeptStructure.{KeptStructure}
-use Rattle.ged_tree.specs.declared.kept.TextApart.{TextApart}
+use Rattle.ged_tree.specs.declared.forest.continuations.FurtherLine.{FurtherLine}
+use Rattle.ged_tree.specs.declared.table.packed.KeptStructure.{KeptStructure}
+use Rattle.ged_tree.specs.declared.table.packed.TextApart.{TextApart}
 
 -- a structure, its level, the first place past all below it, its line, how many further lines its payload has, and
 -- whether it has some
@@ -101,9 +99,6 @@ text_at file apart place s = if s.length == 255 then text_apart apart place else
 abbrev pub shown_with : Bytes → KeptStructure → Shown
 shown_with text s = record { text = text; level = kept_level s; tag_start = s.tag_start; tag_length = kept_tag_length s; points = kept_points s; has_further = kept_further s }
 
-abbrev pub shown_of : FlatStructure → Shown
-shown_of s = shown_with s.text.now s.kept
-
 -- structures, the first of which stands at this place
 abbrev pub shown_from : Bytes → List TextApart → ℕ → List KeptStructure → List Shown
 shown_from file apart place [] = []
@@ -116,14 +111,6 @@ HasSlice file s = s.length < 255 → IsCharBoundary file s.start × IsCharBounda
 -- the line that a structure's text shows
 abbrev pub line_shown : Shown → LineParts
 line_shown s = shown_line s.level s.text
-
--- the tag of a line stands between two places of the text that spells the line
-abbrev pub HasTagAt : LineParts → Bytes → ℕ → ℕ → Type 0
-HasTagAt line text start end = LineText line text × (start ≡ length (decimal line.level) + 1 + length (xref_part line.xref)) × (end ≡ start + length line.tag)
-
--- what stands on a line from its tag on, in the canonical spelling
-abbrev pub rest_of : LineParts → Bytes
-rest_of line = line.tag ++ value_part line.value
 
 -- Where a structure keeps the length of its tag, it keeps where the tag begins in its text too: behind the level, a space
 -- and a cross-reference identifier; and whether a pointer stands behind the tag.

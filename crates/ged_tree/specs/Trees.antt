@@ -1,8 +1,8 @@
 -- The structures of a document, as trees (FamilySearch GEDCOM 7.0, "Structures").
 use Rattle.std.specs.Prelude.{ℕ, ◌+◌, List, [], ◌∷◌, Option, None, length}
 use Rattle.ged_line.specs.Bytes.{Bytes}
-use Rattle.ged_tree.specs.declared.payload.Payload.{Payload}
-use Rattle.ged_tree.specs.declared.payload.Payload.TheVariants.{Void, Pointer, Text}
+use Rattle.ged_tree.specs.declared.owned.payload.Payload.{Payload}
+use Rattle.ged_tree.specs.declared.owned.payload.Payload.TheVariants.{Void, Pointer, Text}
 
 -- one structure by itself: a record's cross-reference identifier, the tag, and the payload
 pub record Structure : Type 0 where
@@ -34,9 +34,6 @@ trees_of (t ∷ ts) = tree (structure_of None t) t.children (trees_of ts)
 abbrev pub trees_count : Trees → ℕ
 trees_count none = 0
 trees_count (tree s below next) = 1 + trees_count below + trees_count next
-
-abbrev pub structure_count : Tree → ℕ
-structure_count t = 1 + trees_count t.children
 
 -- the lines of a payload past the first
 abbrev pub further_lines : Payload → List Bytes

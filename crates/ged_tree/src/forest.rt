@@ -1,5 +1,8 @@
 // The structures of a document by their places, whatever holds them.
-ghost use Rattle.std.specs.Prelude.{◌≡◌, ◌<◌, Bool, Some, true, false, length, slice_get, MatchOption, IfSome, is_some};
+pub(crate) mod continuations;
+pub(crate) mod payload;
+
+ghost use Rattle.std.specs.Prelude.{◌≡◌, ◌<◌, Some, true, length, slice_get, MatchOption, IfSome};
 ghost use Rattle.std.specs.Option.{option_copied};
 ghost use Rattle.ged_tree.specs.Trees.{Trees, none, trees_count, further_lines};
 ghost use Rattle.ged_tree.specs.Documents.{is_document};
@@ -8,21 +11,16 @@ ghost use Rattle.ged_tree.specs.Places.{structure_at, place_after, level_at, lin
 ghost use Rattle.ged_tree.specs.Runs.{trees_between, IsRun, IsStep};
 ghost use Rattle.ged_tree.specs.Views.{payload_of, is_pointer};
 
-use crate::document::Document;
-use crate::found::count;
-use crate::further::{FurtherLines, HeldLines};
-use crate::payload::PayloadView;
+use crate::forest::continuations::FurtherLines;
+use crate::forest::payload::PayloadView;
 
 /// The structures of a document by their places, which count from 0 in the order of a file: HEAD stands at place 0, and
 /// TRLR at none. No call takes memory.
 ///
-/// A [`Document`] finds a place by a walk over its nodes from the first one on; a [`crate::Flat`] has it at hand.
+/// A [`crate::Document`] finds a place by a walk over its nodes from the first one on; a [`crate::Flat`] has it at hand.
 pub trait Forest {
     /// The document that it is seen as.
     ghost trees: { Self → Trees };
-
-    /// Whether it has the lines of its structures, each in one text.
-    ghost holds_lines: { Self → Bool };
 
     /// How many structures there are.
     fn size(&self) -> usize
@@ -60,18 +58,6 @@ pub trait Forest {
         ensures { payload_of result (further_lines (structure_at (trees self.now) place).payload)
             ≡ (structure_at (trees self.now) place).payload };
 
-    /// Whether the payload is a pointer that names a record, which may be known without a look at the payload.
-    fn points(&self, place: usize) -> bool
-        requires { place < trees_count (trees self.now) }
-        ensures { result ≡ is_pointer (structure_at (trees self.now) place).payload };
-
-    /// The tag and the first line of the payload in one text, as the canonical spelling of the structure's line has them; or
-    /// `None` where tags and payloads are held apart.
-    fn rest_of_line(&self, place: usize) -> Option<&str>
-        requires { place < trees_count (trees self.now) }
-        ensures held { is_some result ≡ holds_lines self.now }
-        ensures rest { IfSome result (λ rest. rest.now ≡ rest_of_line (structure_at (trees self.now) place)) };
-
     /// How many lines the payload has past the first.
     fn further(&self, place: usize) -> usize
         requires { place < trees_count (trees self.now) }
@@ -83,73 +69,30 @@ pub trait Forest {
         requires further { number < length (further_lines (structure_at (trees self.now) place).payload) }
         ensures { slice_get (further_lines (structure_at (trees self.now) place).payload) number ≡ Some result.now };
 
-    /// The lines of the payload past the first, for a caller that wants them all.
-    fn further_lines(&self, place: usize) -> FurtherLines<'_>
+    /// Whether the payload is a pointer that names a record. A forest that knows it without a look at the payload answers so.
+    fn points(&self, place: usize) -> bool
         requires { place < trees_count (trees self.now) }
-        ensures { result ≡ further_lines (structure_at (trees self.now) place).payload };
-}
-
-#[tactic(auto, using(crate::proofs::PlaceLemmas::after_fits), unfolding(crate::specs::Places::structure_at, crate::specs::Places::below_at, crate::specs::Places::place_after))]
-impl Forest for Document {
-    ghost trees = { λ document. document };
-
-    ghost holds_lines = { λ _. false };
-
-    fn size(&self) -> usize {
-        self.count()
-    }
-
-    fn level(&self, place: usize) -> u8 {
-        self.find(place).level
-    }
-
-    fn after(&self, place: usize) -> usize {
-        let node = self.find(place).node;
-        place + 1 + count(node.children.as_slice())
-    }
-
-    fn line(&self, place: usize) -> u64 {
-        self.line_at(place)
-    }
-
-    fn tag(&self, place: usize) -> &str {
-        let node = self.find(place).node;
-        node.tag.as_str()
-    }
-
-    fn xref(&self, place: usize) -> Option<&str> {
-        match self.find(place).xref {
-            Some(name) => Some(name.as_str()),
-            None => None,
-        }
-    }
-
-    fn payload(&self, place: usize) -> PayloadView<'_> {
-        let node = self.find(place).node;
-        node.payload.view()
-    }
-
-    fn points(&self, place: usize) -> bool {
+        ensures { result ≡ is_pointer (structure_at (trees self.now) place).payload }
+    {
         matches!(self.payload(place), PayloadView::Pointer(_))
     }
 
-    fn rest_of_line(&self, _place: usize) -> Option<&str> {
+    /// The tag and the first line of the payload in one text, as the canonical spelling of the structure's line has them; or
+    /// `None` where the forest does not hold them so.
+    fn rest_of_line(&self, _place: usize) -> Option<&str>
+        requires { _place < trees_count (trees self.now) }
+        ensures { IfSome result (λ rest. rest.now ≡ rest_of_line (structure_at (trees self.now) _place)) }
+    {
         None
     }
 
-    fn further(&self, place: usize) -> usize {
-        let node = self.find(place).node;
-        node.payload.further_lines().len()
-    }
-
-    fn further_line(&self, place: usize, number: usize) -> &str {
-        let node = self.find(place).node;
-        node.payload.further_lines()[number].as_str()
-    }
-
-    fn further_lines(&self, place: usize) -> FurtherLines<'_> {
-        let node = self.find(place).node;
-        FurtherLines::of(HeldLines::Payload(node.payload.further_lines()))
+    /// The lines of the payload past the first, for a caller that wants them all; or `None` where the forest has them only one
+    /// by one.
+    fn further_lines(&self, _place: usize) -> Option<FurtherLines<'_>>
+        requires { _place < trees_count (trees self.now) }
+        ensures { IfSome result (λ lines. lines ≡ further_lines (structure_at (trees self.now) _place).payload) }
+    {
+        None
     }
 }
 

@@ -7,7 +7,8 @@ ghost use Rattle.ged_tree.specs.TreeFaults.{jumps as tests_jump, continues as te
 ghost use Rattle.ged_tree.specs.TreeFaults.{is_misplaced_cont as tests_misplaced_cont, is_below_cont as tests_below_cont};
 ghost use Rattle.ged_tree.specs.TreeFaults.{is_cont as tests_cont, is_header as tests_header, is_trailer as tests_trailer};
 ghost use Rattle.ged_tree.specs.TreeFaults.{is_reference as tests_reference, is_empty as tests_empty, has_forbidden_xref as tests_forbidden_xref};
-ghost use Rattle.ged_tree.specs.Judging.{StandsFor, seen, end_faults};
+ghost use Rattle.ged_tree.specs.Judging.{StandsFor, seen};
+ghost use Rattle.ged_tree.specs.inner.Judging.{end_faults};
 
 use crate::fault::TreeFault;
 use ged_line::{LineView, ValueView};

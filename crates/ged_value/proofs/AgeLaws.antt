@@ -15,7 +15,7 @@ use Rattle.ged_value.specs.Words.{Bytes, is_integer, words_of, joined}
 use Rattle.ged_value.specs.Texts.{bytes_of}
 use Rattle.ged_value.specs.Reading.{Reads}
 use Rattle.ged_value.specs.Ages.{Sign, less, greater, AgeParts, sign_words, unit_words, duration_words, IsNumber, HasNumbers, AgeText}
-use Rattle.ged_value.specs.AgeReading.{before_last, if_integer, number_before, unit_behind, unit_at, sign_at, units_at, age_at}
+use Rattle.ged_value.specs.inner.AgeReading.{before_last, if_integer, number_before, unit_behind, unit_at, sign_at, units_at, age_at}
 use Rattle.ged_value.proofs.DateLaws.{nots, some_same}
 use Rattle.ged_value.proofs.Foreign.{Lack, has_space, no_space}
 use Rattle.ged_value.proofs.ValueLaws.{none_some, map_some}

@@ -9,7 +9,7 @@ use Rattle.std.proofs.lemmas.List.Splits.{join_with_byte-slice_split}
 use Rattle.ged_value.specs.Words.{Bytes, words_of, joined, is_extension_tag}
 use Rattle.ged_value.specs.Dates.{CalendarName, gregorian, julian, french_r, hebrew, extension, DateParts, calendar_word, is_calendar, is_date, date_words, SpellsDate}
 use Rattle.ged_value.specs.Values.{PeriodParts, empty, to, from, from_to, ValueParts, span, plain, between, after, before, about, calculated, estimated, Behind, BothBehind, SpellsPeriod, SpellsValue, PeriodText, DateValueText}
-use Rattle.ged_value.specs.ValueReading.{period_at, value_at}
+use Rattle.ged_value.specs.inner.ValueReading.{period_at, value_at}
 use Rattle.ged_value.specs.Default.{default_word, TextLeavesOut, is_other, without_default}
 use Rattle.ged_value.specs.Laws.{HasDefault, NothingLeftOut, TwoTexts, LeavingOut}
 use Rattle.ged_value.proofs.DateLaws.{nots, valid, some_same}

@@ -3,7 +3,7 @@ use Rattle.std.proofs.Common.{◌≡◌, ◌≢◌, Bool, true, false, ◌&&◌,
 use Rattle.ged_value.specs.Words.{Bytes, is_integer}
 use Rattle.ged_value.specs.Dates.{gregorian, DateParts, is_month, is_day, is_date}
 use Rattle.ged_value.specs.Exact.{ExactParts, is_exact, SpellsExact}
-use Rattle.ged_value.specs.ExactReading.{exact_at}
+use Rattle.ged_value.specs.inner.ExactReading.{exact_at}
 use Rattle.ged_value.proofs.WordLaws.{both}
 use Rattle.ged_value.proofs.Foreign.{space_lacks}
 use Rattle.ged_value.proofs.TextLaws.{Plainly}

@@ -7,7 +7,7 @@ use Rattle.std.specs.Str.{bytes_eq}
 use Rattle.std.proofs.lemmas.Slice.Eq.{bytes_eq-Decides}
 use Rattle.ged_value.specs.Words.{Bytes, words_of, is_integer}
 use Rattle.ged_value.specs.Reading.{Reads}
-use Rattle.ged_value.specs.Cuts.{cut_at}
+use Rattle.ged_value.specs.inner.Cuts.{cut_at}
 use Rattle.ged_value.specs.Times.{marked, TimeText}
 use Rattle.ged_value.specs.Names.{NameText}
 use Rattle.ged_value.specs.Exact.{SpellsExact, ExactText}
@@ -15,12 +15,12 @@ use Rattle.ged_value.specs.Values.{SpellsValue, SpellsPeriod, DateValueText, Per
 use Rattle.ged_value.specs.Ages.{AgeParts, AgeText, no_age}
 use Rattle.ged_value.specs.Restrictions.{AreRestrictions}
 use Rattle.ged_value.specs.Enumerations.{sexes, pedigrees, statuses, name_types, restrictions, is_of_set, is_of_any_set}
-use Rattle.ged_value.specs.ValueReading.{value_at, period_at}
-use Rattle.ged_value.specs.ExactReading.{exact_at}
-use Rattle.ged_value.specs.TimeReading.{time_at}
-use Rattle.ged_value.specs.AgeReading.{age_at}
-use Rattle.ged_value.specs.NameReading.{name_at}
-use Rattle.ged_value.specs.RestrictionReading.{trim_start, trim_end}
+use Rattle.ged_value.specs.inner.ValueReading.{value_at, period_at}
+use Rattle.ged_value.specs.inner.ExactReading.{exact_at}
+use Rattle.ged_value.specs.inner.TimeReading.{time_at}
+use Rattle.ged_value.specs.inner.AgeReading.{age_at}
+use Rattle.ged_value.specs.inner.NameReading.{name_at}
+use Rattle.ged_value.specs.inner.RestrictionReading.{trim_start, trim_end}
 use Rattle.ged_value.specs.Kinds.{IsVersion, FitsLine, takes_lines, takes_links}
 use Rattle.ged_value.specs.declared.kind.Kind.{Kind}
 use Rattle.ged_value.specs.declared.kind.Kind.TheVariants as kinds

@@ -5,9 +5,10 @@ use Rattle.std.specs.Borrow.{Bor}
 use Rattle.std.proofs.Common.{add-one, below_more}
 use Rattle.std.proofs.lemmas.List.{get_or-map, take-map, drop-map, length-map}
 use Rattle.std.proofs.lemmas.Grind.{common_steps}
-use Rattle.ged_value.specs.Texts.{texts, bytes_of}
+use Rattle.ged_value.specs.Texts.{bytes_of}
+use Rattle.ged_value.specs.inner.Texts.{texts}
 use Rattle.ged_value.specs.Words.{Bytes}
-use Rattle.ged_value.specs.WordReading.{around}
+use Rattle.ged_value.specs.inner.WordReading.{around}
 
 pub around_at : (w : Bytes) (ws : List Bytes) (i : ℕ) → i < length ws → ((k : ℕ) → k < i → bytes_eq (get_or ws k []) w ≡ false) → bytes_eq (get_or ws i []) w ≡ true → around w ws ≡ Some (take i ws, drop (suc i) ws)
 around_at w [] i within before here = absurd (omega arith)

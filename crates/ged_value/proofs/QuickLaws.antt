@@ -8,7 +8,7 @@ use Rattle.ged_value.specs.Words.{Bytes, is_integer, is_one_of, number, joined}
 use Rattle.ged_value.specs.Dates.{gregorian, DateParts, roman_days, SpellsDate}
 use Rattle.ged_value.specs.Exact.{ExactParts, ExactText}
 use Rattle.ged_value.specs.Values.{ValueParts, plain, after, before, about, calculated, estimated, Behind, SpellsValue, DateValueText}
-use Rattle.ged_value.specs.Quick.{DateText, IsMonthAndYear, IsDayBefore, lone_keywords}
+use Rattle.ged_value.specs.inner.Quick.{DateText, IsMonthAndYear, IsDayBefore, lone_keywords}
 use Rattle.ged_value.proofs.WordLaws.{both}
 use Rattle.ged_value.proofs.DateLaws.{same_word, date_again}
 use Rattle.ged_value.proofs.ValueLaws.{none_some}

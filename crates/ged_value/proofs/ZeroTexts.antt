@@ -9,9 +9,9 @@ use Rattle.ged_value.specs.Zeros.{begins_with_digit, has_leading_zero, trim_zero
 use Rattle.ged_value.specs.ZeroParts.{value_integers, trimmed_value, period_integers, trimmed_period, exact_integers, trimmed_exact, age_integers, trimmed_age, IntegerText, integer_alone}
 use Rattle.ged_value.specs.ZeroLaws.{LeavingOutZeros}
 use Rattle.ged_value.specs.Values.{SpellsPeriod, PeriodText, SpellsValue, DateValueText}
-use Rattle.ged_value.specs.ValueReading.{period_at, value_at}
+use Rattle.ged_value.specs.inner.ValueReading.{period_at, value_at}
 use Rattle.ged_value.specs.Exact.{SpellsExact, ExactText}
-use Rattle.ged_value.specs.ExactReading.{exact_at}
+use Rattle.ged_value.specs.inner.ExactReading.{exact_at}
 use Rattle.ged_value.specs.Ages.{AgeText}
 use Rattle.ged_value.proofs.WordLaws.{integer_digits}
 use Rattle.ged_value.proofs.AgeLaws.{one_age}

@@ -1,11 +1,13 @@
 // Ages.
 ghost use Rattle.std.specs.Prelude.{◌≡◌, ◌<◌};
 ghost use Rattle.std.specs.Option.{option_map};
-ghost use Rattle.ged_value.specs.Texts.{texts, bytes_of};
+ghost use Rattle.ged_value.specs.Texts.{bytes_of};
+ghost use Rattle.ged_value.specs.inner.Texts.{texts};
 ghost use Rattle.ged_value.specs.Reading.{Reads};
 ghost use Rattle.ged_value.specs.Ages.{AgeText};
-ghost use Rattle.ged_value.specs.AgeReading.{before_last, number_before, unit_at, sign_at, age_at};
-ghost use Rattle.ged_value.specs.AgeViews.{age_parts, unit_seen, sign_seen};
+ghost use Rattle.ged_value.specs.inner.AgeReading.{before_last, number_before, unit_at, sign_at, age_at};
+ghost use Rattle.ged_value.specs.AgeViews.{age_parts};
+ghost use Rattle.ged_value.specs.inner.AgeViews.{unit_seen, sign_seen};
 
 use crate::split::words_of;
 use crate::words::is_integer;

@@ -1,7 +1,7 @@
 // A text, cut at a character.
 ghost use Rattle.std.specs.Prelude.{◌≡◌, ◌≢◌, ◌<◌, ℕ, length, slice_index, MatchOption};
 ghost use Rattle.std.specs.Option.{option_map};
-ghost use Rattle.ged_value.specs.Cuts.{cut_at as cuts_at};
+ghost use Rattle.ged_value.specs.inner.Cuts.{cut_at as cuts_at};
 ghost use Rattle.ged_value.specs.Texts.{bytes_of};
 
 /// The place of the first such byte.

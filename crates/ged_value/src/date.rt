@@ -2,12 +2,13 @@
 ghost use Rattle.std.specs.Prelude.{◌≡◌};
 ghost use Rattle.std.specs.Option.{option_map};
 ghost use Rattle.ged_value.specs.Words.{is_one_of};
-ghost use Rattle.ged_value.specs.Texts.{bytes_of, texts};
+ghost use Rattle.ged_value.specs.Texts.{bytes_of};
+ghost use Rattle.ged_value.specs.inner.Texts.{texts};
 ghost use Rattle.ged_value.specs.Dates.{calendar_words, keywords, is_reserved};
 ghost use Rattle.ged_value.specs.Dates.{months_of_31, months_of_30, french_months, hebrew_months};
 ghost use Rattle.ged_value.specs.Dates.{roman_days, french_days, greatest_day, is_month, is_day};
 ghost use Rattle.ged_value.specs.Dates.{is_calendar, is_day_and_month, is_epoch, is_date};
-ghost use Rattle.ged_value.specs.DateReading.{standard_calendar, calendar_at, parts_at, date_at};
+ghost use Rattle.ged_value.specs.inner.DateReading.{standard_calendar, calendar_at, parts_at, date_at};
 ghost use Rattle.ged_value.specs.Views.{calendar_name, date_parts};
 
 use crate::words::{is_extension_tag, is_integer, is_standard_tag, small_number};

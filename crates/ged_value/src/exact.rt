@@ -1,10 +1,10 @@
 // Exact dates: a day, a month and a year of the Gregorian calendar.
 ghost use Rattle.std.specs.Prelude.{◌≡◌};
 ghost use Rattle.std.specs.Option.{option_map};
-ghost use Rattle.ged_value.specs.Texts.{texts};
+ghost use Rattle.ged_value.specs.inner.Texts.{texts};
 ghost use Rattle.ged_value.specs.Reading.{Reads};
 ghost use Rattle.ged_value.specs.Exact.{ExactText, is_exact as tests_exact};
-ghost use Rattle.ged_value.specs.ExactReading.{exact_at as reads_exact};
+ghost use Rattle.ged_value.specs.inner.ExactReading.{exact_at as reads_exact};
 ghost use Rattle.ged_value.specs.ExactViews.{exact_parts};
 
 use crate::date::{Calendar, is_day, is_month};

@@ -6,7 +6,7 @@ ghost use Rattle.ged_value.specs.Words.{is_integer, is_one_of};
 ghost use Rattle.ged_value.specs.Dates.{roman_days, DateParts};
 ghost use Rattle.ged_value.specs.Exact.{ExactParts, ExactText};
 ghost use Rattle.ged_value.specs.Values.{ValueParts, DateValueText};
-ghost use Rattle.ged_value.specs.Quick.{DateText, is_day_to, IsMonthAndYear, IsDayBefore, lone_keywords};
+ghost use Rattle.ged_value.specs.inner.Quick.{DateText, is_day_to, IsMonthAndYear, IsDayBefore, lone_keywords};
 
 use crate::words::{all_digits, two_digits};
 

@@ -2,8 +2,8 @@
 ghost use Rattle.std.specs.Prelude.{◌≡◌, ◌<◌, ◌≤◌, take, length, MatchOption};
 ghost use Rattle.std.specs.Option.{option_map};
 ghost use Rattle.ged_value.specs.Words.{words_of};
-ghost use Rattle.ged_value.specs.WordReading.{around};
-ghost use Rattle.ged_value.specs.Texts.{texts};
+ghost use Rattle.ged_value.specs.inner.WordReading.{around};
+ghost use Rattle.ged_value.specs.inner.Texts.{texts};
 ghost use Rattle.ged_value.specs.declared.split.TheConstants.{MOST};
 
 /// The most words that a value has: two keywords, each before a date of five words.

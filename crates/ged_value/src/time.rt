@@ -4,7 +4,7 @@ ghost use Rattle.std.specs.Option.{option_map};
 ghost use Rattle.ged_value.specs.Texts.{bytes_of};
 ghost use Rattle.ged_value.specs.Reading.{Reads};
 ghost use Rattle.ged_value.specs.Times.{TimeText, is_hour as tests_hour, is_sixtieth as tests_sixtieth, is_second as tests_second, is_time as tests_time};
-ghost use Rattle.ged_value.specs.TimeReading.{second_at as reads_second, clock_at as reads_clock};
+ghost use Rattle.ged_value.specs.inner.TimeReading.{second_at as reads_second, clock_at as reads_clock};
 ghost use Rattle.ged_value.specs.TimeViews.{time_parts};
 
 use crate::cut::cut_at;

@@ -1,11 +1,11 @@
 // Periods and date values.
 ghost use Rattle.std.specs.Prelude.{◌≡◌};
 ghost use Rattle.std.specs.Option.{option_map};
-ghost use Rattle.ged_value.specs.Texts.{texts};
-ghost use Rattle.ged_value.specs.WordReading.{around};
+ghost use Rattle.ged_value.specs.inner.Texts.{texts};
+ghost use Rattle.ged_value.specs.inner.WordReading.{around};
 ghost use Rattle.ged_value.specs.Reading.{Reads};
 ghost use Rattle.ged_value.specs.Values.{PeriodText, DateValueText};
-ghost use Rattle.ged_value.specs.ValueReading.{period_from, period_at, value_at, dates_at};
+ghost use Rattle.ged_value.specs.inner.ValueReading.{period_from, period_at, value_at, dates_at};
 ghost use Rattle.ged_value.specs.Views.{date_parts};
 ghost use Rattle.ged_value.specs.ValueViews.{period_parts, value_parts};
 

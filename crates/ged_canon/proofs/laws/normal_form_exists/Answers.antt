@@ -1,4 +1,4 @@
-use Rattle.ged_canon.specs.Working.{canon}
+use Rattle.ged_canon.specs.inner.Working.{canon}
 use Rattle.ged_canon.proofs.Normality.{canon_is_normal_form}
 use Rattle.ged_canon.proofs.laws.normal_form_exists.Goals as goal
 

@@ -1,6 +1,6 @@
 use Rattle.std.proofs.Common.{◌≡◌, fold, drop}
 use Rattle.std.specs.Hash.DefaultHasher.{initial}
-use Rattle.ged_link.specs.Keys.{fed_link}
+use Rattle.ged_link.specs.inner.Keys.{fed_link}
 use Rattle.ged_link.proofs.keys.links_key.Given as goal
 
 abbrev pub invariant-loop-from : goal.invariant-loop-from

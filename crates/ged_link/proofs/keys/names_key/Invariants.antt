@@ -2,7 +2,7 @@ use Rattle.std.proofs.Common.{◌≡◌, ◌-◌, fold}
 use Rattle.std.specs.Hash.DefaultHasher.{initial}
 use Rattle.ged_tree.specs.Runs.{trees_between, IsRun}
 use Rattle.ged_link.specs.Links.{identifiers}
-use Rattle.ged_link.specs.Keys.{fed_name}
+use Rattle.ged_link.specs.inner.Keys.{fed_name}
 use Rattle.ged_link.proofs.keys.names_key.Given as goal
 
 abbrev pub invariant-loop-after : goal.invariant-loop-after

@@ -1,6 +1,6 @@
 use Rattle.std.proofs.Common.{◌≡◌, ℕ, List, ◌||◌, ◌+◌, drop, sym, ap, ◌∙◌}
 use Rattle.std.proofs.lemmas.List.{at_drop_more, drop_all}
-use Rattle.ged_link.specs.PairSets.{links_to, is_listed}
+use Rattle.ged_link.specs.inner.PairSets.{links_to, is_listed}
 use Rattle.ged_link.proofs.PairLemmas.{told_next, told_last}
 use Rattle.ged_link.proofs.pairs.pairs_of.Goals as goal
 

@@ -1,7 +1,7 @@
 use Rattle.std.proofs.Common.{◌≡◌, ℕ, ◌||◌, drop}
 use Rattle.std.specs.HashMap.{hasher_of}
-use Rattle.ged_link.specs.Keys.{links_key}
-use Rattle.ged_link.specs.PairSets.{links_to, is_listed}
+use Rattle.ged_link.specs.inner.Keys.{links_key}
+use Rattle.ged_link.specs.inner.PairSets.{links_to, is_listed}
 use Rattle.ged_link.proofs.pairs.pairs_of.Given as goal
 
 abbrev pub invariant-loop-from : goal.invariant-loop-from

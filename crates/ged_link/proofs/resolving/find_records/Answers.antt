@@ -10,9 +10,10 @@ use Rattle.ged_link.specs.declared.names.Names.{Names}
 use Rattle.ged_link.specs.declared.index.RecordPlace.{RecordPlace}
 use Rattle.ged_link.specs.declared.record_type.RecordType.{RecordType}
 use Rattle.ged_link.specs.RecordTypes.{IsTypeOf}
-use Rattle.ged_link.specs.Indexes.{found_in, AreTyped, HasKey}
-use Rattle.ged_link.specs.Keys.{names_key}
-use Rattle.ged_link.specs.Resolving.{AreRecordsBefore}
+use Rattle.ged_link.specs.Indexes.{found_in, AreTyped}
+use Rattle.ged_link.specs.inner.Indexes.{HasKey}
+use Rattle.ged_link.specs.inner.Keys.{names_key}
+use Rattle.ged_link.specs.inner.Resolving.{AreRecordsBefore}
 use Rattle.ged_link.proofs.RecordLemmas.{whole_end, records_start, typed_start, records_level, records_kept, records_more, numbered_here, typed_kept, typed_more, level_next, left_after, number_within, records_all, records_count, none_repeated_all, first_repeated, none_of_new, some_of_old}
 use Rattle.ged_link.proofs.KeptPlaces.{none_placed, placed_more}
 use Rattle.ged_link.proofs.resolving.find_records.Goals as goal

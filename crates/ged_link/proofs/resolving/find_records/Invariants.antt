@@ -3,10 +3,11 @@ use Rattle.ged_tree.specs.Trees.{records_of, trees_count}
 use Rattle.ged_tree.specs.Documents.{are_at}
 use Rattle.ged_tree.specs.Runs.{trees_between, IsRun}
 use Rattle.ged_link.specs.Links.{identifiers}
-use Rattle.ged_link.specs.Indexes.{AreTyped, HasKey}
-use Rattle.ged_link.specs.Keys.{names_key}
+use Rattle.ged_link.specs.Indexes.{AreTyped}
+use Rattle.ged_link.specs.inner.Indexes.{HasKey}
+use Rattle.ged_link.specs.inner.Keys.{names_key}
 use Rattle.ged_link.specs.Places.{ArePlaces}
-use Rattle.ged_link.specs.Resolving.{AreRecordsBefore}
+use Rattle.ged_link.specs.inner.Resolving.{AreRecordsBefore}
 use Rattle.ged_link.proofs.resolving.find_records.Given as goal
 
 abbrev pub invariant-loop-after : goal.invariant-loop-after

@@ -8,7 +8,7 @@ use Rattle.ged_schema.specs.declared.rule.Rule.{Rule}
 use Rattle.ged_schema.specs.Rows.{as_row}
 use Rattle.ged_schema.specs.Tables.{row}
 use Rattle.ged_schema.specs.Unlisted.{unlisted_notice}
-use Rattle.ged_schema.specs.Listings.{ListsUnlisted}
+use Rattle.ged_schema.specs.inner.Listings.{ListsUnlisted}
 use Rattle.ged_schema.proofs.Numbers.{row_among}
 use Rattle.ged_schema.proofs.Runs.{tested, refuted}
 use Rattle.ged_schema.proofs.Listing.{unlisted_row, unlisted_here, unlisted_none, unlisted_end, told_more, told_one, notice_same, document_tag}

@@ -1,7 +1,7 @@
 use Rattle.std.proofs.Common.{ℕ, List, ◌-◌, ◌≤◌, ◌≡◌, ◌++◌, map}
 use Rattle.ged_tree.specs.Runs.{trees_between, IsRun}
 use Rattle.ged_schema.specs.Unlisted.{unlisted_notice}
-use Rattle.ged_schema.specs.Listings.{ListsUnlisted}
+use Rattle.ged_schema.specs.inner.Listings.{ListsUnlisted}
 use Rattle.ged_schema.proofs.notices.+push_unlisted.Given as goal
 
 abbrev pub decreases-push_unlisted : goal.decreases-push_unlisted

@@ -1,6 +1,6 @@
 use Rattle.std.proofs.Common.{◌∙◌, ap, sym, length}
-use Rattle.ged_value.specs.Texts.{texts}
-use Rattle.ged_value.specs.AgeReading.{age_at}
+use Rattle.ged_value.specs.inner.Texts.{texts}
+use Rattle.ged_value.specs.inner.AgeReading.{age_at}
 use Rattle.ged_value.specs.AgeViews.{age_parts}
 use Rattle.ged_value.proofs.AgeLaws.{reads_age, too_many_words, not_empty}
 use Rattle.ged_value.proofs.age.read_age.Goals as goal

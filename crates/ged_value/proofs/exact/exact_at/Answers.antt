@@ -1,7 +1,7 @@
 use Rattle.std.proofs.Common.{sym, arith}
 use Rattle.std.proofs.lemmas.Bool.Decides.{nat_tests}
 use Rattle.std.proofs.lemmas.List.{length-map}
-use Rattle.ged_value.specs.Texts.{texts}
+use Rattle.ged_value.specs.inner.Texts.{texts}
 use Rattle.ged_value.proofs.ExactLaws.{few_or_many}
 use Rattle.ged_value.proofs.exact.exact_at.Goals as goal
 

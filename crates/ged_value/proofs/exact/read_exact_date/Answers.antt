@@ -1,8 +1,8 @@
 use Rattle.std.proofs.Common.{◌∙◌, ap}
 use Rattle.ged_value.specs.Exact.{SpellsExact}
-use Rattle.ged_value.specs.ExactReading.{exact_at}
+use Rattle.ged_value.specs.inner.ExactReading.{exact_at}
 use Rattle.ged_value.specs.ExactViews.{exact_parts}
-use Rattle.ged_value.specs.Texts.{texts}
+use Rattle.ged_value.specs.inner.Texts.{texts}
 use Rattle.ged_value.proofs.ExactLaws.{exact_again, exact_found, exact_plainly}
 use Rattle.ged_value.proofs.TextLaws.{reads_text, too_many}
 use Rattle.ged_value.proofs.exact.read_exact_date.Goals as goal

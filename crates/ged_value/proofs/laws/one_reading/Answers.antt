@@ -1,13 +1,13 @@
 use Rattle.ged_value.specs.Values.{SpellsPeriod, SpellsValue}
-use Rattle.ged_value.specs.ValueReading.{period_at, value_at}
+use Rattle.ged_value.specs.inner.ValueReading.{period_at, value_at}
 use Rattle.ged_value.specs.ValueViews.{period_parts, value_parts}
 use Rattle.ged_value.specs.Exact.{SpellsExact}
-use Rattle.ged_value.specs.ExactReading.{exact_at}
+use Rattle.ged_value.specs.inner.ExactReading.{exact_at}
 use Rattle.ged_value.specs.ExactViews.{exact_parts}
 use Rattle.ged_value.specs.Times.{TimeText}
-use Rattle.ged_value.specs.TimeReading.{time_at}
+use Rattle.ged_value.specs.inner.TimeReading.{time_at}
 use Rattle.ged_value.specs.Names.{NameText}
-use Rattle.ged_value.specs.NameReading.{name_at}
+use Rattle.ged_value.specs.inner.NameReading.{name_at}
 use Rattle.ged_value.proofs.ValueLaws.{value_again, value_found, period_again, period_found}
 use Rattle.ged_value.proofs.TextLaws.{only_reading, period_plainly, value_plainly}
 use Rattle.ged_value.proofs.AgeLaws.{one_age}

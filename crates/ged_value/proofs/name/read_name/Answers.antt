@@ -1,5 +1,5 @@
 use Rattle.ged_value.specs.Names.{NameText}
-use Rattle.ged_value.specs.NameReading.{name_at}
+use Rattle.ged_value.specs.inner.NameReading.{name_at}
 use Rattle.ged_value.specs.NameViews.{name_parts}
 use Rattle.ged_value.proofs.ReadingLaws.{reads}
 use Rattle.ged_value.proofs.NameLaws.{name_again, name_found}

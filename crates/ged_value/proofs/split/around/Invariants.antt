@@ -1,6 +1,6 @@
 use Rattle.std.proofs.Common.{◌≡◌, ◌<◌, ℕ, false, get_or, []}
 use Rattle.std.specs.Str.{bytes_eq}
-use Rattle.ged_value.specs.Texts.{texts}
+use Rattle.ged_value.specs.inner.Texts.{texts}
 use Rattle.ged_value.proofs.split.around.Given as goal
 
 -- the words so far are others

@@ -1,7 +1,7 @@
 use Rattle.std.proofs.Common.{lit<, arith, ap, ◌∙◌}
 use Rattle.std.proofs.lemmas.Iterator.Splits.{YieldsList-from_str_split}
 use Rattle.std.proofs.lemmas.Iterator.Consumers.{YieldsList-turn, YieldsList-end}
-use Rattle.ged_value.specs.Texts.{texts}
+use Rattle.ged_value.specs.inner.Texts.{texts}
 use Rattle.ged_value.proofs.split.words_of.Goals as goal
 
 pub returns-then-count-eq-MOST : goal.returns-then-count-eq-MOST

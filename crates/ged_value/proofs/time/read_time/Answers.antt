@@ -1,6 +1,6 @@
 use Rattle.std.proofs.Common.{◌∙◌, None}
 use Rattle.ged_value.specs.Times.{TimeText}
-use Rattle.ged_value.specs.TimeReading.{time_at}
+use Rattle.ged_value.specs.inner.TimeReading.{time_at}
 use Rattle.ged_value.specs.TimeViews.{time_parts}
 use Rattle.ged_value.proofs.ReadingLaws.{reads}
 use Rattle.ged_value.proofs.TimeLaws.{time_again, time_found, zoned, zoned_empty, zoned_other}

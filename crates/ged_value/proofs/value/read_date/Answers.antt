@@ -1,8 +1,8 @@
 use Rattle.std.proofs.Common.{◌∙◌, ap}
 use Rattle.ged_value.specs.Values.{SpellsValue}
-use Rattle.ged_value.specs.ValueReading.{value_at}
+use Rattle.ged_value.specs.inner.ValueReading.{value_at}
 use Rattle.ged_value.specs.ValueViews.{value_parts}
-use Rattle.ged_value.specs.Texts.{texts}
+use Rattle.ged_value.specs.inner.Texts.{texts}
 use Rattle.ged_value.proofs.ValueLaws.{value_again, value_found}
 use Rattle.ged_value.proofs.TextLaws.{reads_text, too_many, value_plainly}
 use Rattle.ged_value.proofs.value.read_date.Goals as goal

@@ -1,8 +1,8 @@
 use Rattle.std.proofs.Common.{◌∙◌, ap}
 use Rattle.ged_value.specs.Values.{SpellsPeriod}
-use Rattle.ged_value.specs.ValueReading.{period_at}
+use Rattle.ged_value.specs.inner.ValueReading.{period_at}
 use Rattle.ged_value.specs.ValueViews.{period_parts}
-use Rattle.ged_value.specs.Texts.{texts}
+use Rattle.ged_value.specs.inner.Texts.{texts}
 use Rattle.ged_value.proofs.ValueLaws.{period_again, period_found}
 use Rattle.ged_value.proofs.TextLaws.{reads_text, too_many, period_plainly}
 use Rattle.ged_value.proofs.value.read_period.Goals as goal

@@ -6,7 +6,7 @@ use Rattle.std.specs.HashMap.{get_by_text}
 use Rattle.std.proofs.lemmas.Map.Text.{hash_map_updates_text}
 use Rattle.ged_line.specs.Bytes.{Bytes}
 use Rattle.ged_link.specs.declared.names.Names.{Names}
-use Rattle.ged_link.specs.Resolving.{AddsName}
+use Rattle.ged_link.specs.inner.Resolving.{AddsName}
 use Rattle.ged_link.proofs.NameLemmas.{added_short, added_long}
 use Rattle.ged_link.proofs.names.Names.insert.Goals as goal
 use Rattle.ged_link.proofs.names.Names.insert.Goals.{in-Some+in_ok-before-in-Some, in-None+in_ok-key-in-None+in_ok-before-in-None}

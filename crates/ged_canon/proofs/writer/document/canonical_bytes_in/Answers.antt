@@ -1,0 +1,73 @@
+use Rattle.std.proofs.Common.{ℕ, List, length, sym, ap, ◌∙◌, subst, arith}
+use Rattle.std.specs.List.{AllByRecursion}
+use Rattle.ged_schema.specs.declared.context.Context.TheVariants.{File}
+use Rattle.ged_canon.specs.declared.writer.siblings.Sibling.{Sibling}
+use Rattle.ged_canon.specs.inner.Working.{is_named, canon, AreNumbersOf, IsNumberingOf}
+use Rattle.ged_canon.specs.inner.Siblings.{StandsIn, sibling_trees, sibling_names}
+use Rattle.ged_canon.proofs.Normality.{canon_is_normal_form}
+use Rattle.ged_canon.proofs.CanonParts.{sorted_known, sorted_distinct}
+use Rattle.ged_canon.proofs.RecordBytes.{names_listed, sorted_named, siblings_stand, file_spelled, only_form}
+use Rattle.ged_canon.proofs.writer.document.canonical_bytes_in.Goals as goal
+
+pub numbers_in_order-requires-clause-within : goal.numbers_in_order-requires-clause-within
+numbers_in_order-requires-clause-within g c =
+    let d = g.F.Forest.trees c.args.forest.now in
+    subst (λ (xs : List Sibling). AllByRecursion (StandsIn d) xs) (sym c.as_slice-records.ensures.value) c.in_ok-siblings.ensures.within
+
+pub numbers_in_order-requires-clause-count : goal.numbers_in_order-requires-clause-count
+numbers_in_order-requires-clause-count g c = omega (arith, ap (λ (xs : List Sibling). length xs) c.as_slice-records.ensures.value, c.in_ok-siblings.ensures.count)
+
+pub numbers_in_order-requires-clause-known : goal.numbers_in_order-requires-clause-known
+numbers_in_order-requires-clause-known g c =
+    let d = g.F.Forest.trees c.args.forest.now in
+    let edition = c.args.edition in
+    let xs = c.as_slice-records.result.now in
+    let listed = ap (sibling_trees (is_named d) edition File d) c.as_slice-records.ensures.value ∙ c.in_ok-siblings.ensures.trees edition in
+    sorted_known edition d (sibling_names d xs) c.document_siblings.ensures.document (names_listed edition d xs listed)
+
+pub numbers_in_order-requires-clause-distinct : goal.numbers_in_order-requires-clause-distinct
+numbers_in_order-requires-clause-distinct g c =
+    let d = g.F.Forest.trees c.args.forest.now in
+    let edition = c.args.edition in
+    let xs = c.as_slice-records.result.now in
+    let listed = ap (sibling_trees (is_named d) edition File d) c.as_slice-records.ensures.value ∙ c.in_ok-siblings.ensures.trees edition in
+    sorted_distinct edition d (sibling_names d xs) c.requires.index.resolved (names_listed edition d xs listed)
+
+pub write_records-requires-clause-within : goal.write_records-requires-clause-within
+write_records-requires-clause-within g c =
+    let d = g.F.Forest.trees c.args.forest.now in
+    subst (λ (xs : List Sibling). AllByRecursion (StandsIn d) xs) (sym c.as_slice-records.ensures.value) c.in_ok-siblings.ensures.within
+
+pub write_records-requires-clause-stand : goal.write_records-requires-clause-stand
+write_records-requires-clause-stand g c =
+    let d = g.F.Forest.trees c.args.forest.now in
+    let edition = c.args.edition in
+    let xs = c.as_slice-records.result.now in
+    let listed = ap (sibling_trees (is_named d) edition File d) c.as_slice-records.ensures.value ∙ c.in_ok-siblings.ensures.trees edition in
+    siblings_stand edition d xs c.document_siblings.ensures.document c.requires.index.resolved c.requires.checked listed
+
+pub returns-clause-normal_form : goal.returns-clause-normal_form
+returns-clause-normal_form g c =
+    let d = g.F.Forest.trees c.args.forest.now in
+    let edition = c.args.edition in
+    let xs = c.as_slice-records.result.now in
+    let names = sibling_names d xs in
+    let listed = ap (sibling_trees (is_named d) edition File d) c.as_slice-records.ensures.value ∙ c.in_ok-siblings.ensures.trees edition in
+    let numbering : IsNumberingOf d names c.args.index.now c.as_slice-numbers.result.now =
+    (c.requires.index, subst (λ (ns : List ℕ). AreNumbersOf d names ns) (sym c.as_slice-numbers.ensures.value) c.in_ok-counted.ensures) in
+    let named = sorted_named edition d names c.requires.index.resolved (names_listed edition d xs listed) in
+    let told = file_spelled edition d xs c.in_ok-text.text.items c.write_records.new.out.items c.write_parts.new.out.items listed c.in_ok-text.ensures (c.in_ok-write_records.ensures names numbering named) c.in_ok-write_parts.ensures.ok in
+    (canon edition d, canon_is_normal_form edition d c.document_siblings.ensures.document c.requires.index.resolved c.requires.checked, told)
+
+pub returns-clause-only : goal.returns-clause-only
+returns-clause-only g c = λ e form.
+    let d = g.F.Forest.trees c.args.forest.now in
+    let edition = c.args.edition in
+    let xs = c.as_slice-records.result.now in
+    let names = sibling_names d xs in
+    let listed = ap (sibling_trees (is_named d) edition File d) c.as_slice-records.ensures.value ∙ c.in_ok-siblings.ensures.trees edition in
+    let numbering : IsNumberingOf d names c.args.index.now c.as_slice-numbers.result.now =
+    (c.requires.index, subst (λ (ns : List ℕ). AreNumbersOf d names ns) (sym c.as_slice-numbers.ensures.value) c.in_ok-counted.ensures) in
+    let named = sorted_named edition d names c.requires.index.resolved (names_listed edition d xs listed) in
+    let told = file_spelled edition d xs c.in_ok-text.text.items c.write_records.new.out.items c.write_parts.new.out.items listed c.in_ok-text.ensures (c.in_ok-write_records.ensures names numbering named) c.in_ok-write_parts.ensures.ok in
+    only_form edition d e c.write_parts.new.out.items told form

@@ -1,0 +1,35 @@
+use Rattle.std.proofs.Common.{List, [], ◌∷◌, ◌++◌, length, drop, refl, sym, ap, ◌∙◌, subst, arith}
+use Rattle.std.specs.List.{AllByRecursion}
+use Rattle.ged_link.specs.Links.{identifiers}
+use Rattle.ged_schema.specs.declared.context.Context.TheVariants.{File}
+use Rattle.ged_canon.specs.declared.writer.siblings.Sibling.{Sibling}
+use Rattle.ged_canon.specs.inner.Working.{is_named}
+use Rattle.ged_canon.specs.inner.Siblings.{StandsIn, sibling_trees}
+use Rattle.ged_canon.proofs.RecordBytes.{document_listed, records_listed}
+use Rattle.ged_canon.proofs.SortedTail.{headed}
+use Rattle.ged_canon.proofs.writer.document.document_siblings.Goals as goal
+
+pub returns-clause-within : goal.returns-clause-within
+returns-clause-within g c =
+    let d = g.F.Forest.trees c.args.forest.now in
+    let head : Sibling = record { tag = c.tag.result; place = 0 } in
+    subst (λ (xs : List Sibling). AllByRecursion (StandsIn d) xs)
+    (sym (headed c.push.new.self.items c.push_sorted.new.siblings.items head (c.in_ok-push.ensures.items ∙ ap (λ (xs : List Sibling). xs ++ head ∷ []) c.new-made.ensures.items) c.in_ok-push_sorted.ensures.kept))
+    ((c.in-Some.ensures.within, c.tag.ensures), c.in_ok-push_sorted.ensures.within)
+
+pub returns-clause-count : goal.returns-clause-count
+returns-clause-count g c =
+    let d = g.F.Forest.trees c.args.forest.now in
+    let head : Sibling = record { tag = c.tag.result; place = 0 } in
+    let long = ap (λ (xs : List Sibling). length xs) (headed c.push.new.self.items c.push_sorted.new.siblings.items head (c.in_ok-push.ensures.items ∙ ap (λ (xs : List Sibling). xs ++ head ∷ []) c.new-made.ensures.items) c.in_ok-push_sorted.ensures.kept) in
+    let same = ap (λ t. length (identifiers t)) (records_listed d c.end_of_all-end.result c.in-Some.records c.end_of_all-end.ensures.all c.in-Some.ensures) in
+    omega (arith, long, c.in_ok-push_sorted.ensures.count, same)
+
+pub returns-clause-trees : goal.returns-clause-trees
+returns-clause-trees g c = λ edition.
+    let d = g.F.Forest.trees c.args.forest.now in
+    let head : Sibling = record { tag = c.tag.result; place = 0 } in
+    let behind = drop (length c.push.new.self.items) c.push_sorted.new.siblings.items in
+    ap (sibling_trees (is_named d) edition File d) (headed c.push.new.self.items c.push_sorted.new.siblings.items head (c.in_ok-push.ensures.items ∙ ap (λ (xs : List Sibling). xs ++ head ∷ []) c.new-made.ensures.items) c.in_ok-push_sorted.ensures.kept)
+    ∙ document_listed edition d c.end_of_all-end.result c.in-Some.records head behind c.end_of_all-end.ensures.all c.end_of_all-end.ensures.run c.in-Some.ensures refl c.tag.ensures
+    (c.in_ok-push_sorted.ensures.trees (is_named d) edition File)

@@ -1,0 +1,4 @@
+pub mod CanonBytes
+pub mod Siblings
+pub mod Working
+pub mod Writing

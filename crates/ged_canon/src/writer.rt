@@ -1,0 +1,8 @@
+// The canonical spelling of a document, written from the document itself.
+pub(crate) mod brief;
+pub(crate) mod document;
+pub(crate) mod lines;
+pub(crate) mod numbers;
+pub(crate) mod order;
+pub(crate) mod siblings;
+pub(crate) mod structures;

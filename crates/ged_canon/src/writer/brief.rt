@@ -1,0 +1,162 @@
+// The lines of payloads, and what can be left out in them.
+ghost use Rattle.std.specs.Prelude.{◌≡◌, ◌↔◌, ◌&&◌, ◌++◌, ◌∷◌, if◌then◌else◌, Some, IfOk, OnOk, IsTrue, string_bytes, ◌<◌};
+ghost use Rattle.std.specs.List.{list_all};
+ghost use Rattle.std.specs.Str.{bytes_eq};
+ghost use Rattle.ged_line.specs.Bytes.{space};
+ghost use Rattle.ged_value.specs.Words.{words_of};
+ghost use Rattle.ged_value.specs.Default.{default_word};
+ghost use Rattle.ged_value.specs.Zeros.{has_leading_zero as begins_with_zero, trim_zeros as trims_zeros};
+ghost use Rattle.ged_value.specs.ZeroKinds.{has_integers as tests_integers};
+ghost use Rattle.ged_schema.specs.Rows.{as_row};
+ghost use Rattle.ged_canon.specs.Steps.{has_calendar as tests_calendar};
+ghost use Rattle.ged_canon.specs.Normal.{IsBrief, IsBriefPayload};
+ghost use Rattle.ged_canon.specs.inner.Working.{is_second, may_shorten, is_brief_word as tests_word, brief_line as spells_brief};
+ghost use Rattle.ged_tree.specs.Trees.{trees_count};
+ghost use Rattle.ged_tree.specs.Places.{structure_at};
+
+use crate::edition::Edition;
+use ged_schema::Rule;
+use ged_tree::{Forest, PayloadView};
+use ged_value::{Kind, trim_zeros};
+use std::alloc::{AllocError, Global};
+
+#[inline(always)]
+fn has_calendar(kind: Kind) -> bool
+    ensures { result ≡ tests_calendar kind }
+{
+    matches!(kind, Kind::DateValue | Kind::DatePeriod)
+}
+
+#[inline(always)]
+fn has_integers(kind: Kind) -> bool
+    ensures { result ≡ tests_integers kind }
+{
+    matches!(
+        kind,
+        Kind::Integer | Kind::DateValue | Kind::DatePeriod | Kind::DateExact | Kind::Age
+    )
+}
+
+fn has_leading_zero(word: &str) -> bool
+    ensures { result ≡ begins_with_zero word.now }
+{
+    trim_zeros(word) != word
+}
+
+/// Whether a word stays, where the default calendar's word is left out, or leading zeros are.
+fn is_brief_word(word: &str, without_calendar: bool, without_zeros: bool) -> bool
+    ensures { result ≡ tests_word without_calendar without_zeros word.now }
+{
+    !(without_calendar && word == "GREGORIAN") && !(without_zeros && has_leading_zero(word))
+}
+
+/// Whether all words of a line stay. No word is read where none is left out, nor where only GREGORIAN is and no byte is a G.
+fn are_brief_words(line: &str, without_calendar: bool, without_zeros: bool) -> bool
+    ensures { result ≡ list_all (tests_word without_calendar without_zeros) (words_of line.now) }
+{
+    if !without_calendar && !without_zeros {
+        return true;
+    }
+    if !without_zeros && !line.as_bytes().contains(&b'G') {
+        return true;
+    }
+    for word in line.split(' ') {
+        if !is_brief_word(word, without_calendar, without_zeros) {
+            return false;
+        }
+    }
+    true
+}
+
+#[inline(always)]
+fn leaves_zeros_out(edition: Edition, kind: Kind) -> bool
+    ensures { result ≡ (is_second edition && tests_integers kind) }
+{
+    match edition {
+        Edition::First => false,
+        Edition::Second => has_integers(kind),
+    }
+}
+
+/// Whether there are payloads at a place with this rule in which something can be left out.
+#[inline(always)]
+pub(crate) fn may_be_shortened(edition: Edition, rule: &Rule) -> bool
+    ensures { result ≡ may_shorten edition (Some (as_row rule.now)) }
+{
+    has_calendar(rule.kind) || leaves_zeros_out(edition, rule.kind)
+}
+
+/// Whether nothing can be left out in a line of a payload at a place with this rule.
+pub(crate) fn is_brief_line(edition: Edition, rule: &Rule, line: &str) -> bool
+    ensures { IsTrue result ↔ IsBrief edition (Some (as_row rule.now)) line.now }
+{
+    are_brief_words(
+        line,
+        has_calendar(rule.kind),
+        leaves_zeros_out(edition, rule.kind),
+    )
+}
+
+fn is_left_out(word: &str, without_calendar: bool) -> bool
+    ensures { result ≡ (without_calendar && bytes_eq word.now default_word) }
+{
+    without_calendar && word == "GREGORIAN"
+}
+
+fn trimmed(word: &str, without_zeros: bool) -> &str
+    ensures { result.now ≡ (if without_zeros then trims_zeros word.now else word.now) }
+{
+    if without_zeros {
+        trim_zeros(word)
+    } else {
+        word
+    }
+}
+
+/// Appends a word, after a space where it isn't the first.
+fn append_word(line: &mut String, word: &str, is_first: bool) -> Result<(), AllocError>
+    ensures { OnOk result (string_bytes line.new ≡ (if is_first then string_bytes line.old ++ word.now else string_bytes line.old ++ space ∷ word.now)) }
+{
+    if !is_first {
+        line.push(' ')?;
+    }
+    line.push_str(word)
+}
+
+/// The line of a payload at a place with this rule, with nothing that can be left out. Grows.
+pub(crate) fn brief_line(
+    alloc: Global,
+    edition: Edition,
+    rule: &Rule,
+    line: &str,
+) -> Result<String, AllocError>
+    ensures { IfOk result (λ brief. string_bytes brief ≡ spells_brief edition (Some (as_row rule.now)) line.now) }
+{
+    let without_calendar = has_calendar(rule.kind);
+    let without_zeros = leaves_zeros_out(edition, rule.kind);
+    let mut brief = String::new(alloc);
+    let mut is_first = true;
+    for word in line.split(' ') {
+        if !is_left_out(word, without_calendar) {
+            append_word(&mut brief, trimmed(word, without_zeros), is_first)?;
+            is_first = false;
+        }
+    }
+    Ok(brief)
+}
+
+/// Whether nothing can be left out in the payload of the structure at a place, which has this rule.
+pub(crate) fn is_brief_at<F: Forest>(
+    forest: &F,
+    edition: Edition,
+    rule: &Rule,
+    place: usize,
+) -> bool
+    requires { place < trees_count (F.trees forest.now) }
+    ensures { IsTrue result ↔ IsBriefPayload edition (Some (as_row rule.now)) (structure_at (F.trees forest.now) place).payload }
+{
+    match forest.payload(place) {
+        PayloadView::Text(line) if forest.further(place) == 0 => is_brief_line(edition, rule, line),
+        _ => true,
+    }
+}

@@ -1,0 +1,31 @@
+// Whether structures stand in the order of their tags.
+ghost use Rattle.std.specs.Prelude.{◌<◌, ◌↔◌, Some, IsTrue};
+ghost use Rattle.ged_tree.specs.Runs.{IsRun, trees_between};
+ghost use Rattle.ged_canon.specs.Normal.{InOrder, tags};
+
+use crate::writer::siblings::order;
+use ged_tree::{Forest, next_in_run};
+use std::cmp::Ordering;
+
+/// Whether the structures of a run stand in the order of their tags.
+pub(crate) fn are_in_order<F: Forest>(forest: &F, start: usize, end: usize) -> bool
+    requires { IsRun (F.trees forest.now) start end }
+    ensures { IsTrue result ↔ InOrder (tags (trees_between (F.trees forest.now) start end)) }
+{
+    let Some(mut place) = next_in_run(forest, start, end) else {
+        return true;
+    };
+    if place >= end {
+        return true;
+    }
+    let mut before = forest.tag(start);
+    while let Some(after) = next_in_run(forest, place, end) {
+        let tag = forest.tag(place);
+        if order(before, tag) == Ordering::Greater {
+            return false;
+        }
+        before = tag;
+        place = after;
+    }
+    true
+}

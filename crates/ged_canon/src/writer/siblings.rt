@@ -1,0 +1,193 @@
+// The structures of a run in the order of their tags.
+ghost use Rattle.std.specs.Prelude.{◌≡◌, ◌<◌, ◌≤◌, Bool, true, IfOk, OnOk, length, take, drop};
+ghost use Rattle.std.specs.List.{AllByRecursion};
+ghost use Rattle.std.specs.List.Sorted.{IsPermutation};
+ghost use Rattle.std.specs.Str.{bytes_eq};
+ghost use Rattle.ged_line.specs.Bytes.{Bytes};
+ghost use Rattle.ged_line.specs.Names.{tag_order as order_of_tags};
+ghost use Rattle.ged_tree.specs.Trees.{Trees, trees_count, records_of};
+ghost use Rattle.ged_tree.specs.Documents.{is_document};
+ghost use Rattle.ged_tree.specs.Runs.{IsRun, trees_between};
+ghost use Rattle.ged_schema.specs.declared.context.Context.{Context as AnyContext};
+ghost use Rattle.ged_canon.specs.declared.edition.Edition.{Edition as AnyEdition};
+ghost use Rattle.ged_link.specs.Links.{identifiers, xrefs, IsAmong, AreDistinct};
+ghost use Rattle.ged_link.specs.Indexes.{IsIndexOf};
+ghost use Rattle.ged_canon.specs.inner.Working.{grouped, sorted, each_sorted, used_trees, AreNumbersOf};
+ghost use Rattle.ged_canon.specs.inner.Siblings.{StandsIn, sibling_trees, sibling_names};
+
+use ged_link::{Index, RecordCursor};
+use ged_tree::{Forest, next_in_run};
+use std::alloc::{AllocError, Global};
+use std::cmp::Ordering;
+
+/// A structure among its siblings: its tag, and its place among all structures.
+#[derive(Clone, Copy, Debug)]
+pub(crate) struct Sibling<'a> {
+    pub(crate) tag: &'a str,
+    pub(crate) place: usize,
+}
+
+/// Whether two tags are the same. Most have four bytes, which are compared at once.
+#[inline(always)]
+fn is_same(tag: &str, other: &str) -> bool
+    ensures { result ≡ bytes_eq tag.now other.now }
+{
+    match (tag.as_bytes(), other.as_bytes()) {
+        ([a, b, c, d], [e, f, g, h]) => {
+            u32::from_le_bytes([*a, *b, *c, *d]) == u32::from_le_bytes([*e, *f, *g, *h])
+        }
+        _ => tag == other,
+    }
+}
+
+/// The order of tags, for any texts, from the texts whole.
+fn whole_order(tag: &str, other: &str) -> Ordering
+    ensures { result ≡ order_of_tags tag.now other.now }
+{
+    match (tag == "GEDC", other == "GEDC") {
+        (true, true) => Ordering::Equal,
+        (true, false) => Ordering::Less,
+        (false, true) => Ordering::Greater,
+        (false, false) => tag.cmp(other),
+    }
+}
+
+/// The order of tags, for any texts. Most tags that begin with the same byte differ in their second one.
+#[inline(never)]
+fn order_of_alike(tag: &str, other: &str) -> Ordering
+    ensures { result ≡ order_of_tags tag.now other.now }
+{
+    match (tag.as_bytes(), other.as_bytes()) {
+        ([first, a, ..], [second, b, ..]) if first == second && *first != b'G' && a != b => {
+            a.cmp(b)
+        }
+        _ => whole_order(tag, other),
+    }
+}
+
+/// The order of tags, for any texts. Most tags that are not the same differ in their first byte, and no other byte is then
+/// read, unless one of the tags may be GEDC.
+#[inline(always)]
+pub(crate) fn order(tag: &str, other: &str) -> Ordering
+    ensures { result ≡ order_of_tags tag.now other.now }
+{
+    if is_same(tag, other) {
+        return Ordering::Equal;
+    }
+    match (tag.as_bytes(), other.as_bytes()) {
+        ([first, ..], [second, ..]) if first != second && *first != b'G' && *second != b'G' => {
+            first.cmp(second)
+        }
+        _ => order_of_alike(tag, other),
+    }
+}
+
+/// The same tag, that of a structure at a level. Those of most records are answered from one place each, so that a sort of many
+/// records does not go through the whole file once more to compare them.
+#[inline(always)]
+fn shared_tag(level: u8, tag: &str) -> &str
+    ensures { result.now ≡ tag.now }
+{
+    if level > 0 {
+        return tag;
+    }
+    match tag {
+        "INDI" => "INDI",
+        "FAM" => "FAM",
+        "SOUR" => "SOUR",
+        "OBJE" => "OBJE",
+        "REPO" => "REPO",
+        "SNOTE" => "SNOTE",
+        "SUBM" => "SUBM",
+        _ => tag,
+    }
+}
+
+/// Appends the structures of a run in their own order. Grows.
+fn push_siblings<'a, F: Forest>(
+    forest: &'a F,
+    start: usize,
+    end: usize,
+    siblings: &mut Vec<Sibling<'a>>,
+) -> Result<(), AllocError>
+    requires { IsRun (F.trees forest.now) start end }
+    ensures kept { OnOk result (take (length siblings.old.items) siblings.new.items ≡ siblings.old.items) }
+    ensures within { OnOk result (AllByRecursion (StandsIn (F.trees forest.now)) (drop (length siblings.old.items) siblings.new.items)) }
+    ensures count { OnOk result (length (drop (length siblings.old.items) siblings.new.items) ≡ length (identifiers (trees_between (F.trees forest.now) start end))) }
+    ensures trees { (used : Bytes → Bool) (edition : AnyEdition) (context : AnyContext) →
+        OnOk result (sibling_trees used edition context (F.trees forest.now) (drop (length siblings.old.items) siblings.new.items) ≡ each_sorted edition context (used_trees used (trees_between (F.trees forest.now) start end))) }
+{
+    let mut place = start;
+    while let Some(after) = next_in_run(forest, place, end) {
+        siblings.push(Sibling {
+            tag: shared_tag(forest.level(place), forest.tag(place)),
+            place,
+        })?;
+        place = after;
+    }
+    Ok(())
+}
+
+/// Puts siblings in the order of their tags; those with one tag keep their order. Takes memory for more than 20.
+fn sort_siblings(alloc: Global, siblings: &mut [Sibling<'_>]) -> Result<(), AllocError>
+    ensures permutation { IsPermutation siblings.old siblings.new }
+    ensures trees { (d : Trees) (used : Bytes → Bool) (edition : AnyEdition) (context : AnyContext) →
+        OnOk result (sibling_trees used edition context d siblings.new ≡ grouped (sibling_trees used edition context d siblings.old)) }
+{
+    siblings.sort_by(alloc, |a: &Sibling<'_>, b: &Sibling<'_>| {
+        order(a.tag, b.tag)
+    })
+}
+
+/// Appends the structures of a run in the order of their tags; those with one tag keep their order. Grows.
+pub(crate) fn push_sorted<'a, F: Forest>(
+    alloc: Global,
+    forest: &'a F,
+    start: usize,
+    end: usize,
+    siblings: &mut Vec<Sibling<'a>>,
+) -> Result<(), AllocError>
+    requires { IsRun (F.trees forest.now) start end }
+    ensures kept { OnOk result (take (length siblings.old.items) siblings.new.items ≡ siblings.old.items) }
+    ensures within { OnOk result (AllByRecursion (StandsIn (F.trees forest.now)) (drop (length siblings.old.items) siblings.new.items)) }
+    ensures count { OnOk result (length (drop (length siblings.old.items) siblings.new.items) ≡ length (identifiers (trees_between (F.trees forest.now) start end))) }
+    ensures trees { (used : Bytes → Bool) (edition : AnyEdition) (context : AnyContext) →
+        OnOk result (sibling_trees used edition context (F.trees forest.now) (drop (length siblings.old.items) siblings.new.items) ≡ sorted edition context (used_trees used (trees_between (F.trees forest.now) start end))) }
+{
+    let base = siblings.len();
+    push_siblings(forest, start, end, siblings)?;
+    sort_siblings(alloc, &mut siblings[base..])
+}
+
+/// The new numbers of a document's records, counted from 1, by the numbers that the records have in the document: those of
+/// the identifiers that pointers name, in the new order of the records. Any other record has the new number 0. HEAD, which has
+/// no identifier, may stand among the records.
+pub(crate) fn numbers_in_order<F: Forest>(
+    alloc: Global,
+    forest: &F,
+    index: &Index,
+    records: &[Sibling<'_>],
+) -> Result<Vec<usize>, AllocError>
+    requires index { IsIndexOf (F.trees forest.now) index.now }
+    requires document { is_document (F.trees forest.now) ≡ true }
+    requires within { AllByRecursion (StandsIn (F.trees forest.now)) records.now }
+    requires count { length (identifiers (records_of (F.trees forest.now))) ≤ length records.now }
+    requires known { (name : Bytes) → IsAmong name (sibling_names (F.trees forest.now) records.now) → IsAmong name (xrefs (records_of (F.trees forest.now))) }
+    requires distinct { AreDistinct (sibling_names (F.trees forest.now) records.now) }
+    ensures { IfOk result (λ numbers. AreNumbersOf (F.trees forest.now) (sibling_names (F.trees forest.now) records.now) numbers.items) }
+{
+    let mut numbers = vec![in alloc; 0; records.len()]?;
+    let mut number = 0;
+    let mut cursor = RecordCursor::new();
+    for each in records {
+        if let Some(name) = forest.xref(each.place) {
+            if let Some(place) = index.record_with(each.place, name, &mut cursor) {
+                if index.is_used(place) {
+                    number += 1;
+                    numbers[place] = number;
+                }
+            }
+        }
+    }
+    Ok(numbers)
+}

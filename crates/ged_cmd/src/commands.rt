@@ -1,0 +1,173 @@
+// One command over one input, or over two.
+ghost use Rattle.std.specs.Prelude.{◌≡◌, None, Some, false, option_map};
+ghost use Rattle.ged_tool.specs.Profiles.{profile_of, edition_of};
+ghost use Rattle.ged_cmd.specs.inner.Flushes.{IsFlushed};
+ghost use Rattle.ged_cmd.specs.Program.{IsAnswered, IsCompared, IsDone, reader as reader_of, writer as writer_of};
+ghost use Rattle.ged_cmd.specs.Tasks.{run as run_task, same as same_task};
+ghost use Rattle.ged_cmd.specs.inner.Tasks.{task_of};
+
+use crate::shelf::Shelf;
+use crate::words::Request;
+use ged_tool::{
+    Command, Fault, Outcome, Output, Settings, Sink, Source, Which, run_as, run_same_as,
+};
+use std::alloc::Global;
+use std::io::Write;
+
+/// The most bytes that are read of one input.
+const LIMIT: u64 = 1_073_741_824;
+
+/// The outcome of a fault that names no file.
+pub(crate) fn failed(fault: Fault) -> Outcome
+    ensures { result ≡ Outcome.Failed None fault }
+{
+    Outcome::Failed { which: None, fault }
+}
+
+/// The outcome where one of two files can't be opened.
+fn not_opened(which: Which) -> Outcome
+    ensures { result ≡ Outcome.Failed (Some which) Fault.ReadFailed }
+{
+    Outcome::Failed {
+        which: Some(which),
+        fault: Fault::ReadFailed,
+    }
+}
+
+/// Does what a request asks for, and gives the outcome.
+pub(crate) fn answer_request<S: Shelf, R: Source, W: Write>(
+    alloc: Global,
+    shelf: &S,
+    request: Request<'_>,
+    input: &mut R,
+    output: &mut Output<W>,
+) -> Outcome
+    requires unread { R.reads input.old ≡ 0 }
+    requires no_failure { (R.failed input.old ≡ false) × (⟦<Output<W> as Sink>⟧.failed output.old ≡ false) }
+    ensures { IsDone (S.opens shelf.now) (S.refuses shelf.now) S.Device.to_come S.Device.failed (task_of request.entry)
+        (reader_of R.to_come R.failed input.old input.new)
+        (writer_of ⟦<Output<W> as Sink>⟧.taken ⟦<Output<W> as Sink>⟧.failed output.old output.new) result }
+{
+    match request {
+        Request::Run {
+            command,
+            settings,
+            file,
+        } => answer_file(alloc, shelf, settings, command, file, input, output),
+        Request::Same {
+            settings,
+            first,
+            second,
+        } => compare_files(alloc, shelf, settings, first, second, input, output),
+    }
+}
+
+/// Runs a command over a file, or over `input` where none is named. A file that can't be opened is
+/// ReadFailed.
+fn answer_file<S: Shelf, R: Source, W: Write>(
+    alloc: Global,
+    shelf: &S,
+    settings: Settings,
+    command: Command,
+    file: Option<&str>,
+    input: &mut R,
+    output: &mut Output<W>,
+) -> Outcome
+    requires unread { R.reads input.old ≡ 0 }
+    requires no_failure { (R.failed input.old ≡ false) × (⟦<Output<W> as Sink>⟧.failed output.old ≡ false) }
+    ensures { IsDone (S.opens shelf.now) (S.refuses shelf.now) S.Device.to_come S.Device.failed
+        (run_task (profile_of settings) (edition_of settings) command (option_map (λ name. name.now) file.entry))
+        (reader_of R.to_come R.failed input.old input.new)
+        (writer_of ⟦<Output<W> as Sink>⟧.taken ⟦<Output<W> as Sink>⟧.failed output.old output.new) result }
+{
+    match file {
+        None => answer(alloc, settings, command, input, output),
+        Some(name) => match shelf.open(name) {
+            Ok(mut device) => answer(alloc, settings, command, &mut device, output),
+            Err(_) => failed(Fault::ReadFailed),
+        },
+    }
+}
+
+/// Tells whether a file is the same as another, or as `input` where no other is named. Both are
+/// opened before one is read. A file that can't be opened is ReadFailed, and is named.
+fn compare_files<S: Shelf, R: Source, W: Write>(
+    alloc: Global,
+    shelf: &S,
+    settings: Settings,
+    first: &str,
+    second: Option<&str>,
+    input: &mut R,
+    output: &mut Output<W>,
+) -> Outcome
+    requires unread { R.reads input.old ≡ 0 }
+    requires no_failure { (R.failed input.old ≡ false) × (⟦<Output<W> as Sink>⟧.failed output.old ≡ false) }
+    ensures { IsDone (S.opens shelf.now) (S.refuses shelf.now) S.Device.to_come S.Device.failed
+        (same_task (profile_of settings) (edition_of settings) first.now (option_map (λ name. name.now) second.entry))
+        (reader_of R.to_come R.failed input.old input.new)
+        (writer_of ⟦<Output<W> as Sink>⟧.taken ⟦<Output<W> as Sink>⟧.failed output.old output.new) result }
+{
+    let mut first = match shelf.open(first) {
+        Ok(device) => device,
+        Err(_) => return not_opened(Which::First),
+    };
+    match second {
+        None => compare(alloc, settings, &mut first, input, output),
+        Some(name) => match shelf.open(name) {
+            Ok(mut second) => compare(alloc, settings, &mut first, &mut second, output),
+            Err(_) => not_opened(Which::Second),
+        },
+    }
+}
+
+/// Runs a command over what a reader gives, and flushes the answer.
+fn answer<R: Source, W: Write>(
+    alloc: Global,
+    settings: Settings,
+    command: Command,
+    reader: &mut R,
+    output: &mut Output<W>,
+) -> Outcome
+    requires unread { R.reads reader.old ≡ 0 }
+    requires no_failure { (R.failed reader.old ≡ false) × (⟦<Output<W> as Sink>⟧.failed output.old ≡ false) }
+    ensures { IsAnswered (profile_of settings) (edition_of settings) command
+        (reader_of R.to_come R.failed reader.old reader.new)
+        (writer_of ⟦<Output<W> as Sink>⟧.taken ⟦<Output<W> as Sink>⟧.failed output.old output.new) result }
+{
+    let outcome = run_as(alloc, settings, LIMIT, command, reader, output);
+    flushed(outcome, output)
+}
+
+/// Compares what two readers give, and flushes the answer.
+fn compare<R: Source, S: Source, W: Write>(
+    alloc: Global,
+    settings: Settings,
+    first: &mut R,
+    second: &mut S,
+    output: &mut Output<W>,
+) -> Outcome
+    requires unread { (R.reads first.old ≡ 0) × (S.reads second.old ≡ 0) }
+    requires no_failure { (R.failed first.old ≡ false) × (S.failed second.old ≡ false)
+        × (⟦<Output<W> as Sink>⟧.failed output.old ≡ false) }
+    ensures { IsCompared (profile_of settings) (edition_of settings)
+        (reader_of R.to_come R.failed first.old first.new) (reader_of S.to_come S.failed second.old second.new)
+        (writer_of ⟦<Output<W> as Sink>⟧.taken ⟦<Output<W> as Sink>⟧.failed output.old output.new) result }
+{
+    let outcome = run_same_as(alloc, settings, LIMIT, first, second, output);
+    flushed(outcome, output)
+}
+
+/// The outcome once the answer is flushed: WriteFailed where it can't be. An outcome without an
+/// answer stays, and nothing is flushed.
+fn flushed<W: Write>(outcome: Outcome, output: &mut Output<W>) -> Outcome
+    ensures { IsFlushed (writer_of ⟦<Output<W> as Sink>⟧.taken ⟦<Output<W> as Sink>⟧.failed output.old output.new)
+        (⟦<Output<W> as Sink>⟧.failed output.old) outcome result }
+{
+    match outcome {
+        Outcome::Done | Outcome::Different => match output.flush() {
+            Ok(()) => outcome,
+            Err(_) => failed(Fault::WriteFailed),
+        },
+        Outcome::Failed { which: _, fault: _ } => outcome,
+    }
+}

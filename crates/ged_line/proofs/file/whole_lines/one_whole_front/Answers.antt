@@ -1,0 +1,5 @@
+use Rattle.ged_line.proofs.WholeLemmas.{one_whole}
+use Rattle.ged_line.proofs.file.whole_lines.one_whole_front.Goals as goal
+
+pub returns : goal.returns
+returns c = one_whole

@@ -1,5 +1,0 @@
-use Rattle.ged_line.proofs.Cutting.{are_cut}
-use Rattle.ged_line.proofs.pieces.cut_pieces.Goals as goal
-
-pub returns : goal.returns
-returns c = are_cut c.args.bytes.now

@@ -1,4 +1,0 @@
-use Rattle.ged_line.proofs.pieces.split_pieces.Goals as goal
-
-pub returns : goal.returns
-returns c = (c.skip_mark.result.now, c.skip_mark.ensures, c.cut_pieces.ensures)

@@ -1,5 +1,0 @@
-use Rattle.ged_line.proofs.WholeLemmas.{one_whole}
-use Rattle.ged_line.proofs.whole.one_whole_front.Goals as goal
-
-pub returns : goal.returns
-returns c = one_whole

@@ -1,5 +1,0 @@
-use Rattle.ged_line.proofs.WholeLemmas.{whole_stay}
-use Rattle.ged_line.proofs.whole.whole_pieces_stay.Goals as goal
-
-pub returns : goal.returns
-returns c = whole_stay

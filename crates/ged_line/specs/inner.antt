@@ -1,0 +1,4 @@
+pub mod ByteTests
+pub mod Reading
+pub mod Views
+pub mod WholeLines

@@ -1,0 +1,80 @@
+// Tags and cross-reference identifiers.
+ghost use Rattle.std.specs.Prelude.{◌≡◌, ◌<◌, ◌≤◌, ℕ, length, slice_index, true, false};
+ghost use Rattle.std.specs.List.{list_all};
+ghost use Rattle.ged_line.specs.Characters.{is_tag_character as tests_tag_character};
+ghost use Rattle.ged_line.specs.Names.{is_tag as tests_tag, is_xref as tests_xref, tag_order as order_of_tags};
+
+use std::cmp::Ordering;
+
+fn is_tag_character(byte: u8) -> bool
+    ensures { result ≡ tests_tag_character byte }
+{
+    byte.is_ascii_uppercase() || byte.is_ascii_digit() || byte == b'_'
+}
+
+/// The number of tag characters that a text begins with.
+pub(crate) fn tag_characters(text: &str) -> usize
+    ensures inside { result ≤ length text.now }
+    ensures front { (at : ℕ) → at < result → tests_tag_character (slice_index text.now at) ≡ true }
+    ensures stop { result < length text.now → tests_tag_character (slice_index text.now result) ≡ false }
+{
+    let bytes = text.as_bytes();
+    bytes
+        .iter()
+        .position(|byte| !is_tag_character(*byte))
+        .unwrap_or(bytes.len())
+}
+
+fn are_tag_characters(bytes: &[u8]) -> bool
+    ensures { result ≡ list_all tests_tag_character bytes.now }
+{
+    bytes.iter().all(|byte| is_tag_character(*byte))
+}
+
+/// Whether a text of tag characters is a tag.
+pub(crate) fn begins_as_tag(characters: &str) -> bool
+    requires { list_all tests_tag_character characters.now ≡ true }
+    ensures { result ≡ tests_tag characters.now }
+{
+    match characters.as_bytes() {
+        [] | [b'_'] => false,
+        [first, ..] => !first.is_ascii_digit(),
+    }
+}
+
+fn are_tag_bytes(bytes: &[u8]) -> bool
+    ensures { result ≡ tests_tag bytes.now }
+{
+    match bytes.split_first() {
+        None => false,
+        Some((first, rest)) if *first == b'_' => !rest.is_empty() && are_tag_characters(rest),
+        Some((first, rest)) => first.is_ascii_uppercase() && are_tag_characters(rest),
+    }
+}
+
+/// Whether a text is a tag: a capital letter and any tag characters, or an underscore and one or more of them.
+pub(crate) fn is_tag(text: &str) -> bool
+    ensures { result ≡ tests_tag text.now }
+{
+    are_tag_bytes(text.as_bytes())
+}
+
+/// Whether a text is the name of a cross-reference identifier: one or more tag characters, but not `VOID`.
+pub(crate) fn is_xref(text: &str) -> bool
+    ensures { result ≡ tests_xref text.now }
+{
+    !text.is_empty() && text != "VOID" && are_tag_characters(text.as_bytes())
+}
+
+/// The order of two tags, as [`Tag::order`] answers it. Takes no memory.
+pub fn tag_order(tag: &str, other: &str) -> Ordering
+    requires tags { (tests_tag tag.now ≡ true) × (tests_tag other.now ≡ true) }
+    ensures { result ≡ order_of_tags tag.now other.now }
+{
+    match (tag == "GEDC", other == "GEDC") {
+        (true, true) => Ordering::Equal,
+        (true, false) => Ordering::Less,
+        (false, true) => Ordering::Greater,
+        (false, false) => tag.cmp(other),
+    }
+}

@@ -1,0 +1,72 @@
+use Rattle.std.proofs.Common.{◌≡◌, ◌<◌, Some, inr, None, sym, ap, ◌∙◌, arith, option_map, length, true}
+use Rattle.std.proofs.Math.ListN.{length-set}
+use Rattle.ged_tree.specs.Trees.{further_lines}
+use Rattle.ged_tree.specs.Places.{structure_at}
+use Rattle.ged_tree.specs.declared.owned.payload.Payload.TheVariants.{Pointer}
+use Rattle.ged_link.specs.declared.index.RecordPlace.{RecordPlace}
+use Rattle.ged_link.specs.Indexes.{number_in, place_in}
+use Rattle.ged_link.proofs.UseLemmas.{not_pointer, no_target, told_not_pointer, told_no_target, used_kept, dangles_kept, used_more, dangles_more, first_dangling, number_inside}
+use Rattle.ged_link.proofs.pointers.follow.Goals as goal
+
+pub returns-then-not-points : goal.returns-then-not-points
+returns-then-not-points g c =
+    let w = g.F.Forest.trees c.args.forest.now in
+    let s = structure_at w c.args.place in
+    let denied = sym c.points.ensures ∙ c.if-not-points.true in
+    let other = told_not_pointer s.payload denied in
+    record {
+      used = record {
+        long = c.requires.used.long;
+        marked = used_kept w c.args.place c.requires.within c.args.followed.now.used.items other c.requires.used.marked;
+        told = c.requires.used.told;
+        found = dangles_kept w c.args.place c.requires.within other c.requires.used.found;
+      };
+      target = sym (told_no_target (place_in c.args.records.now) s.payload denied);
+      fault = tt;
+    }
+
+pub returns-in_default : goal.returns-in_default
+returns-in_default g c =
+    let w = g.F.Forest.trees c.args.forest.now in
+    let s = structure_at w c.args.place in
+    let other = not_pointer c.payload.result (further_lines s.payload) s.payload c.payload.ensures c.in_default.not-Pointer in
+    record {
+      used = record {
+        long = c.requires.used.long;
+        marked = used_kept w c.args.place c.requires.within c.args.followed.now.used.items other c.requires.used.marked;
+        told = c.requires.used.told;
+        found = dangles_kept w c.args.place c.requires.within other c.requires.used.found;
+      };
+      target = sym (no_target (place_in c.args.records.now) c.payload.result (further_lines s.payload) s.payload c.payload.ensures c.in_default.not-Pointer);
+      fault = tt;
+    }
+
+pub returns-in_default-find-clause-fault : goal.returns-in_default-find-clause-fault
+returns-in_default-find-clause-fault g c =
+    let w = g.F.Forest.trees c.args.forest.now in
+    let here : (structure_at w c.args.place).payload ≡ Pointer c.in-Pointer.name.now = sym c.in-Pointer.ensures in
+    let missing : number_in c.args.records.now c.in-Pointer.name.now ≡ None = ap (option_map (λ (r : RecordPlace). r.number)) (sym c.find.ensures ∙ c.in_default-find.is) in
+    inr (c.requires.distinct, (c.args.place, first_dangling w c.args.place c.requires.within c.args.records.now c.in-Pointer.name.now c.requires.records here missing c.requires.used.found, c.line.ensures))
+
+pub index_mut-requires : goal.index_mut-requires
+index_mut-requires g c =
+    let w = g.F.Forest.trees c.args.forest.now in
+    let named : number_in c.args.records.now c.in-Pointer.name.now ≡ Some c.in-Some.found.number = ap (option_map (λ (r : RecordPlace). r.number)) (sym c.find.ensures ∙ c.in-Some.is) in
+    omega (arith, number_inside w c.args.records.now c.in-Pointer.name.now c.in-Some.found.number c.requires.records named, c.requires.used.long)
+
+pub returns-clause-used : goal.returns-clause-used
+returns-clause-used g c =
+    let w = g.F.Forest.trees c.args.forest.now in
+    let records = c.args.records.now in
+    let name = c.in-Pointer.name.now in
+    let used = c.args.followed.now.used.items in
+    let number = c.in-Some.found.number in
+    let here : (structure_at w c.args.place).payload ≡ Pointer name = sym c.in-Pointer.ensures in
+    let named : number_in records name ≡ Some number = ap (option_map (λ (r : RecordPlace). r.number)) (sym c.find.ensures ∙ c.in-Some.is) in
+    let inside : number < length used = omega (arith, number_inside w records name number c.requires.records named, c.requires.used.long) in
+    record {
+      long = length-set used number true ∙ c.requires.used.long;
+      marked = used_more w c.args.place c.requires.within records name c.requires.records here used number named inside c.requires.used.marked;
+      told = c.in-Ok.ensures w (name, here, (c.requires.records.numbered name number).0 named) c.requires.used.told;
+      found = dangles_more w c.args.place c.requires.within records name c.requires.records here number named c.requires.used.found;
+    }

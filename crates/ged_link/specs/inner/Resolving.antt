@@ -1,0 +1,42 @@
+-- Nothing here need be believed: only private contracts and proofs cite it.
+-- How far the walks of resolving have come; only private functions cite this.
+use Rattle.std.specs.Prelude.{◌≡◌, ℕ, ◌<◌, Bool, true, false, List, Some, ◌↔◌, if◌then◌else◌, slice_index_or, length}
+use Rattle.std.specs.Str.{bytes_eq}
+use Rattle.ged_line.specs.Bytes.{Bytes}
+use Rattle.ged_tree.specs.Trees.{Trees, records_of}
+use Rattle.ged_link.specs.declared.index.RecordPlace.{RecordPlace}
+use Rattle.ged_link.specs.Links.{identifiers, IsRecordNumber, IsUsed}
+use Rattle.ged_link.specs.LinkFaults.{HasXref, HasPointer, IsDangling}
+use Rattle.ged_link.specs.declared.names.Names.{Names}
+use Rattle.ged_link.specs.declared.pointers.Followed.{Followed}
+use Rattle.ged_link.specs.Targets.{AreTargets}
+use Rattle.ged_link.specs.Indexes.{found_in, place_in, number_in}
+
+-- the records gain a name, and keep all others
+abbrev pub AddsName : Names → Names → Bytes → RecordPlace → Type 0
+AddsName old new name found = (other : Bytes) → found_in new other ≡ (if bytes_eq name other then Some found else found_in old other)
+
+-- each identifier before a place, and those of so many records, and no other, has the number and the place of its record
+pub record AreRecordsBefore (d : Trees) (place number : ℕ) (records : Names) : Type 0 where
+  pub placed : (name : Bytes) (other : ℕ) → (place_in records name ≡ Some other) ↔ ((other < place) × HasXref d other name)
+  pub numbered : (name : Bytes) (other : ℕ) → (number_in records name ≡ Some other) ↔ ((other < number) × IsRecordNumber d other name)
+
+-- a record is marked exactly where a pointer before a place names it
+abbrev pub AreUsedBefore : Trees → ℕ → List Bool → Type 0
+AreUsedBefore d place used =
+    (number : ℕ) → (slice_index_or used number false ≡ true) ↔ ((name : Bytes) × IsRecordNumber d number name × ((other : ℕ) × (other < place) × HasPointer d other name))
+
+-- no pointer before a place dangles
+abbrev pub NoneDanglesBefore : Trees → ℕ → Type 0
+NoneDanglesBefore d place = (other : ℕ) → other < place → IsDangling d other → ⊥
+
+-- all pointers before a place name records, those are marked, and what is kept of the pointers is true
+pub record AreFollowed (d : Trees) (place : ℕ) (followed : Followed) : Type 0 where
+  pub long : length followed.used.items ≡ length (identifiers (records_of d))
+  pub marked : AreUsedBefore d place followed.used.items
+  pub told : AreTargets d followed.targets.items
+  pub found : NoneDanglesBefore d place
+
+-- a record is marked exactly where some pointer names it
+abbrev pub AreUsed : Trees → List Bool → Type 0
+AreUsed d used = (number : ℕ) → (slice_index_or used number false ≡ true) ↔ IsUsed d number

@@ -1,0 +1,209 @@
+// Where the pointers of a document lead: the records that they name, and the links between records.
+ghost use Rattle.std.specs.Prelude.{◌≡◌, ◌<◌, ◌≤◌, ◌+◌, ◌⊎◌, ℕ, IfOk, IfErr, OnOk, length, nat_eq, ◌&&◌, ◌||◌, alloc_error};
+ghost use Rattle.ged_tree.specs.Trees.{records_of, trees_count};
+ghost use Rattle.ged_tree.specs.Places.{structure_at};
+ghost use Rattle.ged_tree.specs.Runs.{trees_between, IsRun};
+ghost use Rattle.ged_link.specs.Links.{identifiers};
+ghost use Rattle.ged_link.specs.LinkFaults.{HasLinkFault, IsRepeated, IsDangling};
+ghost use Rattle.ged_link.specs.Indexes.{AreRecords, place_in};
+ghost use Rattle.ged_link.specs.inner.LinkWalks.{target, linked, is_place, has_link_to};
+ghost use Rattle.ged_link.specs.inner.PairSets.{lists_have, AreLinks};
+ghost use Rattle.ged_link.specs.Targets.{AreTargets};
+ghost use Rattle.ged_link.specs.inner.Resolving.{AreFollowed, AreUsed};
+ghost use Rattle.ged_link.specs.declared.pairs.Role.{Role};
+ghost use Rattle.ged_link.specs.declared.fault.LinkFault.TheVariants.{Memory};
+
+use crate::fault::LinkFault;
+use crate::link_lists::LinkLists;
+use crate::links::role_of;
+use crate::names::Names;
+use crate::targets::{Target, push_target};
+use ged_tree::{Forest, PayloadView, end_of_all, next_in_run};
+use std::alloc::{AllocError, Global};
+
+/// What is known of the records that the pointers of a document name.
+#[derive(Drop)]
+pub(crate) struct Followed {
+    /// Whether some pointer names a record, by the record's number.
+    pub(crate) used: Vec<bool>,
+    /// What the pointers name, in the order of their places.
+    pub(crate) targets: Vec<Target>,
+}
+
+/// Marks the record that the structure at a place points to, and answers its place, or `None` where no pointer stands; or
+/// the fault of a pointer that names no record.
+#[inline(always)]
+fn follow<F: Forest>(
+    forest: &F,
+    records: &Names,
+    place: usize,
+    followed: &mut Followed,
+) -> Result<Option<usize>, LinkFault>
+    requires within { place < trees_count (F.trees forest.now) }
+    requires records { AreRecords (F.trees forest.now) records.now }
+    requires distinct { (place : ℕ) → IsRepeated (F.trees forest.now) place → ⊥ }
+    requires used { AreFollowed (F.trees forest.now) place followed.old }
+    ensures used { OnOk result (AreFollowed (F.trees forest.now) (place + 1) followed.new) }
+    ensures target { IfOk result (λ found. found ≡ target (place_in records.now) (structure_at (F.trees forest.now) place).payload) }
+    ensures fault { IfErr result (λ fault. (fault ≡ Memory alloc_error) ⊎ HasLinkFault (F.trees forest.now) fault) }
+{
+    if !forest.points(place) {
+        return Ok(None);
+    }
+    let PayloadView::Pointer(name) = forest.payload(place) else {
+        return Ok(None);
+    };
+    let Some(found) = records.find(name) else {
+        return Err(LinkFault::Dangling(forest.line(place)));
+    };
+    followed.used[found.number] = true;
+    let Ok(()) = push_target(&mut followed.targets, place, found.number) else {
+        return Err(LinkFault::Memory(AllocError));
+    };
+    Ok(Some(found.place))
+}
+
+/// Marks the records that the structures from a place on point to, up to an end; or the fault of the first pointer there
+/// that names none.
+fn follow_all<F: Forest>(
+    forest: &F,
+    records: &Names,
+    start: usize,
+    end: usize,
+    followed: &mut Followed,
+) -> Result<(), LinkFault>
+    requires order { start ≤ end }
+    requires within { end ≤ trees_count (F.trees forest.now) }
+    requires records { AreRecords (F.trees forest.now) records.now }
+    requires distinct { (place : ℕ) → IsRepeated (F.trees forest.now) place → ⊥ }
+    requires used { AreFollowed (F.trees forest.now) start followed.old }
+    ensures used { OnOk result (AreFollowed (F.trees forest.now) end followed.new) }
+    ensures fault { IfErr result (λ fault. (fault ≡ Memory alloc_error) ⊎ HasLinkFault (F.trees forest.now) fault) }
+{
+    for place in start..end {
+        if let Err(fault) = follow(forest, records, place, followed) {
+            return Err(fault);
+        }
+    }
+    Ok(())
+}
+
+/// Marks the record that a structure directly under a record with a tag points to, and adds the link of both where it is
+/// one.
+#[tactic(auto, using(crate::proofs::WalkLemmas::one_link))]
+fn follow_link<F: Forest>(
+    forest: &F,
+    records: &Names,
+    from: usize,
+    record_tag: &str,
+    place: usize,
+    followed: &mut Followed,
+    lists: &mut LinkLists,
+) -> Result<(), LinkFault>
+    requires record_tag { record_tag.now ≡ (structure_at (F.trees forest.now) from).tag }
+    requires within { place < trees_count (F.trees forest.now) }
+    requires records { AreRecords (F.trees forest.now) records.now }
+    requires distinct { (place : ℕ) → IsRepeated (F.trees forest.now) place → ⊥ }
+    requires used { AreFollowed (F.trees forest.now) place followed.old }
+    ensures used { OnOk result (AreFollowed (F.trees forest.now) (place + 1) followed.new) }
+    ensures links { OnOk result ((role : Role) (pair : ℕ × ℕ) → lists_have lists.new role pair
+        ≡ ((nat_eq pair.0 from && is_place (linked (place_in records.now) role (structure_at (F.trees forest.now) from).tag (structure_at (F.trees forest.now) place)) pair.1)
+        || lists_have lists.old role pair)) }
+    ensures fault { IfErr result (λ fault. (fault ≡ Memory alloc_error) ⊎ HasLinkFault (F.trees forest.now) fault) }
+{
+    let found = match follow(forest, records, place, followed) {
+        Ok(found) => found,
+        Err(fault) => return Err(fault),
+    };
+    let Some(to) = found else {
+        return Ok(());
+    };
+    let Some(role) = role_of(record_tag, forest.tag(place)) else {
+        return Ok(());
+    };
+    match lists.push(role, from, to) {
+        Ok(()) => Ok(()),
+        Err(_) => Err(LinkFault::Memory(AllocError)),
+    }
+}
+
+/// The same for all structures of a record, which end before a place.
+#[tactic(auto, using(crate::proofs::WalkLemmas::pairs))]
+fn follow_record<F: Forest>(
+    forest: &F,
+    records: &Names,
+    from: usize,
+    end: usize,
+    followed: &mut Followed,
+    lists: &mut LinkLists,
+) -> Result<(), LinkFault>
+    requires from { from < trees_count (F.trees forest.now) }
+    requires end { end ≤ trees_count (F.trees forest.now) }
+    requires run { IsRun (F.trees forest.now) (from + 1) end }
+    requires records { AreRecords (F.trees forest.now) records.now }
+    requires distinct { (place : ℕ) → IsRepeated (F.trees forest.now) place → ⊥ }
+    requires used { AreFollowed (F.trees forest.now) from followed.old }
+    ensures used { OnOk result (AreFollowed (F.trees forest.now) end followed.new) }
+    ensures links { OnOk result ((role : Role) (pair : ℕ × ℕ) → lists_have lists.new role pair
+        ≡ ((nat_eq pair.0 from && has_link_to (place_in records.now) role (structure_at (F.trees forest.now) from).tag pair.1 (trees_between (F.trees forest.now) (from + 1) end))
+        || lists_have lists.old role pair)) }
+    ensures fault { IfErr result (λ fault. (fault ≡ Memory alloc_error) ⊎ HasLinkFault (F.trees forest.now) fault) }
+{
+    if let Err(fault) = follow(forest, records, from, followed) {
+        return Err(fault);
+    }
+    let record_tag = forest.tag(from);
+    let mut place = from + 1;
+    while let Some(after) = next_in_run(forest, place, end) {
+        if let Err(fault) = follow_link(forest, records, from, record_tag, place, followed, lists) {
+            return Err(fault);
+        }
+        if let Err(fault) = follow_all(forest, records, place + 1, after, followed) {
+            return Err(fault);
+        }
+        place = after;
+    }
+    Ok(())
+}
+
+/// Which records some pointer names, and the links of all records; or the fault of the first pointer that names
+/// no record.
+#[tactic(auto, using(crate::proofs::WalkLemmas::pairs))]
+pub(crate) fn follow_pointers<F: Forest>(
+    alloc: Global,
+    forest: &F,
+    records: &Names,
+    count: usize,
+) -> Result<(Followed, LinkLists), LinkFault>
+    requires records { AreRecords (F.trees forest.now) records.now }
+    requires count { count ≡ length (identifiers (records_of (F.trees forest.now))) }
+    requires distinct { (place : ℕ) → IsRepeated (F.trees forest.now) place → ⊥ }
+    ensures used { IfOk result (λ followed. AreUsed (F.trees forest.now) followed.0.used.items) }
+    ensures targets { IfOk result (λ followed. AreTargets (F.trees forest.now) followed.0.targets.items) }
+    ensures found { IfOk result (λ _. (place : ℕ) → IsDangling (F.trees forest.now) place → ⊥) }
+    ensures links { IfOk result (λ followed. AreLinks (place_in records.now) (F.trees forest.now) followed.1) }
+    ensures fault { IfErr result (λ fault. (fault ≡ Memory alloc_error) ⊎ HasLinkFault (F.trees forest.now) fault) }
+{
+    let Ok(used) = vec![in alloc; false; count] else {
+        return Err(LinkFault::Memory(AllocError));
+    };
+    let targets = Vec::new(alloc);
+    let mut followed = Followed { used, targets };
+    let mut lists = LinkLists::new(alloc);
+    let end = end_of_all(forest);
+    let mut place = 0;
+    while let Some(after) = next_in_run(forest, place, end) {
+        if let Err(fault) = follow_record(
+            forest,
+            records,
+            place,
+            after,
+            &mut followed,
+            &mut lists,
+        ) {
+            return Err(fault);
+        }
+        place = after;
+    }
+    Ok((followed, lists))
+}

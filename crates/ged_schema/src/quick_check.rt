@@ -1,0 +1,228 @@
+// Whether structures are as the tables ask, told in one walk that looks each of them up once.
+ghost use Rattle.std.specs.Prelude.{◌≡◌, ◌<◌, ◌+◌, ◌⊎◌, ◌↔◌, ◌∷◌, ℕ, Option, true, IfSome, IsTrue, None};
+ghost use Rattle.std.specs.Int.{bit_at};
+ghost use Rattle.std.specs.List.{AllByRecursion};
+ghost use Rattle.std.specs.Bool.{OnTrue};
+ghost use Rattle.ged_tree.specs.Trees.{Trees, trees_count, further_lines};
+ghost use Rattle.ged_tree.specs.declared.owned.payload.Payload.TheVariants.{Pointer, Text};
+ghost use Rattle.ged_tree.specs.Documents.{is_document};
+ghost use Rattle.ged_tree.specs.Places.{structure_at};
+ghost use Rattle.ged_tree.specs.Runs.{IsRun, trees_between};
+ghost use Rattle.ged_value.specs.Kinds.{Fits as FitsGiven, FitsLine};
+ghost use Rattle.ged_value.specs.declared.kind.Given.TheVariants.{Pointer as GivenPointer, Void as GivenVoid};
+ghost use Rattle.ged_link.specs.Indexes.{IsIndexOf};
+ghost use Rattle.ged_schema.specs.Tables.{rows as rows_of};
+ghost use Rattle.ged_schema.specs.Payloads.{IsOfKind, target};
+ghost use Rattle.ged_schema.specs.Checked.{AreChecked, CountsRight, PointsRight};
+ghost use Rattle.ged_schema.specs.Unlisted.{Unlisted};
+ghost use Rattle.ged_schema.specs.inner.Marks.{are_simple, IsNeededMarked, MarksOneMore};
+
+use crate::context::Context;
+use crate::notices::gives_notice;
+use crate::payloads::{names_record, target_type};
+use crate::slots::{number_among, seed_of};
+use crate::tables::rows;
+use ged_link::{Index, PointerCursor};
+use ged_tree::{Forest, PayloadView, next_in_run};
+use ged_value::{Given, Kind, fits};
+
+/// What a walk carries from one structure to the next.
+#[derive(Drop)]
+pub(crate) struct Pass {
+    /// Whether a structure on the way gave a notice.
+    pub(crate) noted: bool,
+    /// Where the index looks for the next pointer.
+    pub(crate) pointers: PointerCursor,
+}
+
+/// The number of the one row of a context that asks for a structure, where it has such a row.
+#[tactic(auto, unfolding(crate::specs::Tables::rows))]
+fn needed_number(context: Context) -> Option<usize>
+    ensures small { IfSome result (λ number. number < 64) }
+    ensures simple { are_simple result 0 (rows_of context) ≡ true }
+{
+    match context {
+        Context::File
+        | Context::Head
+        | Context::Gedc
+        | Context::HeadPlac
+        | Context::IndiNamed
+        | Context::NameTran
+        | Context::FamNamed
+        | Context::FamAge
+        | Context::Chan
+        | Context::Crea => Some(0),
+        Context::Asso => Some(1),
+        _ => None,
+    }
+}
+
+/// Whether the row of a context that asks for a structure is marked, or the context has no such row.
+fn is_needed_marked(context: Context, marks: u64) -> bool
+    ensures { OnTrue result ((needed : Option ℕ) × (are_simple needed 0 (rows_of context) ≡ true) × IsNeededMarked needed marks) }
+{
+    match needed_number(context) {
+        Some(number) => (marks >> number) & 1 != 0,
+        None => true,
+    }
+}
+
+/// Whether no row of a context asks for a structure.
+fn needs_nothing(context: Context) -> bool
+    ensures { OnTrue result (are_simple None 0 (rows_of context) ≡ true) }
+{
+    match needed_number(context) {
+        Some(_) => false,
+        None => true,
+    }
+}
+
+/// Marks a row by the bit of its number, and tells whether one more of its structures may stand.
+#[inline(always)]
+fn mark(marks: &mut u64, number: usize, most: Option<u32>) -> bool
+    requires { number < 64 }
+    ensures marked { MarksOneMore number marks.old marks.new }
+    ensures free { OnTrue result ((most ≡ None) ⊎ (bit_at marks.old number ≡ 0)) }
+{
+    let free = match most {
+        Some(_) => (*marks >> number) & 1 == 0,
+        None => true,
+    };
+    *marks |= 1 << number;
+    free
+}
+
+/// Whether a text of one line is of a kind. A function of its own, so that no room for a [`Given`] is cleared on the way of
+/// payloads that are told without it.
+fn fits_line(kind: Kind, line: &str) -> bool
+    ensures { OnTrue result (FitsLine kind line.now) }
+{
+    fits(kind, Given::One(line))
+}
+
+/// Whether the payload of the structure at a place, a text with this first line, is of the kind.
+#[inline(always)]
+fn is_text_right<F: Forest>(forest: &F, kind: Kind, line: &str, place: usize) -> bool
+    requires within { place < trees_count (F.trees forest.now) }
+    requires payload { Text (line.now ∷ further_lines (structure_at (F.trees forest.now) place).payload)
+        ≡ (structure_at (F.trees forest.now) place).payload }
+    ensures { OnTrue result (IsOfKind kind (structure_at (F.trees forest.now) place).payload) }
+{
+    if matches!(kind, Kind::Text | Kind::Free) {
+        return true;
+    }
+    if forest.further(place) > 0 {
+        return false;
+    }
+    if line.is_empty() && matches!(kind, Kind::Nothing | Kind::EventFlag) {
+        return true;
+    }
+    fits_line(kind, line)
+}
+
+/// Whether a pointer is of a kind whose pointers lead to records of any type.
+#[cold]
+#[inline(never)]
+fn takes_any_pointer(kind: Kind) -> bool
+    ensures { OnTrue result (FitsGiven kind GivenPointer) }
+{
+    fits(kind, Given::Pointer)
+}
+
+/// Whether the void pointer is of a kind.
+#[cold]
+#[inline(never)]
+fn takes_void(kind: Kind) -> bool
+    ensures { OnTrue result (FitsGiven kind GivenVoid) }
+{
+    fits(kind, Given::Void)
+}
+
+/// Whether the payload of the structure at a place, a pointer with this name, is of the kind, and leads to a record of the
+/// tag that the kind names.
+#[inline(always)]
+fn is_pointer_right(
+    index: &Index,
+    kind: Kind,
+    place: usize,
+    name: &str,
+    pointers: &mut PointerCursor,
+) -> bool
+    ensures { (document : Trees) → IsIndexOf document index.now → is_document document ≡ true
+        → Pointer name.now ≡ (structure_at document place).payload
+        → OnTrue result (IsOfKind kind (Pointer name.now) × PointsRight document (target kind) (Pointer name.now)) }
+{
+    match target_type(kind) {
+        Some(wanted) => names_record(index, place, name, wanted, pointers),
+        None => takes_any_pointer(kind),
+    }
+}
+
+/// Whether the payload of the structure at a place is of the kind, and leads to a record of the tag that the kind names.
+#[inline(always)]
+fn is_payload_right<F: Forest>(
+    forest: &F,
+    index: &Index,
+    kind: Kind,
+    place: usize,
+    pointers: &mut PointerCursor,
+) -> bool
+    requires within { place < trees_count (F.trees forest.now) }
+    requires index { IsIndexOf (F.trees forest.now) index.now }
+    requires document { is_document (F.trees forest.now) ≡ true }
+    ensures { OnTrue result (IsOfKind kind (structure_at (F.trees forest.now) place).payload
+        × PointsRight (F.trees forest.now) (target kind) (structure_at (F.trees forest.now) place).payload) }
+{
+    match forest.payload(place) {
+        PayloadView::Text(line) => is_text_right(forest, kind, line, place),
+        PayloadView::Pointer(name) => is_pointer_right(index, kind, place, name, pointers),
+        PayloadView::Void => takes_void(kind),
+    }
+}
+
+/// Whether the structures of a run, which stand in a context, are as many as its rows ask, and each of them, and of those
+/// below them, is as its row asks. It ends at the first that is not. Where it ends at none, the pass is noted if a
+/// structure on the way gives a notice, and stays as it is otherwise.
+pub(crate) fn all_pass<F: Forest>(
+    forest: &F,
+    index: &Index,
+    context: Context,
+    start: usize,
+    end: usize,
+    pass: &mut Pass,
+) -> bool
+    requires run { IsRun (F.trees forest.now) start end }
+    requires index { IsIndexOf (F.trees forest.now) index.now }
+    requires document { is_document (F.trees forest.now) ≡ true }
+    ensures { OnTrue result (AllByRecursion (CountsRight (trees_between (F.trees forest.now) start end)) (rows_of context)
+        × AreChecked (F.trees forest.now) context (trees_between (F.trees forest.now) start end)
+        × (IsTrue pass.new.noted ↔ (IsTrue pass.old.noted ⊎ Unlisted context (trees_between (F.trees forest.now) start end)))) }
+{
+    let rules = rows(context);
+    let seed = seed_of(context);
+    let mut marks = 0;
+    let mut place = start;
+    while let Some(after) = next_in_run(forest, place, end) {
+        let tag = forest.tag(place);
+        if let Some(number) = number_among(rules, seed, tag) {
+            let rule = &rules[number];
+            if !mark(&mut marks, number, rule.most) {
+                return false;
+            }
+            if !is_payload_right(forest, index, rule.kind, place, &mut pass.pointers) {
+                return false;
+            }
+            if place + 1 < after {
+                if !all_pass(forest, index, rule.below, place + 1, after, pass) {
+                    return false;
+                }
+            } else if !needs_nothing(rule.below) {
+                return false;
+            }
+        } else if gives_notice(context, tag) {
+            pass.noted = true;
+        }
+        place = after;
+    }
+    is_needed_marked(context, marks)
+}

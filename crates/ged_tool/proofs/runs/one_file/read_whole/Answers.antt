@@ -1,0 +1,24 @@
+use Rattle.std.proofs.Common.{◌++◌, take, arith, length-append}
+use Rattle.std.proofs.KnownBytes.{Consumes-trans}
+use Rattle.ged_tool.proofs.runs.one_file.read_whole.Goals as goal
+
+-- in both, what came is what is held and what the last call gave
+pub returns-then-len-count-clause-stopped : goal.returns-then-len-count-clause-stopped
+returns-then-len-count-clause-stopped g c =
+    let held = c.loop.bytes.items in
+    let gave = take c.in-Ok-read.count c.read.new.buf in
+    let long = length-append held gave in (
+      held ++ gave,
+      Consumes-trans _ _ _ held gave c.loop.invariant.came c.in-Ok-read.ensures.bytes.0,
+      omega (arith, c.in-Ok-read.ensures.bound.1),
+    )
+
+pub returns-in-Err-extend_from_slice-clause-stopped : goal.returns-in-Err-extend_from_slice-clause-stopped
+returns-in-Err-extend_from_slice-clause-stopped g c =
+    let held = c.loop.bytes.items in
+    let gave = take c.in-Ok-read.count c.read.new.buf in
+    let long = length-append held gave in (
+      held ++ gave,
+      Consumes-trans _ _ _ held gave c.loop.invariant.came c.in-Ok-read.ensures.bytes.0,
+      omega (arith, c.in-Ok-read.ensures.bound.1),
+    )

@@ -1,0 +1,90 @@
+// What a command answers to the bytes of a file.
+ghost use Rattle.std.specs.Prelude.{MatchResult};
+ghost use Rattle.ged_tool.specs.Profiles.{profile_of, edition_of};
+ghost use Rattle.ged_tool.specs.Accepted.{IsRefusal};
+ghost use Rattle.ged_tool.specs.Answers.{Answers, FaultAt};
+
+use crate::calls::accept::accept_as;
+use crate::calls::canonicalise::canonicalise_as;
+use crate::calls::notices::verdict;
+use crate::calls::show::show_text;
+use crate::faults::Fault;
+use crate::settings::Settings;
+use ged_canon::Edition;
+use ged_line::{RespellFault, respell_lines};
+use ged_schema::Profile;
+use std::alloc::Global;
+
+/// What to answer about one file.
+#[derive(Clone, Copy, PartialEq, Eq, Debug)]
+pub enum Command {
+    /// A byte order mark and the file's lines in their canonical spelling. Each line is judged by itself, whatever the
+    /// profile, so the faults that it tells are those from NotUtf8 to BadValue.
+    Lines,
+    /// A line for each notice of a file that is accepted, in order, and the line `accepted`.
+    Check,
+    /// What [`show_text`] answers for a file that is accepted.
+    Show,
+    /// What [`canonicalise_as`] answers.
+    Canon,
+}
+
+/// The whole answer to a file, or why there is none: a fault of the file, or want of memory.
+pub fn answer(
+    alloc: Global,
+    settings: Settings,
+    command: Command,
+    bytes: &[u8],
+) -> Result<Vec<u8>, Fault>
+    ensures { MatchResult result (λ text. Answers (profile_of settings) (edition_of settings) command bytes.now text.items)
+        (IsRefusal (FaultAt (profile_of settings) command bytes.now)) }
+{
+    match command {
+        Command::Lines => answer_lines(alloc, bytes),
+        Command::Check => answer_check(alloc, settings, bytes),
+        Command::Show => answer_show(alloc, settings, bytes),
+        Command::Canon => canonicalise_as(alloc, settings, bytes),
+    }
+}
+
+fn answer_lines(alloc: Global, bytes: &[u8]) -> Result<Vec<u8>, Fault>
+    ensures { MatchResult result (λ text. Answers Profile.Lenient Edition.First Command.Lines bytes.now text.items)
+        (IsRefusal (FaultAt Profile.Lenient Command.Lines bytes.now)) }
+{
+    match respell_lines(alloc, bytes) {
+        Ok(text) => Ok(text),
+        Err(RespellFault::At(at)) => Err(Fault::InFile {
+            line: at.line,
+            kind: at.fault.into(),
+        }),
+        Err(RespellFault::Memory(error)) => Err(Fault::Memory(error)),
+    }
+}
+
+fn answer_check(alloc: Global, settings: Settings, bytes: &[u8]) -> Result<Vec<u8>, Fault>
+    ensures { MatchResult result (λ text. Answers (profile_of settings) (edition_of settings) Command.Check bytes.now text.items)
+        (IsRefusal (FaultAt (profile_of settings) Command.Check bytes.now)) }
+{
+    let accepted = match accept_as(alloc, settings, bytes) {
+        Ok(accepted) => accepted,
+        Err(fault) => return Err(fault),
+    };
+    match verdict(alloc, &accepted) {
+        Ok(text) => Ok(text),
+        Err(error) => Err(Fault::Memory(error)),
+    }
+}
+
+fn answer_show(alloc: Global, settings: Settings, bytes: &[u8]) -> Result<Vec<u8>, Fault>
+    ensures { MatchResult result (λ text. Answers (profile_of settings) (edition_of settings) Command.Show bytes.now text.items)
+        (IsRefusal (FaultAt (profile_of settings) Command.Show bytes.now)) }
+{
+    let accepted = match accept_as(alloc, settings, bytes) {
+        Ok(accepted) => accepted,
+        Err(fault) => return Err(fault),
+    };
+    match show_text(alloc, &accepted) {
+        Ok(text) => Ok(text),
+        Err(error) => Err(Fault::Memory(error)),
+    }
+}

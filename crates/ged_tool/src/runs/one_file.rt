@@ -1,0 +1,156 @@
+// One run: read the whole file, make the whole answer, write it.
+ghost use Rattle.std.specs.Prelude.{◌≡◌, ◌+◌, ◌<◌, ◌≤◌, ◌↔◌, None, false, IsTrue, IfOk, IfErr, IsErrOf, OnErr, OnOk, vec_len};
+ghost use Rattle.std.specs.Io.KnownBytes.{Consumes, Appends};
+ghost use Rattle.std.specs.Io.{StartsWith};
+ghost use Rattle.ged_line.specs.Bytes.{Bytes};
+ghost use Rattle.ged_tool.specs.Profiles.{profile_of, edition_of};
+ghost use Rattle.ged_tool.specs.Run.{IsWhole, IsRun};
+ghost use Rattle.ged_tool.specs.inner.Steps.{StopsReading};
+
+use crate::faults::{Fault, Outcome};
+use crate::runs::answer::{Command, answer};
+use crate::runs::devices::{Failed, Sink, Source};
+use crate::settings::Settings;
+use ged_canon::Edition;
+use ged_schema::Profile;
+use std::alloc::{AllocError, Global};
+
+/// What [`run_as`] does under the lenient profile, under which a notice refuses nothing, and in the first edition.
+pub fn run<R: Source, W: Sink>(
+    alloc: Global,
+    limit: u64,
+    command: Command,
+    reader: &mut R,
+    writer: &mut W,
+) -> Outcome
+    requires limit { limit ≤ 1073741824 }
+    requires unread { R.reads reader.old ≡ 0 }
+    requires no_failure { (R.failed reader.old ≡ false) × (W.failed writer.old ≡ false) }
+    ensures calls { R.reads reader.new ≤ limit + 1 }
+    ensures read_failed { IsTrue (R.failed reader.new)
+        ↔ (result ≡ Outcome.Failed None Fault.ReadFailed) }
+    ensures write_failed { IsTrue (W.failed writer.new)
+        ↔ (result ≡ Outcome.Failed None Fault.WriteFailed) }
+    ensures bytes { IsRun Profile.Lenient Edition.First command limit (R.to_come reader.old) (R.to_come reader.new)
+        (W.taken writer.old) (W.taken writer.new) result }
+{
+    run_as(alloc, Settings::new(), limit, command, reader, writer)
+}
+
+/// Reads a file to the reader's end, answers it by the command under the profile and in the edition of the settings, and
+/// writes the answer.
+///
+/// `limit` is the most bytes that the file may have, 1,073,741,824 at most. The reader must not have been read before,
+/// and neither device have failed. No more than `limit + 1` calls of read are made, and nothing is written unless the
+/// whole answer was made. Memory is taken for the file, for its document and
+/// index where the command asks for them, and for the answer.
+///
+/// The outcome is Done where the whole answer was written, and never Different. Else it is Failed, names neither of
+/// two files, and has
+/// - InFile where the command has a fault of the file to tell;
+/// - TooLong where more than `limit` bytes came;
+/// - ReadFailed exactly where the reader has failed;
+/// - WriteFailed exactly where the writer has failed; then the front of the answer was written;
+/// - Memory where no memory was found.
+pub fn run_as<R: Source, W: Sink>(
+    alloc: Global,
+    settings: Settings,
+    limit: u64,
+    command: Command,
+    reader: &mut R,
+    writer: &mut W,
+) -> Outcome
+    requires limit { limit ≤ 1073741824 }
+    requires unread { R.reads reader.old ≡ 0 }
+    requires no_failure { (R.failed reader.old ≡ false) × (W.failed writer.old ≡ false) }
+    ensures calls { R.reads reader.new ≤ limit + 1 }
+    ensures read_failed { IsTrue (R.failed reader.new)
+        ↔ (result ≡ Outcome.Failed None Fault.ReadFailed) }
+    ensures write_failed { IsTrue (W.failed writer.new)
+        ↔ (result ≡ Outcome.Failed None Fault.WriteFailed) }
+    ensures bytes { IsRun (profile_of settings) (edition_of settings) command limit (R.to_come reader.old) (R.to_come reader.new)
+        (W.taken writer.old) (W.taken writer.new) result }
+{
+    let bytes = match read_whole(alloc, limit, reader) {
+        Ok(bytes) => bytes,
+        Err(fault) => return Outcome::Failed { which: None, fault },
+    };
+    let text = match answer(alloc, settings, command, &bytes) {
+        Ok(text) => text,
+        Err(fault) => return Outcome::Failed { which: None, fault },
+    };
+    match write_whole(writer, &text) {
+        Ok(()) => Outcome::Done,
+        Err(Failed) => Outcome::Failed {
+            which: None,
+            fault: Fault::WriteFailed,
+        },
+    }
+}
+
+/// The whole file: reads to the reader's end, or until more than the limit came.
+pub(crate) fn read_whole<R: Source>(
+    alloc: Global,
+    limit: u64,
+    reader: &mut R,
+) -> Result<Vec<u8>, Fault>
+    requires limit { limit ≤ 1073741824 }
+    requires unread { R.reads reader.old ≡ 0 }
+    requires no_failure { R.failed reader.old ≡ false }
+    ensures calls { R.reads reader.new ≤ limit + 1 }
+    ensures read_failed { IsTrue (R.failed reader.new) ↔ IsErrOf result Fault.ReadFailed }
+    ensures whole { IfOk result (λ bytes. IsWhole limit bytes.items (R.to_come reader.new)
+        × Consumes (R.to_come reader.old) (R.to_come reader.new) bytes.items) }
+    ensures stopped { IfErr result (λ fault. (came : Bytes)
+        × Consumes (R.to_come reader.old) (R.to_come reader.new) came
+        × StopsReading limit came fault) }
+{
+    let mut bytes = Vec::new(alloc);
+    let mut chunk = match make_chunk(alloc) {
+        Ok(chunk) => chunk,
+        Err(error) => return Err(Fault::Memory(error)),
+    };
+    for _ in 0..=limit {
+        let count = match reader.read(&mut chunk) {
+            Ok(count) => count,
+            Err(Failed) => return Err(Fault::ReadFailed),
+        };
+        if count == 0 {
+            return Ok(bytes);
+        }
+        if (bytes.len() + count) as u64 > limit {
+            return Err(Fault::TooLong);
+        }
+        if let Err(error) = bytes.extend_from_slice(&chunk[..count]) {
+            return Err(Fault::Memory(error));
+        }
+    }
+    Err(Fault::TooLong)
+}
+
+/// The most bytes that one call of read is asked for.
+const CHUNK: usize = 131072;
+
+/// Room for one call of read. What came is copied from here, so that the vector that holds the file is never filled
+/// with zeros, and only as much of it is touched as came.
+fn make_chunk(alloc: Global) -> Result<Vec<u8>, AllocError>
+    ensures { IfOk result (λ chunk. 0 < vec_len chunk) }
+{
+    vec![in alloc; 0; CHUNK]
+}
+
+/// Writes all of a text, in as few calls as the writer allows.
+pub(crate) fn write_whole<W: Sink>(writer: &mut W, text: &[u8]) -> Result<(), Failed>
+    requires { W.failed writer.old ≡ false }
+    ensures ok { OnOk result ((W.failed writer.new ≡ false)
+        × Appends (W.taken writer.old) (W.taken writer.new) text.now) }
+    ensures err { OnErr result (IsTrue (W.failed writer.new) × (written : Bytes)
+        × Appends (W.taken writer.old) (W.taken writer.new) written × StartsWith text.now written) }
+{
+    let mut at = 0usize;
+    while at < text.len() {
+        let count = writer.write(&text[at..])?;
+        at += count;
+    }
+    Ok(())
+}

@@ -1,0 +1,112 @@
+// One run over two files: read both, judge both, write whether they are the same.
+ghost use Rattle.std.specs.Prelude.{◌≡◌, ◌+◌, ◌≤◌, ◌↔◌, None, Some, false, IsTrue};
+ghost use Rattle.ged_tool.specs.Profiles.{profile_of, edition_of};
+ghost use Rattle.ged_tool.specs.SameRun.{IsSameRun, same_line as line_of_same};
+
+use crate::calls::same::same_as;
+use crate::faults::{Fault, Outcome, Which};
+use crate::runs::devices::{Failed, Sink, Source};
+use crate::runs::one_file::{read_whole, write_whole};
+use crate::settings::Settings;
+use ged_canon::Edition;
+use ged_schema::Profile;
+use std::alloc::Global;
+
+/// What [`run_same_as`] does under the lenient profile and in the first edition.
+pub fn run_same<R: Source, S: Source, W: Sink>(
+    alloc: Global,
+    limit: u64,
+    first: &mut R,
+    second: &mut S,
+    writer: &mut W,
+) -> Outcome
+    requires limit { limit ≤ 1073741824 }
+    requires unread { (R.reads first.old ≡ 0) × (S.reads second.old ≡ 0) }
+    requires no_failure { (R.failed first.old ≡ false) × (S.failed second.old ≡ false) × (W.failed writer.old ≡ false) }
+    ensures calls { (R.reads first.new ≤ limit + 1) × (S.reads second.new ≤ limit + 1) }
+    ensures first_failed { IsTrue (R.failed first.new)
+        ↔ (result ≡ Outcome.Failed (Some Which.First) Fault.ReadFailed) }
+    ensures second_failed { IsTrue (S.failed second.new)
+        ↔ (result ≡ Outcome.Failed (Some Which.Second) Fault.ReadFailed) }
+    ensures write_failed { IsTrue (W.failed writer.new)
+        ↔ (result ≡ Outcome.Failed None Fault.WriteFailed) }
+    ensures bytes { IsSameRun Profile.Lenient Edition.First limit (R.to_come first.old) (R.to_come first.new)
+        (S.to_come second.old) (S.to_come second.new) (W.taken writer.old) (W.taken writer.new) result }
+{
+    run_same_as(alloc, Settings::new(), limit, first, second, writer)
+}
+
+/// Reads a file to its reader's end, then another, compares them under the profile and in the edition of the settings,
+/// and writes the line `same` or `different`.
+///
+/// `limit` is the most bytes that each file may have, 1,073,741,824 at most. The readers must not have been read before,
+/// and no device have failed. No more than `limit + 1` calls of read are made on each reader, and nothing is written
+/// unless both files are accepted. Memory is taken for both files and for their canonical bytes.
+///
+/// The outcome is Done where the files are the same and that was written, Different where they are not. Else it is
+/// Failed, and has
+/// - InFile where a file is not accepted: the first, or where that one is, the second;
+/// - TooLong where more than `limit` bytes came of a file;
+/// - ReadFailed exactly where a reader has failed;
+/// - WriteFailed exactly where the writer has failed; then the front of the line was written;
+/// - Memory where no memory was found.
+///
+/// It names the file with the fault; WriteFailed names none. Where the first file can't be read the second isn't read.
+pub fn run_same_as<R: Source, S: Source, W: Sink>(
+    alloc: Global,
+    settings: Settings,
+    limit: u64,
+    first: &mut R,
+    second: &mut S,
+    writer: &mut W,
+) -> Outcome
+    requires limit { limit ≤ 1073741824 }
+    requires unread { (R.reads first.old ≡ 0) × (S.reads second.old ≡ 0) }
+    requires no_failure { (R.failed first.old ≡ false) × (S.failed second.old ≡ false) × (W.failed writer.old ≡ false) }
+    ensures calls { (R.reads first.new ≤ limit + 1) × (S.reads second.new ≤ limit + 1) }
+    ensures first_failed { IsTrue (R.failed first.new)
+        ↔ (result ≡ Outcome.Failed (Some Which.First) Fault.ReadFailed) }
+    ensures second_failed { IsTrue (S.failed second.new)
+        ↔ (result ≡ Outcome.Failed (Some Which.Second) Fault.ReadFailed) }
+    ensures write_failed { IsTrue (W.failed writer.new)
+        ↔ (result ≡ Outcome.Failed None Fault.WriteFailed) }
+    ensures bytes { IsSameRun (profile_of settings) (edition_of settings) limit (R.to_come first.old) (R.to_come first.new)
+        (S.to_come second.old) (S.to_come second.new) (W.taken writer.old) (W.taken writer.new) result }
+{
+    let first_bytes = match read_whole(alloc, limit, first) {
+        Ok(bytes) => bytes,
+        Err(fault) => return failed_at(Which::First, fault),
+    };
+    let second_bytes = match read_whole(alloc, limit, second) {
+        Ok(bytes) => bytes,
+        Err(fault) => return failed_at(Which::Second, fault),
+    };
+    let same = match same_as(alloc, settings, &first_bytes, &second_bytes) {
+        Ok(same) => same,
+        Err(at) => return failed_at(at.which, at.fault),
+    };
+    match write_whole(writer, same_line(same)) {
+        Ok(()) if same => Outcome::Done,
+        Ok(()) => Outcome::Different,
+        Err(Failed) => Outcome::Failed {
+            which: None,
+            fault: Fault::WriteFailed,
+        },
+    }
+}
+
+fn failed_at(which: Which, fault: Fault) -> Outcome
+    ensures { result ≡ Outcome.Failed (Some which) fault }
+{
+    Outcome::Failed {
+        which: Some(which),
+        fault,
+    }
+}
+
+/// The line that tells whether two files are the same.
+fn same_line(same: bool) -> &'static [u8]
+    ensures { result.now ≡ line_of_same same }
+{
+    if same { b"same\n" } else { b"different\n" }
+}

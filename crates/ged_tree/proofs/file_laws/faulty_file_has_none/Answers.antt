@@ -1,5 +1,0 @@
-use Rattle.ged_tree.proofs.BuildLemmas.{none_of_file}
-use Rattle.ged_tree.proofs.file_laws.faulty_file_has_none.Goals as goal
-
-pub returns : goal.returns
-returns c = none_of_file

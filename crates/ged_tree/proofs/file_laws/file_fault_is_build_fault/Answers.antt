@@ -1,5 +1,0 @@
-use Rattle.ged_tree.proofs.BuildLemmas.{file_fault}
-use Rattle.ged_tree.proofs.file_laws.file_fault_is_build_fault.Goals as goal
-
-pub returns : goal.returns
-returns c = file_fault

@@ -1,5 +1,0 @@
-use Rattle.ged_tree.proofs.StayLemmas.{first_fault_stays}
-use Rattle.ged_tree.proofs.file_laws.first_fault_stays.Goals as goal
-
-pub returns : goal.returns
-returns c = first_fault_stays

@@ -1,9 +1,0 @@
-use Rattle.std.proofs.Common.{sym, arith}
-use Rattle.ged_tree.proofs.TagLemmas.{length-decimal_one, length-decimal_two}
-use Rattle.ged_tree.proofs.flat_structure.digits_of_level.Goals as goal
-
-pub returns-then-level-lt10 : goal.returns-then-level-lt10
-returns-then-level-lt10 c = record { digits = sym (length-decimal_one c.args.level c.if-level-lt10.true); few = omega arith }
-
-pub returns-else-level-lt10 : goal.returns-else-level-lt10
-returns-else-level-lt10 c = record { digits = sym (length-decimal_two c.args.level c.if-level-lt10.false c.requires); few = omega arith }

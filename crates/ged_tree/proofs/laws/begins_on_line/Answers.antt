@@ -1,5 +1,0 @@
-use Rattle.ged_tree.proofs.LineLemmas.{begins_on_line}
-use Rattle.ged_tree.proofs.laws.begins_on_line.Goals as goal
-
-pub returns : goal.returns
-returns c = begins_on_line

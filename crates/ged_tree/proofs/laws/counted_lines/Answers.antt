@@ -1,5 +1,0 @@
-use Rattle.ged_tree.proofs.LineLemmas.{counted}
-use Rattle.ged_tree.proofs.laws.counted_lines.Goals as goal
-
-pub returns : goal.returns
-returns c = counted

@@ -1,0 +1,5 @@
+use Rattle.ged_tree.proofs.Shown.{shown}
+use Rattle.ged_tree.proofs.laws.documents.are_lines.Goals as goal
+
+pub returns : goal.returns
+returns c = shown

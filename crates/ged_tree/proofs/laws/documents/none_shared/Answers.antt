@@ -1,0 +1,5 @@
+use Rattle.ged_tree.proofs.Law.{one_document}
+use Rattle.ged_tree.proofs.laws.documents.none_shared.Goals as goal
+
+pub returns : goal.returns
+returns c = one_document

@@ -1,0 +1,5 @@
+use Rattle.ged_tree.proofs.FirstFaults.{one_fault}
+use Rattle.ged_tree.proofs.laws.documents.one_first_fault.Goals as goal
+
+pub returns : goal.returns
+returns c = one_fault

@@ -1,0 +1,5 @@
+use Rattle.ged_tree.proofs.Law.{law}
+use Rattle.ged_tree.proofs.laws.documents.pass_is_document.Goals as goal
+
+pub returns : goal.returns
+returns c = law

@@ -1,5 +1,0 @@
-use Rattle.ged_tree.proofs.EntryLemmas.{entry_at_place}
-use Rattle.ged_tree.proofs.laws.listed_at_place.Goals as goal
-
-pub returns : goal.returns
-returns c = entry_at_place

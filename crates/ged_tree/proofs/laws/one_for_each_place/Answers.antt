@@ -1,5 +1,0 @@
-use Rattle.ged_tree.proofs.EntryLemmas.{length-entries_of}
-use Rattle.ged_tree.proofs.laws.one_for_each_place.Goals as goal
-
-pub returns : goal.returns
-returns c = length-entries_of

@@ -1,0 +1,5 @@
+use Rattle.ged_tree.proofs.LineLemmas.{begins_on_line}
+use Rattle.ged_tree.proofs.laws.places.begins_on_line.Goals as goal
+
+pub returns : goal.returns
+returns c = begins_on_line

@@ -1,0 +1,5 @@
+use Rattle.ged_tree.proofs.LineLemmas.{counted}
+use Rattle.ged_tree.proofs.laws.places.counted_lines.Goals as goal
+
+pub returns : goal.returns
+returns c = counted

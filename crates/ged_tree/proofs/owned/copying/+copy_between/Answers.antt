@@ -1,0 +1,23 @@
+use Rattle.std.proofs.Common.{◌∙◌, sym, arith}
+use Rattle.ged_tree.specs.Trees.{trees_of}
+use Rattle.ged_tree.specs.Runs.{trees_between}
+use Rattle.ged_tree.proofs.RowLemmas.{beside_none}
+use Rattle.ged_tree.proofs.CopyLemmas.{copied_more, below_rest}
+use Rattle.ged_tree.proofs.owned.copying.+copy_between.Goals as goal
+
+pub loop-after-preserved : goal.loop-after-preserved
+loop-after-preserved g t c =
+    let w = g.F.Forest.trees c.args.forest.now in
+    let place = c.loop-after.place in
+    record {
+      run = c.in-Some.ensures.rest;
+      ahead = omega (arith, c.loop-after.invariant.ahead, c.in-Some.ensures.forth);
+      below = below_rest w place c.args.end c.in-Some.after c.in-Some.ensures c.loop-after.invariant.below;
+      told = copied_more w place c.args.end c.in-Some.after c.loop-after.nodes.items c.push.new.self.items
+          (record { tag = c.in_ok-tag.tag; payload = c.in_ok-payload.payload; children = trees_of c.in_ok-children.children.items })
+          (trees_between w c.args.start c.args.end) c.in-Some.ensures c.loop-after.invariant.below
+          (c.in_ok-tag.ensures ∙ c.tag.ensures) c.in_ok-payload.ensures c.in_ok-children.ensures c.loop-after.invariant.told c.in_ok-push.ensures.items;
+    }
+
+pub returns : goal.returns
+returns g t c = sym (beside_none (trees_of c.loop-after.nodes.items)) ∙ rw c.in_default.ensures at c.loop-after.invariant.told

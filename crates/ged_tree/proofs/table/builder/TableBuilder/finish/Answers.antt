@@ -1,0 +1,26 @@
+use Rattle.std.proofs.Common.{◌≡◌, ◌∙◌, true, false, arith, sym}
+use Rattle.ged_tree.specs.TreeFaults.{has_trailer}
+use Rattle.ged_tree.proofs.TakeLemmas.{finished, past, nothing}
+use Rattle.ged_tree.proofs.table.builder.TableBuilder.finish.Goals.{then-self-eq0, else-self-eq0}
+use Rattle.ged_tree.proofs.table.builder.TableBuilder.finish.Goals as goal
+
+pub returns-then-not-has_ended : goal.returns-then-not-has_ended
+returns-then-not-has_ended c = λ lines holds few.
+    let open_end : has_trailer lines ≡ false = sym (c.has_ended.ensures lines holds.judged) ∙ c.if-not-has_ended.true in
+    elim c.if-self-eq0.branch [
+      | then-self-eq0 w ↦ rw w.fault-is (nothing lines c.args.self.count holds.counted w.if-self-eq0.true)
+      | else-self-eq0 w ↦ rw w.fault-is (past lines c.args.self.count holds.counted holds.pass open_end (omega (arith, w.if-self-eq0.false)))
+    ]
+
+pub of_table-requires : goal.of_table-requires
+of_table-requires c =
+    let lines = c.requires.lines.0 in
+    let holds = c.requires.lines.1 in
+    let end : has_trailer lines ≡ true = sym (c.has_ended.ensures lines holds.judged) ∙ c.if-not-has_ended.false in
+    (finished c.args.self lines c.close.new.structures.items holds end c.requires.lines.2 c.close.ensures.others c.close.ensures.closed).flat
+
+pub returns : goal.returns
+returns c = λ lines holds few.
+    let end : has_trailer lines ≡ true = sym (c.has_ended.ensures lines holds.judged) ∙ c.if-not-has_ended.false in
+    let done = finished c.args.self lines c.close.new.structures.items holds end few c.close.ensures.others c.close.ensures.closed in
+    rw (c.of_table.ensures, done.lists.seen) done.has

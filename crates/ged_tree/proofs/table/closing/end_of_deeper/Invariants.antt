@@ -1,0 +1,12 @@
+use Rattle.std.proofs.Common.{◌≡◌, ◌≤◌, ◌-◌, length}
+use Rattle.ged_tree.specs.inner.Tables.{end_from}
+use Rattle.ged_tree.proofs.table.closing.end_of_deeper.Given as goal
+
+abbrev pub invariant-loop-next : goal.invariant-loop-next
+invariant-loop-next l = record {
+  within : l.next ≤ length l.structures;
+  told : end_from l.level l.structures l.place ≡ end_from l.level l.structures l.next;
+}
+
+abbrev pub decreases-loop-next : goal.decreases-loop-next
+decreases-loop-next l = length l.structures - l.next

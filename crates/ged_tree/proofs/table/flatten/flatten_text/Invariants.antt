@@ -1,0 +1,15 @@
+use Rattle.std.proofs.Common.{length}
+use denote.Text.{Utf8}
+use denote.Shadow.{shadow}
+use Rattle.ged_tree.proofs.FlattenLemmas.{HasTakenIn}
+use Rattle.ged_tree.proofs.table.flatten.flatten_text.Given as goal
+
+-- the pieces so far spell the lines of the table
+abbrev pub invariant-loop-line : goal.invariant-loop-line
+invariant-loop-line l = record {
+  utf8 : shadow (Utf8 l.rest);
+  taken : HasTakenIn l.text l.table l.rest;
+}
+
+abbrev pub decreases-loop-line : goal.decreases-loop-line
+decreases-loop-line l = length l.rest

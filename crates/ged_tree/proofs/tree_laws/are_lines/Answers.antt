@@ -1,5 +1,0 @@
-use Rattle.ged_tree.proofs.Shown.{shown}
-use Rattle.ged_tree.proofs.tree_laws.are_lines.Goals as goal
-
-pub returns : goal.returns
-returns c = shown

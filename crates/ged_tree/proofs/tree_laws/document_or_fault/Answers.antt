@@ -1,5 +1,0 @@
-use Rattle.ged_tree.proofs.FirstFaults.{either}
-use Rattle.ged_tree.proofs.tree_laws.document_or_fault.Goals as goal
-
-pub returns : goal.returns
-returns c = either

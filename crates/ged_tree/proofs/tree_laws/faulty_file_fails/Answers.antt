@@ -1,5 +1,0 @@
-use Rattle.ged_tree.proofs.FileFaultLaws.{faulty_fails}
-use Rattle.ged_tree.proofs.tree_laws.faulty_file_fails.Goals as goal
-
-pub returns : goal.returns
-returns c = faulty_fails

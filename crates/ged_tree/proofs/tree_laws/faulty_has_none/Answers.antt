@@ -1,5 +1,0 @@
-use Rattle.ged_tree.proofs.FirstFaults.{none_of_faulty}
-use Rattle.ged_tree.proofs.tree_laws.faulty_has_none.Goals as goal
-
-pub returns : goal.returns
-returns c = none_of_faulty

@@ -1,5 +1,0 @@
-use Rattle.ged_tree.proofs.FileFaultLaws.{one_in_file}
-use Rattle.ged_tree.proofs.tree_laws.one_fault_in_file.Goals as goal
-
-pub returns : goal.returns
-returns c = one_in_file

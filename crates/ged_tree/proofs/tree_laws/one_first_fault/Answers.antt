@@ -1,5 +1,0 @@
-use Rattle.ged_tree.proofs.FirstFaults.{one_fault}
-use Rattle.ged_tree.proofs.tree_laws.one_first_fault.Goals as goal
-
-pub returns : goal.returns
-returns c = one_fault

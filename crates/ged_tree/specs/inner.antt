@@ -1,0 +1,9 @@
+pub mod Copies
+pub mod Judging
+pub mod PathLines
+pub mod Rows
+pub mod Tables
+pub mod TreeCodes
+pub mod TreeSizes
+pub mod Trees
+pub mod Walks

@@ -1,0 +1,15 @@
+// What a structure carries, as slices.
+ghost use Rattle.std.specs.Prelude.{◌<◌};
+
+use ged_line::Text;
+
+/// A payload by its first line, as slices.
+#[derive(Clone, Copy, Debug, PartialEq, Eq)]
+pub enum PayloadView<'a> {
+    /// The void pointer, `@VOID@`.
+    Void,
+    /// The name of the record that is pointed at, without its `@`.
+    Pointer(&'a str),
+    /// The first line of a text.
+    Text(&'a str),
+}

@@ -1,0 +1,217 @@
+// The table of a document's structures, made line by line.
+ghost use Rattle.std.specs.Prelude.{◌≡◌, ◌<◌, ◌+◌, ◌%◌, ◌^◌, ◌++◌, ◌∷◌, [], List, MatchResult, IfOk, IfSome, length, nat_lt};
+ghost use Rattle.ged_line.specs.Lines.{LineParts, LineText};
+ghost use Rattle.ged_tree.specs.DocumentLines.{HasLines};
+ghost use Rattle.ged_tree.specs.Rows.{names_record};
+ghost use Rattle.ged_tree.specs.TreeFaults.{FirstFault};
+ghost use Rattle.ged_tree.specs.inner.Tables.{line_text, HoldsLines, HasStructure, IsPut, IsSliceAt, Shows, TellsFurther, TellsLine};
+
+use crate::fault::{BuildFault, TreeAt, TreeFault};
+use crate::forest::continuations::FurtherLine;
+use crate::judge::{Judge, is_cont, is_trailer};
+use crate::table::closing::close;
+use crate::table::flat::Flat;
+use crate::table::packed::{APART, KeptStructure, TextApart, kept_slice, mark_with_further};
+use crate::table::structure::start_of_tag;
+use ged_line::{LineView, SpelledLine, ValueView};
+use std::alloc::{AllocError, Global};
+
+fn text_of_line<'a>(line: &LineView<'a>) -> &'a str
+    ensures { result.now ≡ line_text line.now.value }
+{
+    match line.value() {
+        ValueView::Text(text) => text,
+        _ => "",
+    }
+}
+
+/// Whether a line's value is a pointer that names a record.
+#[inline(always)]
+fn is_pointer(line: &LineView<'_>) -> bool
+    ensures { result ≡ names_record line.now.value }
+{
+    matches!(line.value(), ValueView::Pointer(_))
+}
+
+/// A tag's start and its mark, which tells its length and whether a pointer stands behind it, as a structure keeps them: where
+/// the start or the length is too large, the mark is 0.
+#[inline(always)]
+fn kept_tag(start: usize, length: usize, points: bool) -> (u8, u8)
+    ensures true_ones { 0 < result.1 % 128 → (result.0 ≡ start) × (result.1 % 128 ≡ length) × (nat_lt 127 result.1 ≡ points) × (start < 256) }
+    ensures small_ones { start < 256 → length < 128 → (result.0 ≡ start) × (result.1 % 128 ≡ length) × (nat_lt 127 result.1 ≡ points) }
+{
+    if start > 255 || length > 127 {
+        return (0, 0);
+    }
+    let mark = length as u8;
+    (start as u8, if points { mark + 128 } else { mark })
+}
+
+/// The structure that begins on a line, before its table is closed, by where its text is kept.
+#[inline(always)]
+fn structure_of_line(spelled: &SpelledLine<'_>, start: u32, length: u8) -> KeptStructure
+    requires { LineText spelled.now.line spelled.now.text.now }
+    ensures line { Shows spelled.now.line spelled.now.text.now result }
+    ensures start { result.start ≡ start }
+    ensures length { result.length ≡ length }
+{
+    let line = &spelled.line;
+    let points = is_pointer(line);
+    let (tag_start, tag_mark) = kept_tag(start_of_tag(line), line.tag().len(), points);
+    KeptStructure {
+        start,
+        size: 0,
+        length,
+        mark: line.level(),
+        tag_start,
+        tag_mark,
+    }
+}
+
+/// Has the last structure tell that its payload goes on.
+fn tell_further(structures: &mut Vec<KeptStructure>)
+    ensures { TellsFurther structures.old.items structures.new.items }
+{
+    let count = structures.len();
+    if count == 0 {
+        return;
+    }
+    let mut structure = structures[count - 1];
+    structure.mark = mark_with_further(structure.mark);
+    structures[count - 1] = structure;
+}
+
+/// A table that takes lines, and the judge of the next one.
+#[derive(Drop)]
+pub(crate) struct TableBuilder<'a> {
+    judge: Judge,
+    /// How many lines were taken.
+    pub(crate) count: u64,
+    /// The text in which lines are told by where they begin.
+    pub(crate) file: &'a str,
+    structures: Vec<KeptStructure>,
+    apart: Vec<TextApart<'a>>,
+    further: Vec<FurtherLine<'a>>,
+}
+
+impl<'a> TableBuilder<'a> {
+    pub(crate) fn new(alloc: Global, file: &'a str) -> TableBuilder<'a>
+        ensures lines { HoldsLines result [] }
+        ensures file { result.file.now ≡ file.now }
+    {
+        TableBuilder {
+            judge: Judge::new(),
+            count: 0,
+            file,
+            structures: Vec::new(alloc),
+            apart: Vec::new(alloc),
+            further: Vec::new(alloc),
+        }
+    }
+
+    /// Takes one more line, or answers the lowest fault that stands at it. `start` tells where in the builder's file the
+    /// line begins, in bytes; without it the line's text is kept apart.
+    #[inline(always)]
+    pub(crate) fn take(
+        &mut self,
+        spelled: &SpelledLine<'a>,
+        start: Option<usize>,
+    ) -> Result<(), BuildFault>
+        requires few { self.now.count < 2 ^ 63 }
+        requires text { LineText spelled.now.line spelled.now.text.now }
+        requires slice { IfSome start (λ at. IsSliceAt self.now.file.now at spelled.now.text.now) }
+        ensures lines { (lines : List LineParts) → HoldsLines self.old lines → MatchResult result
+            (λ _. HoldsLines self.new (lines ++ spelled.now.line ∷ []))
+            (λ fault. TellsLine fault lines spelled.now.line) }
+        ensures file { IfOk result (λ _. self.new.file.now ≡ self.old.file.now) }
+    {
+        let line = &spelled.line;
+        // That its parts are a line's is what `level` tells.
+        let _level = line.level();
+        self.count += 1;
+        if let Err(fault) = self.judge.line(line) {
+            let line = self.count;
+            return Err(BuildFault::At(TreeAt { line, fault }));
+        }
+        match self.push(spelled, start) {
+            Ok(()) => Ok(()),
+            Err(error) => Err(BuildFault::Memory(error)),
+        }
+    }
+
+    /// Adds the structure or the further line of the last line that was taken; TRLR adds none.
+    #[inline(always)]
+    fn push(&mut self, spelled: &SpelledLine<'a>, start: Option<usize>) -> Result<(), AllocError>
+        requires text { LineText spelled.now.line spelled.now.text.now }
+        requires slice { IfSome start (λ at. IsSliceAt self.now.file.now at spelled.now.text.now) }
+        ensures { IfOk result (λ _. IsPut spelled.now.line self.old self.new) }
+    {
+        let line = &spelled.line;
+        if is_trailer(line) {
+            return Ok(());
+        }
+        if is_cont(line) {
+            let after = self.structures.len();
+            let text = text_of_line(line);
+            self.further.push(FurtherLine { after, text })?;
+            tell_further(&mut self.structures);
+            return Ok(());
+        }
+        self.push_structure(spelled, start)
+    }
+
+    /// Adds the structure that begins on a line.
+    #[inline(always)]
+    fn push_structure(
+        &mut self,
+        spelled: &SpelledLine<'a>,
+        start: Option<usize>,
+    ) -> Result<(), AllocError>
+        requires text { LineText spelled.now.line spelled.now.text.now }
+        requires slice { IfSome start (λ at. IsSliceAt self.now.file.now at spelled.now.text.now) }
+        ensures { IfOk result (λ _. HasStructure spelled.now.line self.old self.new) }
+    {
+        let Some((start, length)) = kept_slice(start, spelled.text.len()) else {
+            return self.push_apart(spelled.text, structure_of_line(spelled, 0, APART));
+        };
+        self.structures
+            .push(structure_of_line(spelled, start, length))?;
+        Ok(())
+    }
+
+    /// Adds a structure whose text is kept apart. That it is not handed a whole line lets the line stay in registers.
+    #[cold]
+    fn push_apart(&mut self, text: &'a str, structure: KeptStructure) -> Result<(), AllocError>
+        requires { structure.length ≡ 255 }
+        ensures { (line : LineParts) → Shows line text.now structure
+            → IfOk result (λ _. HasStructure line self.old self.new) }
+    {
+        let place = self.structures.len();
+        self.apart.push(TextApart { place, text })?;
+        self.structures.push(structure)?;
+        Ok(())
+    }
+
+    /// The document of the lines that were taken, or what stands past the last of them.
+    pub(crate) fn finish(mut self) -> Result<Flat<'a>, TreeAt>
+        requires few { self.count < 2 ^ 63 }
+        requires lines { (lines : List LineParts) × HoldsLines self lines × (length lines < 2 ^ 63) }
+        ensures { (lines : List LineParts) → HoldsLines self.entry lines → length lines < 2 ^ 63 → MatchResult result
+            (λ flat. HasLines flat lines)
+            (λ at. FirstFault lines at.line at.fault) }
+    {
+        if !self.judge.has_ended() {
+            let fault = if self.count == 0 {
+                TreeFault::NoHeader
+            } else {
+                TreeFault::NoTrailer
+            };
+            return Err(TreeAt {
+                line: self.count + 1,
+                fault,
+            });
+        }
+        close(&mut self.structures);
+        Ok(Flat::of_table(self.file, self.structures, self.apart, self.further))
+    }
+}

@@ -1,0 +1,249 @@
+// A document as a table of slices of its file.
+ghost use Rattle.std.specs.Prelude.{◌≡◌, ◌<◌, IfSome, Some, true, length, nat_le, slice_get};
+ghost use Rattle.ged_tree.specs.Trees.{trees_count, further_lines};
+ghost use Rattle.ged_tree.specs.Documents.{is_document};
+ghost use Rattle.ged_tree.specs.DocumentLines.{rest_of_line};
+ghost use Rattle.ged_tree.specs.Places.{structure_at, place_after, level_at, line_at};
+ghost use Rattle.ged_tree.specs.Views.{payload_of, is_pointer};
+ghost use Rattle.ged_tree.specs.Rows.{flat_trees, IsFlat, IsSpelled, line_shown, shown_from, places_of};
+ghost use Rattle.ged_tree.specs.inner.Rows.{rest_of, shown_of};
+ghost use Rattle.ged_tree.specs.Rows.{further_before as tests_before};
+ghost use Rattle.std.specs.List.Sorted.{IsNonDecreasingBy};
+ghost use Rattle.ged_tree.specs.inner.Tables.{own_value};
+ghost use Rattle.ged_tree.specs.declared.forest.payload.PayloadView.{PayloadView};
+
+use crate::forest::Forest;
+use crate::forest::continuations::{FurtherLine, FurtherLines};
+use crate::forest::payload::PayloadView;
+use crate::table::closing::after_in;
+use crate::table::packed::{KeptStructure, TextApart, text_of};
+use crate::table::structure::FlatStructure;
+use std::marker::Model;
+
+/// How many further lines stand before the structure at a place.
+fn further_before(further: &[FurtherLine<'_>], place: usize) -> usize
+    requires { IsNonDecreasingBy (λ line. line.after) further.now }
+    ensures { result ≡ tests_before place (places_of further.now) }
+{
+    further.partition_point(
+        |line: &FurtherLine<'_>| -> bool
+            ensures { result ≡ nat_le line.now.after place }
+        { line.after <= place },
+    )
+}
+
+/// A document as a vector of its structures, in the order of the file, and a vector of the further lines of their
+/// payloads. All texts are slices of the file. Contracts see it as they see a [`crate::Document`].
+#[derive(Drop)]
+pub struct Flat<'a> {
+    file: &'a str,
+    structures: Vec<KeptStructure>,
+    /// The texts of structures that keep no slice of the file, in order of their places.
+    apart: Vec<TextApart<'a>>,
+    further: Vec<FurtherLine<'a>>,
+}
+
+impl<'a> Model for Flat<'a> {
+    ghost use Rattle.ged_tree.specs.Trees.{Trees};
+    ghost use Rattle.ged_tree.specs.inner.TreeCodes.{trees_code};
+    ghost use Rattle.ged_tree.specs.Rows.{flat_trees, shown_from, IsFlat};
+
+    ghost Value = { Trees };
+
+    ghost coded = { trees_code };
+
+    ghost view = { λ f. flat_trees (shown_from f.file.now f.apart.items 0 f.structures.items) f.further.items };
+
+    ghost invariant = { λ f. IsFlat f.file.now f.apart.items f.structures.items f.further.items };
+}
+
+impl<'a> Flat<'a> {
+    /// The document of a table that lists one.
+    pub(crate) fn of_table(
+        file: &'a str,
+        structures: Vec<KeptStructure>,
+        apart: Vec<TextApart<'a>>,
+        further: Vec<FurtherLine<'a>>,
+    ) -> Flat<'a>
+        requires { IsFlat file.now apart.items structures.items further.items }
+        ensures { result ≡ flat_trees (shown_from file.now apart.entry.items 0 structures.items) further.entry.items }
+    {
+        Flat {
+            file,
+            structures,
+            apart,
+            further,
+        }
+    }
+
+    fn count(&self) -> usize
+        ensures count { result ≡ trees_count self.now }
+        ensures document { is_document self.now ≡ true }
+    {
+        self.structures.len()
+    }
+
+    fn level_at(&self, place: usize) -> u8
+        requires { place < trees_count self.now }
+        ensures { result ≡ level_at 0 self.now place }
+    {
+        self.structures[place].level()
+    }
+
+    /// The structure at a place.
+    #[inline(always)]
+    fn at(&self, place: usize) -> FlatStructure<'a>
+        requires { place < trees_count self.now }
+        ensures tag { (line_shown (shown_of result)).tag ≡ (structure_at self.now place).tag }
+        ensures xref { (line_shown (shown_of result)).xref ≡ (structure_at self.now place).xref }
+        ensures payload { (v : PayloadView) → own_value v ≡ (line_shown (shown_of result)).value
+            → payload_of v (further_lines (structure_at self.now place).payload) ≡ (structure_at self.now place).payload }
+        ensures rest { rest_of (line_shown (shown_of result)) ≡ rest_of_line (structure_at self.now place) }
+        ensures spelled { IsSpelled (shown_of result) }
+    {
+        let kept = self.structures[place];
+        let text = text_of(self.file, self.apart.as_slice(), place, &kept);
+        FlatStructure { text, kept }
+    }
+
+    /// Whether the payload at a place is a pointer that names a record, told without a look at its line; or `None` where
+    /// that is not kept.
+    #[inline(always)]
+    fn kept_points_at(&self, place: usize) -> Option<bool>
+        requires { place < trees_count self.now }
+        ensures { IfSome result (λ points. points ≡ is_pointer (structure_at self.now place).payload) }
+    {
+        self.structures[place].points()
+    }
+
+    /// What stands on the line of the structure at a place from its tag on, as the canonical spelling has it.
+    #[inline(always)]
+    fn rest_at(&self, place: usize) -> &'a str
+        requires { place < trees_count self.now }
+        ensures { result.now ≡ rest_of_line (structure_at self.now place) }
+    {
+        self.at(place).rest()
+    }
+
+    fn after_at(&self, place: usize) -> usize
+        requires { place < trees_count self.now }
+        ensures { result ≡ place_after self.now place }
+    {
+        after_in(self.structures.as_slice(), place)
+    }
+
+    fn line_at(&self, place: usize) -> u64
+        requires { place < trees_count self.now }
+        ensures { result ≡ line_at 1 self.now place }
+    {
+        let before = further_before(self.further.as_slice(), place);
+        (place + before) as u64 + 1
+    }
+
+    /// How many further lines the payload at a place has.
+    fn further_count(&self, place: usize) -> usize
+        requires { place < trees_count self.now }
+        ensures { result ≡ length (further_lines (structure_at self.now place).payload) }
+    {
+        if !self.structures[place].has_further() {
+            return 0;
+        }
+        let start = further_before(self.further.as_slice(), place);
+        let end = further_before(self.further.as_slice(), place + 1);
+        end.saturating_sub(start)
+    }
+
+    /// The further lines of the payload at a place.
+    #[inline(always)]
+    fn further_lines_at(&self, place: usize) -> FurtherLines<'_>
+        requires { place < trees_count self.now }
+        ensures { result ≡ further_lines (structure_at self.now place).payload }
+    {
+        if !self.structures[place].has_further() {
+            return FurtherLines::of(&[]);
+        }
+        self.found_lines_at(place)
+    }
+
+    /// The same, looked up among those of all structures.
+    #[inline(never)]
+    fn found_lines_at(&self, place: usize) -> FurtherLines<'_>
+        requires { place < trees_count self.now }
+        ensures { result ≡ further_lines (structure_at self.now place).payload }
+    {
+        let further = self.further.as_slice();
+        let start = further_before(further, place);
+        let end = further_before(further, place + 1);
+        FurtherLines::of(&further[start..end])
+    }
+
+    /// A further line of the payload at a place.
+    fn further_at(&self, place: usize, number: usize) -> &'a str
+        requires within { place < trees_count self.now }
+        requires further { number < length (further_lines (structure_at self.now place).payload) }
+        ensures { slice_get (further_lines (structure_at self.now place).payload) number ≡ Some result.now }
+    {
+        let start = further_before(self.further.as_slice(), place);
+        self.further[start + number].text
+    }
+}
+
+impl<'a> Forest for Flat<'a> {
+    ghost trees = { λ flat. flat };
+
+    fn size(&self) -> usize {
+        self.count()
+    }
+
+    fn level(&self, place: usize) -> u8 {
+        self.level_at(place)
+    }
+
+    fn after(&self, place: usize) -> usize {
+        self.after_at(place)
+    }
+
+    fn line(&self, place: usize) -> u64 {
+        self.line_at(place)
+    }
+
+    #[inline(always)]
+    fn tag(&self, place: usize) -> &str {
+        self.at(place).tag()
+    }
+
+    fn xref(&self, place: usize) -> Option<&str> {
+        self.at(place).xref()
+    }
+
+    #[inline(always)]
+    fn payload(&self, place: usize) -> PayloadView<'_> {
+        self.at(place).payload()
+    }
+
+    #[inline(always)]
+    fn points(&self, place: usize) -> bool {
+        match self.kept_points_at(place) {
+            Some(points) => points,
+            None => matches!(self.payload(place), PayloadView::Pointer(_)),
+        }
+    }
+
+    #[inline(always)]
+    fn rest_of_line(&self, place: usize) -> Option<&str> {
+        Some(self.rest_at(place))
+    }
+
+    fn further(&self, place: usize) -> usize {
+        self.further_count(place)
+    }
+
+    fn further_line(&self, place: usize, number: usize) -> &str {
+        self.further_at(place, number)
+    }
+
+    #[inline(always)]
+    fn further_lines(&self, place: usize) -> Option<FurtherLines<'_>> {
+        Some(self.further_lines_at(place))
+    }
+}

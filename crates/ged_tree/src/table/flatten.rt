@@ -1,0 +1,82 @@
+// The flat table of a file.
+ghost use Rattle.std.specs.Prelude.{IfOk, IfErr};
+ghost use Rattle.ged_line.specs.Bytes.{Bytes};
+ghost use Rattle.ged_line.specs.Pieces.{IsBehindMark};
+ghost use Rattle.ged_tree.specs.Building.{HasFile, TellsFile};
+
+use crate::fault::{BuildFault, TreeAt, TreeFault};
+use crate::table::builder::TableBuilder;
+use crate::table::flat::Flat;
+use ged_line::{first_line, text_behind_mark, view_lines};
+use std::alloc::Global;
+
+/// The document of a file as a table, whose texts are slices of the file. A byte order mark at the start is skipped.
+///
+/// Answers the first fault of the file, at the lowest line and there the one that [`TreeFault`] has first. Grows: no
+/// payload is copied (FamilySearch GEDCOM 7.0, "Lines" and "Structures").
+pub fn flatten(alloc: Global, bytes: &[u8]) -> Result<Flat<'_>, BuildFault>
+    ensures document { IfOk result (λ flat. HasFile flat bytes.now) }
+    ensures fault { IfErr result (λ fault. TellsFile fault bytes.now) }
+{
+    match text_behind_mark(bytes) {
+        Some(text) => flatten_text(alloc, text),
+        None => flatten_lines(alloc, bytes),
+    }
+}
+
+/// The same of what stands in a file behind its mark, where it is UTF-8.
+fn flatten_text(alloc: Global, text: &str) -> Result<Flat<'_>, BuildFault>
+    ensures document { (file : Bytes) → IsBehindMark file text.now → IfOk result (λ flat. HasFile flat file) }
+    ensures fault { (file : Bytes) → IsBehindMark file text.now → IfErr result (λ fault. TellsFile fault file) }
+{
+    let mut table = TableBuilder::new(alloc, text);
+    let mut rest = text;
+    while let Some((line, after)) = first_line(rest) {
+        let start = text.len() - rest.len();
+        rest = after;
+        match line {
+            Ok(line) => {
+                if let Err(fault) = table.take(&line, Some(start)) {
+                    return Err(fault);
+                }
+            }
+            Err(fault) => {
+                let line = table.count + 1;
+                let fault = TreeFault::Line(fault);
+                return Err(BuildFault::At(TreeAt { line, fault }));
+            }
+        }
+    }
+    match table.finish() {
+        Ok(flat) => Ok(flat),
+        Err(at) => Err(BuildFault::At(at)),
+    }
+}
+
+/// The same of any file by its lines alone. It is for a file that is not UTF-8, which has some fault: to find the first
+/// one its lines are taken like those of another, and each text is kept apart, which makes no table wrong.
+#[cold]
+fn flatten_lines(alloc: Global, bytes: &[u8]) -> Result<Flat<'_>, BuildFault>
+    ensures document { IfOk result (λ flat. HasFile flat bytes.now) }
+    ensures fault { IfErr result (λ fault. TellsFile fault bytes.now) }
+{
+    let mut table = TableBuilder::new(alloc, "");
+    for line in view_lines(bytes) {
+        match line {
+            Ok(line) => {
+                if let Err(error) = table.take(&line, None) {
+                    return Err(error);
+                }
+            }
+            Err(fault) => {
+                let line = table.count + 1;
+                let fault = TreeFault::Line(fault);
+                return Err(BuildFault::At(TreeAt { line, fault }));
+            }
+        }
+    }
+    match table.finish() {
+        Ok(flat) => Ok(flat),
+        Err(at) => Err(BuildFault::At(at)),
+    }
+}

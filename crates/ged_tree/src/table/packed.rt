@@ -1,0 +1,135 @@
+// The structures of a table as they are kept, in few bytes.
+ghost use Rattle.std.specs.Prelude.{◌≡◌, ◌<◌, ◌%◌, ℕ, [], Some, IfSome, nat_lt};
+ghost use Rattle.std.specs.List.Sorted.{IsNonDecreasingBy};
+ghost use Rattle.ged_tree.specs.Rows.{HasSlice, kept_level, kept_further, kept_tag_length, kept_points, text_at};
+ghost use Rattle.ged_tree.specs.Rows.{text_apart as finds_apart};
+
+use std::mem::size_of;
+
+/// The length that says of a text that it is kept apart.
+pub(crate) const APART: u8 = 255;
+
+/// A structure as a table keeps it, in 12 bytes.
+#[derive(Clone, Copy)]
+pub(crate) struct KeptStructure {
+    /// Where its line begins in the file, in bytes.
+    pub(crate) start: u32,
+    /// How many structures stand below it, or `u32::MAX` where that many or more do.
+    pub(crate) size: u32,
+    /// How many bytes its line has, or [`APART`] where the line has as many or more, or begins too far behind in the
+    /// file: then its text is among those kept apart.
+    pub(crate) length: u8,
+    /// Its level, and 128 more where its payload has lines past the first.
+    pub(crate) mark: u8,
+    /// Where its tag begins in the line, in bytes.
+    pub(crate) tag_start: u8,
+    /// How many bytes its tag has, or 0 where either number is too large to be kept; and 128 more where its payload is a
+    /// pointer that names a record, if the tag's length is kept.
+    pub(crate) tag_mark: u8,
+}
+
+const _: () = prove!(size_of::<KeptStructure>() == 12);
+
+/// The whole line of a structure that keeps no slice of the file.
+#[derive(Clone, Copy)]
+pub(crate) struct TextApart<'a> {
+    /// The place of the structure.
+    pub(crate) place: usize,
+    pub(crate) text: &'a str,
+}
+
+impl KeptStructure {
+    #[inline(always)]
+    pub(crate) fn level(&self) -> u8
+        ensures { result ≡ kept_level self.now }
+    {
+        self.mark % 128
+    }
+
+    /// How many bytes its tag has, or 0 where that is not kept.
+    #[inline(always)]
+    pub(crate) fn tag_length(&self) -> u8
+        ensures { result ≡ kept_tag_length self.now }
+    {
+        self.tag_mark % 128
+    }
+
+    /// Whether its payload is a pointer that names a record, or `None` where that is not kept.
+    #[inline(always)]
+    pub(crate) fn points(&self) -> Option<bool>
+        ensures { IfSome result (λ points. (0 < kept_tag_length self.now) × (kept_points self.now ≡ points)) }
+    {
+        if self.tag_length() == 0 {
+            return None;
+        }
+        Some(self.tag_mark > 127)
+    }
+
+    /// Whether its payload has lines past the first.
+    #[inline(always)]
+    pub(crate) fn has_further(&self) -> bool
+        ensures { result ≡ kept_further self.now }
+    {
+        self.mark > 127
+    }
+}
+
+/// The mark of the same level where the payload has lines past the first.
+pub(crate) fn mark_with_further(mark: u8) -> u8
+    ensures level { result % 128 ≡ mark % 128 }
+    ensures further { 127 < result }
+{
+    if mark < 128 { mark + 128 } else { mark }
+}
+
+/// Where a line begins and its length as a structure keeps them, or `None` where its text is to be kept apart: no place
+/// in the file is told, or one of the numbers is too large.
+#[inline(always)]
+pub(crate) fn kept_slice(start: Option<usize>, length: usize) -> Option<(u32, u8)>
+    ensures true_ones { IfSome result (λ kept. (start ≡ Some kept.0) × (length ≡ kept.1) × (kept.1 < 255)) }
+    ensures small_ones { (at : ℕ) → start ≡ Some at → at < 4294967296 → length < 255 → result ≡ Some (at, length) }
+{
+    let Ok(start) = u32::try_from(start?) else {
+        return None;
+    };
+    if length >= APART as usize {
+        return None;
+    }
+    Some((start, length as u8))
+}
+
+/// The text of the structure at a place among those kept apart.
+#[cold]
+fn text_apart<'a>(apart: &[TextApart<'a>], place: usize) -> &'a str
+    requires in_order { IsNonDecreasingBy (λ text. text.place) apart.now }
+    requires some { ¬ (finds_apart apart.now place ≡ []) }
+    ensures { result.now ≡ finds_apart apart.now place }
+{
+    let index = apart.partition_point(
+        |text: &TextApart<'_>| -> bool
+            ensures { result ≡ nat_lt text.now.place place }
+        { text.place < place },
+    );
+    apart[index].text
+}
+
+/// The text of the structure at a place.
+#[inline(always)]
+pub(crate) fn text_of<'a>(
+    file: &'a str,
+    apart: &[TextApart<'a>],
+    place: usize,
+    structure: &KeptStructure,
+) -> &'a str
+    requires slice { HasSlice file.now structure.now }
+    requires in_order { IsNonDecreasingBy (λ text. text.place) apart.now }
+    requires some { ¬ (text_at file.now apart.now place structure.now ≡ []) }
+    ensures { result.now ≡ text_at file.now apart.now place structure.now }
+{
+    if structure.length == APART {
+        return text_apart(apart, place);
+    }
+    let start = structure.start as usize;
+    let end = start + structure.length as usize;
+    &file[start..end]
+}

@@ -1,0 +1,206 @@
+// A structure of a table with its text at hand, and what its line shows.
+ghost use Rattle.std.specs.Prelude.{◌≡◌, ◌≤◌, ◌<◌, ◌+◌, true, length, decimal, option_map, slice_index};
+ghost use Rattle.ged_line.specs.Lines.{LineParts, Value, IsValuePart, is_value, xref_part};
+ghost use Rattle.ged_tree.specs.Rows.{IsSpelled, line_shown};
+ghost use Rattle.ged_tree.specs.inner.Rows.{HasTagAt, rest_of, shown_of};
+ghost use Rattle.ged_tree.specs.Spelled.{shown_value};
+ghost use Rattle.ged_tree.specs.inner.Tables.{own_value};
+
+use crate::forest::payload::PayloadView;
+use crate::table::packed::KeptStructure;
+use ged_line::{LineView, ValueView, view_text};
+
+/// A structure of a table, with its text at hand.
+#[derive(Clone, Copy)]
+pub(crate) struct FlatStructure<'a> {
+    /// The whole line on which it begins.
+    pub(crate) text: &'a str,
+    pub(crate) kept: KeptStructure,
+}
+
+impl<'a> FlatStructure<'a> {
+    /// The line that its text shows, read once more.
+    #[cold]
+    fn line(&self) -> LineView<'a>
+        requires { IsSpelled (shown_of self.now) }
+        ensures { result ≡ line_shown (shown_of self.now) }
+    {
+        match view_text(self.text) {
+            Ok(line) => line,
+            Err(_) => unreachable!(),
+        }
+    }
+
+    /// What [`FlatStructure::tag`] answers, from the line. A function of its own, so that the frequent way has no room for a
+    /// whole line to clear; so are the next two.
+    #[cold]
+    #[inline(never)]
+    fn tag_of_line(&self) -> &'a str
+        requires { IsSpelled (shown_of self.now) }
+        ensures { result.now ≡ (line_shown (shown_of self.now)).tag }
+    {
+        self.line().tag()
+    }
+
+    #[cold]
+    #[inline(never)]
+    fn xref_of_line(&self) -> Option<&'a str>
+        requires { IsSpelled (shown_of self.now) }
+        ensures { option_map (λ name. name.now) result ≡ (line_shown (shown_of self.now)).xref }
+    {
+        self.line().xref()
+    }
+
+    #[cold]
+    #[inline(never)]
+    fn payload_of_line(&self) -> PayloadView<'a>
+        requires { IsSpelled (shown_of self.now) }
+        ensures { own_value result ≡ (line_shown (shown_of self.now)).value }
+    {
+        payload_of_line(&self.line())
+    }
+
+    /// What [`FlatStructure::rest`] answers, where the place of the tag is not kept.
+    #[cold]
+    #[inline(never)]
+    fn rest_of_line(&self) -> &'a str
+        requires { IsSpelled (shown_of self.now) }
+        ensures { result.now ≡ rest_of (line_shown (shown_of self.now)) }
+    {
+        let line = self.line();
+        let start = start_of_tag(&line);
+        rest_between(self.text, start, start + line.tag().len())
+    }
+
+    /// The tag and the value as the canonical spelling has them.
+    #[inline(always)]
+    pub(crate) fn rest(&self) -> &'a str
+        requires { IsSpelled (shown_of self.now) }
+        ensures { result.now ≡ rest_of (line_shown (shown_of self.now)) }
+    {
+        let length = self.kept.tag_length();
+        if length == 0 {
+            return self.rest_of_line();
+        }
+        let start = self.kept.tag_start as usize;
+        rest_between(self.text, start, start + length as usize)
+    }
+
+    #[inline(always)]
+    pub(crate) fn tag(&self) -> &'a str
+        requires { IsSpelled (shown_of self.now) }
+        ensures { result.now ≡ (line_shown (shown_of self.now)).tag }
+    {
+        let length = self.kept.tag_length();
+        if length == 0 {
+            return self.tag_of_line();
+        }
+        let start = self.kept.tag_start as usize;
+        let end = start + length as usize;
+        &self.text[start..end]
+    }
+
+    pub(crate) fn xref(&self) -> Option<&'a str>
+        requires { IsSpelled (shown_of self.now) }
+        ensures { option_map (λ name. name.now) result ≡ (line_shown (shown_of self.now)).xref }
+    {
+        if self.kept.tag_length() == 0 {
+            return self.xref_of_line();
+        }
+        let first = digits_of_level(self.kept.level()) + 1;
+        let start = self.kept.tag_start as usize;
+        if start == first {
+            return None;
+        }
+        Some(&self.text[first + 1..start - 2])
+    }
+
+    #[inline(always)]
+    pub(crate) fn payload(&self) -> PayloadView<'a>
+        requires { IsSpelled (shown_of self.now) }
+        ensures { own_value result ≡ (line_shown (shown_of self.now)).value }
+    {
+        let length = self.kept.tag_length();
+        if length == 0 {
+            return self.payload_of_line();
+        }
+        let end = self.kept.tag_start as usize + length as usize;
+        payload_behind_tag(&self.text[end..])
+    }
+}
+
+/// What stands on a line from the start of its tag on. The space that may stand alone behind the tag is left out.
+#[inline(always)]
+fn rest_between(text: &str, start: usize, end: usize) -> &str
+    requires { (line : LineParts) × HasTagAt line text.now start end }
+    ensures { (line : LineParts) → HasTagAt line text.now start end → result.now ≡ rest_of line }
+{
+    if text.len() == end + 1 {
+        return &text[start..end];
+    }
+    &text[start..]
+}
+
+/// How many digits spell a level.
+pub(crate) fn digits_of_level(level: u8) -> usize
+    requires { level ≤ 99 }
+    ensures digits { result ≡ length (decimal level) }
+    ensures few { result ≤ 2 }
+{
+    if level < 10 { 1 } else { 2 }
+}
+
+/// Where the tag of a line begins in the text that spells the line, in bytes.
+pub(crate) fn start_of_tag(line: &LineView<'_>) -> usize
+    ensures { result ≡ length (decimal line.now.level) + 1 + length (xref_part line.now.xref) }
+{
+    let first = digits_of_level(line.level()) + 1;
+    match line.xref() {
+        Some(name) => first + name.len() + 3,
+        None => first,
+    }
+}
+
+/// The payload that begins behind a tag, with the space before it.
+#[inline(always)]
+fn payload_behind_tag(part: &str) -> PayloadView<'_>
+    requires { (value : Value) × (is_value value ≡ true) × IsValuePart value part.now }
+    ensures { own_value result ≡ shown_value part.now }
+{
+    if part.len() < 2 {
+        return PayloadView::Text("");
+    }
+    match part.as_bytes() {
+        [_, b'@', b'@', ..] => PayloadView::Text(&part[2..]),
+        [_, b'@', ..] => reference_of(part),
+        _ => PayloadView::Text(&part[1..]),
+    }
+}
+
+/// The reference that stands behind a tag, with the space before it.
+fn reference_of(part: &str) -> PayloadView<'_>
+    requires value { (value : Value) × (is_value value ≡ true) × IsValuePart value part.now }
+    requires long { 2 ≤ length part.now }
+    requires first { slice_index part.now 1 ≡ 64 }
+    requires second { ¬ (slice_index part.now 2 ≡ 64) }
+    ensures { own_value result ≡ shown_value part.now }
+{
+    let name = &part[2..part.len() - 1];
+    if name == "VOID" {
+        PayloadView::Void
+    } else {
+        PayloadView::Pointer(name)
+    }
+}
+
+/// The payload that begins on a line.
+fn payload_of_line<'a>(line: &LineView<'a>) -> PayloadView<'a>
+    ensures { own_value result ≡ line.now.value }
+{
+    match line.value() {
+        ValueView::Empty => PayloadView::Text(""),
+        ValueView::Void => PayloadView::Void,
+        ValueView::Pointer(name) => PayloadView::Pointer(name),
+        ValueView::Text(text) => PayloadView::Text(text),
+    }
+}

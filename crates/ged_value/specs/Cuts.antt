@@ -1,8 +1,0 @@
--- How a text is cut at a character: the one answer of a private function.
-use Rattle.std.specs.Prelude.{ℕ, [], ◌∷◌, ◌==◌, Option, Some, None, if◌then◌else◌}
-use Rattle.ged_value.specs.Words.{Bytes}
-
--- what stands before the first such character, and what stands behind it
-abbrev pub cut_at : ℕ → Bytes → Bytes × Option Bytes
-cut_at character [] = ([], None)
-cut_at character (b ∷ bs) = if b == character then ([], Some bs) else (b ∷ (cut_at character bs).0, (cut_at character bs).1)

@@ -1,0 +1,12 @@
+pub mod AgeReading
+pub mod AgeViews
+pub mod Cuts
+pub mod DateReading
+pub mod ExactReading
+pub mod NameReading
+pub mod Quick
+pub mod RestrictionReading
+pub mod Texts
+pub mod TimeReading
+pub mod ValueReading
+pub mod WordReading

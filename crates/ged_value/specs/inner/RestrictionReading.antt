@@ -1,0 +1,15 @@
+-- Nothing here need be believed: only private contracts and proofs cite it.
+-- How the spaces about an item are left out: the answers of private functions.
+use Rattle.std.specs.Prelude.{[], ◌∷◌, ◌==◌, if◌then◌else◌}
+use Rattle.ged_value.specs.Words.{Bytes}
+use Rattle.ged_value.specs.Restrictions.{are_spaces}
+
+-- the text without the spaces that it begins with
+abbrev pub trim_start : Bytes → Bytes
+trim_start [] = []
+trim_start (b ∷ bs) = if b == 32 then trim_start bs else b ∷ bs
+
+-- the text without the spaces that it ends with
+abbrev pub trim_end : Bytes → Bytes
+trim_end [] = []
+trim_end (b ∷ bs) = if are_spaces (b ∷ bs) then [] else b ∷ trim_end bs
