@@ -31,6 +31,14 @@ impl Answer {
         str::from_utf8(self.as_slice()).unwrap_or("")
     }
 
+    /// The bytes so far, or `Memory` where memory was wanting.
+    pub(crate) fn told(&self) -> &[u8] {
+        if self.lacks_memory {
+            return b"Memory";
+        }
+        self.as_slice()
+    }
+
     pub(crate) fn lacks_memory(&self) -> bool {
         self.lacks_memory
     }

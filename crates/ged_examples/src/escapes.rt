@@ -1,6 +1,7 @@
 // How bytes are written in rows.
 use crate::answers::Answer;
-use std::alloc::{AllocError, Global};
+use std::alloc::Global;
+use std::io::Write;
 
 /// More bytes of an answer are not printed.
 const MOST_PRINTED: usize = 1000;
@@ -153,18 +154,24 @@ fn split_closed(text: &str) -> Option<(&str, &str)> {
     None
 }
 
-/// The bytes as a row would have them, or their front.
-pub(crate) fn escape(alloc: Global, bytes: &[u8]) -> Result<String, AllocError> {
-    let mut out = String::new(alloc);
+/// Says the bytes as a row would have them, or their front.
+pub(crate) fn escape(bytes: &[u8], out: &mut Answer) {
     for byte in bytes.iter().take(MOST_PRINTED) {
         match *byte {
-            b'\n' => out.push('|'),
-            b'<' | b'{' | b'|' | ..b' ' | 127.. => write!(out, "<{byte:02X}>"),
-            _ => out.push(char::from(*byte)),
-        }?;
+            b'\n' => out.say("|"),
+            b'<' | b'{' | b'|' | ..b' ' | 127.. => say_hexadecimal(*byte, out),
+            _ => out.say_bytes(&[*byte]),
+        }
     }
     if bytes.len() > MOST_PRINTED {
-        write!(out, ".. ({} bytes)", bytes.len())?;
+        out.say(".. (");
+        out.say_number(bytes.len() as u64);
+        out.say(" bytes)");
     }
-    Ok(out)
+}
+
+fn say_hexadecimal(byte: u8, out: &mut Answer) {
+    if write!(out.bytes, "<{byte:02X}>").is_err() {
+        out.lack_memory();
+    }
 }

@@ -21,7 +21,7 @@ pub(crate) enum Refused {
     Each,
 }
 
-/// Standard error, as the place of the marks. It remembers whether it failed.
+/// Standard error, as the place of the marks. It remembers the first error, behind which nothing is marked.
 #[derive(Drop)]
 pub(crate) struct Marks {
     errors: Stderr,
@@ -38,7 +38,7 @@ impl Marks {
         }
     }
 
-    /// The first error of standard error, if it had any.
+    /// The error, if there was one.
     pub(crate) fn finish(self) -> io::Result<()> {
         self.written
     }
@@ -87,13 +87,16 @@ struct Call<'a> {
     bytes: &'a [u8],
 }
 
-/// What a call answers. An error says that there is no such call, or that memory was wanting outside the call.
-fn made(alloc: Global, call: Call<'_>, marks: &mut Marks) -> io::Result<Vec<u8>> {
+/// What a call answers. It fails the marks where there is no such call, or memory was wanting outside the call.
+fn made(alloc: Global, call: Call<'_>, marks: &mut Marks) -> Answer {
     let mut answer = Answer::new(alloc);
     if !make_call(alloc, call.name, call.bytes, marks, &mut answer) {
-        return Err(io::Error::from(io::ErrorKind::InvalidInput));
+        marks.written = Err(io::Error::from(io::ErrorKind::InvalidInput));
     }
-    Ok(answer.into_bytes()?)
+    if answer.lacks_memory() {
+        marks.written = Err(io::Error::from(io::ErrorKind::OutOfMemory));
+    }
+    answer
 }
 
 /// The word for want of memory that a call answered, as a line.
@@ -113,52 +116,49 @@ fn tell_call(
     refused: Refused,
     usual: &[u8],
     marks: &mut Marks,
-) -> io::Result<bool> {
+) -> bool {
     marks.refused = refused;
-    let answered = made(alloc, call, marks)?;
-    let is_usual = answered.as_slice() == usual;
+    let answer = made(alloc, call, marks);
+    let is_usual = answer.as_slice() == usual;
     let other = if is_usual { "usual\n" } else { "other\n" };
-    marks.tell(memory_word(&answered).unwrap_or(other));
-    Ok(is_usual)
+    marks.tell(memory_word(answer.as_slice()).unwrap_or(other));
+    is_usual
 }
 
 /// Makes a call with each of its growths refused.
-fn refuse_each(alloc: Global, call: Call<'_>, marks: &mut Marks) -> io::Result<()> {
+fn refuse_each(alloc: Global, call: Call<'_>, marks: &mut Marks) {
+    marks.tell("part\n");
     marks.refused = Refused::None;
-    let usual = made(alloc, call, marks)?;
-    if memory_word(&usual).is_some() {
-        marks.tell("memory without cause\n");
-        return Ok(());
+    let answer = made(alloc, call, marks);
+    let usual = answer.as_slice();
+    if memory_word(usual).is_some() {
+        return marks.tell("memory without cause\n");
     }
     for number in 1..=MOST {
-        let is_usual = tell_call(alloc, call, Refused::One(number), &usual, marks)?;
-        tell_call(alloc, call, Refused::None, &usual, marks)?;
-        if is_usual {
+        let is_usual = tell_call(alloc, call, Refused::One(number), usual, marks);
+        tell_call(alloc, call, Refused::None, usual, marks);
+        if is_usual || marks.written.is_err() {
             break;
         }
     }
-    tell_call(alloc, call, Refused::Each, &usual, marks)?;
-    Ok(())
+    tell_call(alloc, call, Refused::Each, usual, marks);
+}
+
+/// Makes a call on each line of a file, with each of its growths refused.
+fn refuse_on_lines(alloc: Global, name: &str, file: &[u8], marks: &mut Marks) {
+    for bytes in split_pieces(file) {
+        refuse_each(alloc, Call { name, bytes }, marks);
+    }
 }
 
 /// Makes a call on each file, or on each line of each file, with each of its growths refused.
-pub(crate) fn refuse_growths(
-    alloc: Global,
-    name: &str,
-    files: &[Vec<u8>],
-    marks: &mut Marks,
-) -> io::Result<()> {
+pub(crate) fn refuse_growths(alloc: Global, name: &str, files: &[Vec<u8>], marks: &mut Marks) {
     for file in files {
         marks.tell("file\n");
-        if !is_of_lines(name) {
-            marks.tell("part\n");
-            refuse_each(alloc, Call { name, bytes: file }, marks)?;
-            continue;
-        }
-        for bytes in split_pieces(file) {
-            marks.tell("part\n");
-            refuse_each(alloc, Call { name, bytes }, marks)?;
+        if is_of_lines(name) {
+            refuse_on_lines(alloc, name, file, marks);
+        } else {
+            refuse_each(alloc, Call { name, bytes: file }, marks);
         }
     }
-    Ok(())
 }

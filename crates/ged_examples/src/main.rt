@@ -37,23 +37,32 @@ use answers::Answer;
 use growths::{Marks, refuse_growths};
 use rows::{Tally, ask_rows};
 use std::alloc::Global;
+use std::io::Write;
 use std::process::ExitCode;
 use std::{env, fs, io};
 
 fn main(rt: HostRuntime) -> io::Result<ExitCode> {
     let words: Vec<String> = env::args(&rt)?.collect(rt.alloc())?;
-    if let [_, word, call, names @ ..] = words.as_slice() {
-        if word.as_str() == "--growths" {
-            return refuse_growths_of(&rt, call.as_str(), names);
+    match words.as_slice() {
+        [_, word, call, names @ ..] if word.as_str() == "--growths" => {
+            refuse_growths_of(&rt, call.as_str(), names)
         }
+        [_, names @ ..] => ask_rows_of(&rt, names),
+        [] => Ok(ExitCode::FAILURE),
     }
-    let mut tally = Tally::new();
-    for name in words.iter().skip(1) {
-        let text = fs::read_to_string(&rt, name.as_str())?;
-        ask_rows(&rt, name.as_str(), text.as_str(), &mut tally)?;
+}
+
+/// Asks the rows of some files, and tells each that is answered otherwise.
+fn ask_rows_of(rt: &HostRuntime, names: &[String]) -> io::Result<ExitCode> {
+    let mut tally = Tally::new(rt.alloc());
+    for name in names {
+        let text = fs::read_to_string(rt, name.as_str())?;
+        ask_rows(rt.alloc(), name.as_str(), text.as_str(), &mut tally);
     }
-    println!(rt; "{} rows, {} failed", tally.rows, tally.failed)?;
-    if tally.failed > 0 {
+    let has_failed = tally.has_failed();
+    let report = tally.into_report().into_bytes()?;
+    rt.stdout().write_all(&report)?;
+    if has_failed {
         return Ok(ExitCode::FAILURE);
     }
     Ok(ExitCode::SUCCESS)
@@ -66,7 +75,7 @@ fn refuse_growths_of(rt: &HostRuntime, call: &str, names: &[String]) -> io::Resu
         files.push(fs::read(rt, name.as_str())?)?;
     }
     let mut marks = Marks::new(rt.stderr());
-    refuse_growths(rt.alloc(), call, files.as_slice(), &mut marks)?;
+    refuse_growths(rt.alloc(), call, files.as_slice(), &mut marks);
     marks.finish()?;
     Ok(ExitCode::SUCCESS)
 }

@@ -2,26 +2,51 @@
 use crate::answer_call;
 use crate::answers::Answer;
 use crate::escapes::{escape, unescape};
-use std::alloc::{AllocError, Global};
-use std::io;
+use std::alloc::Global;
 
-/// How many rows were asked, and how many were answered otherwise.
+/// How many rows were asked, how many were answered otherwise, and what tells each of these.
 #[derive(Drop)]
 pub(crate) struct Tally {
-    pub(crate) rows: u64,
-    pub(crate) failed: u64,
+    rows: u64,
+    failed: u64,
+    report: Answer,
 }
 
 impl Tally {
-    pub(crate) fn new() -> Tally {
-        Tally { rows: 0, failed: 0 }
+    pub(crate) fn new(alloc: Global) -> Tally {
+        Tally {
+            rows: 0,
+            failed: 0,
+            report: Answer::new(alloc),
+        }
     }
 
-    fn count(&mut self, is_right: bool) {
-        self.rows = self.rows.saturating_add(1);
-        if !is_right {
-            self.failed = self.failed.saturating_add(1);
+    pub(crate) fn has_failed(&self) -> bool {
+        self.failed > 0
+    }
+
+    /// What tells each row that was answered otherwise, and the numbers behind.
+    pub(crate) fn into_report(mut self) -> Answer {
+        self.report.say_number(self.rows);
+        self.report.say(" rows, ");
+        self.report.say_number(self.failed);
+        self.report.say(" failed\n");
+        self.report
+    }
+
+    /// Takes in what is wrong with a line of a file: nothing where nothing is said.
+    fn take(&mut self, name: &str, number: u64, failure: &Answer) {
+        if failure.as_slice().is_empty() && !failure.lacks_memory() {
+            return;
         }
+        self.failed = self.failed.saturating_add(1);
+        self.report.say("FAILED ");
+        self.report.say(name);
+        self.report.say(":");
+        self.report.say_number(number);
+        self.report.say(": ");
+        self.report.append(failure);
+        self.report.say("\n");
     }
 }
 
@@ -51,65 +76,47 @@ fn read_row(line: &str) -> Option<Row<'_>> {
     })
 }
 
-/// What a row wants and what it got, as bytes.
-#[derive(Drop)]
-struct Asked {
-    wanted: Vec<u8>,
-    got: Vec<u8>,
-}
-
-/// Asks a row's call; `None` where its texts cannot be read or no call has its name.
-fn ask(alloc: Global, row: &Row<'_>, file: &[u8]) -> Result<Option<Asked>, AllocError> {
+/// Asks a row's call, and says what is wrong with its texts, its name or its answer.
+fn ask(alloc: Global, row: Row<'_>, file: &[u8], failure: &mut Answer) {
     let mut wanted = Answer::new(alloc);
     let mut own = Answer::new(alloc);
-    if !unescape(alloc, row.wanted, &mut wanted)
-        || !unescape(alloc, row.argument.unwrap_or(""), &mut own)
-    {
-        return Ok(None);
-    }
-    let wanted = wanted.into_bytes()?;
-    let own = own.into_bytes()?;
+    let is_read = unescape(alloc, row.wanted, &mut wanted)
+        && unescape(alloc, row.argument.unwrap_or(""), &mut own);
     let about = match row.argument {
         Some(_) => own.as_slice(),
         None => file,
     };
     let mut got = Answer::new(alloc);
-    if !answer_call(alloc, row.call, about, &mut got) {
-        return Ok(None);
+    if !is_read || !answer_call(alloc, row.call, about, &mut got) {
+        failure.say(row.call);
+        failure.say(": no such call, or an unknown escape");
+    } else if wanted.lacks_memory() || own.lacks_memory() {
+        failure.lack_memory();
+    } else {
+        compare(row.call, wanted.as_slice(), got.told(), failure);
     }
-    if got.lacks_memory() {
-        got = Answer::new(alloc);
-        got.say("Memory");
-    }
-    let got = got.into_bytes()?;
-    Ok(Some(Asked { wanted, got }))
 }
 
-/// Asks the row of a line, and tells it where it is answered otherwise.
-fn ask_line<R: Print + AllocGlobal>(
-    rt: &R,
-    place: &str,
-    line: &str,
-    file: &[u8],
-) -> io::Result<bool> {
-    let Some(row) = read_row(line) else {
-        println!(rt; "FAILED {place}: no row: {line}")?;
-        return Ok(false);
-    };
-    let Some(asked) = ask(rt.alloc(), &row, file)? else {
-        println!(rt;
-            "FAILED {place}: {}: no such call, or an unknown escape",
-            row.call
-        )?;
-        return Ok(false);
-    };
-    if asked.wanted.as_slice() == asked.got.as_slice() {
-        return Ok(true);
+/// Says what was wanted and what was got, where they differ.
+fn compare(call: &str, wanted: &[u8], got: &[u8], failure: &mut Answer) {
+    if wanted != got {
+        failure.say(call);
+        failure.say(": wanted ");
+        escape(wanted, failure);
+        failure.say(", got ");
+        escape(got, failure);
     }
-    let wanted = escape(rt.alloc(), asked.wanted.as_slice())?;
-    let got = escape(rt.alloc(), asked.got.as_slice())?;
-    println!(rt; "FAILED {place}: {}: wanted {wanted}, got {got}", row.call)?;
-    Ok(false)
+}
+
+/// Asks the row of a line, and says what is wrong with it.
+fn ask_line(alloc: Global, line: &str, file: &[u8], failure: &mut Answer) {
+    match read_row(line) {
+        Some(row) => ask(alloc, row, file, failure),
+        None => {
+            failure.say("no row: ");
+            failure.say(line);
+        }
+    }
 }
 
 /// The file of a line that sets one: what stands behind the word `file` and a space.
@@ -120,32 +127,31 @@ fn file_of(line: &str) -> Option<&str> {
     line.strip_prefix("file ")
 }
 
+/// Reads a file of a row, and says what is wrong with it.
+fn read_file(alloc: Global, escaped: &str, failure: &mut Answer) -> Answer {
+    let mut file = Answer::new(alloc);
+    if !unescape(alloc, escaped, &mut file) {
+        failure.say("an unknown escape");
+    }
+    if file.lacks_memory() {
+        failure.lack_memory();
+    }
+    file
+}
+
 /// Asks all rows of a text, tells those that are answered otherwise, and counts them.
-pub(crate) fn ask_rows<R: Print + AllocGlobal>(
-    rt: &R,
-    name: &str,
-    text: &str,
-    tally: &mut Tally,
-) -> io::Result<()> {
-    let mut file = Vec::new(rt.alloc());
+pub(crate) fn ask_rows(alloc: Global, name: &str, text: &str, tally: &mut Tally) {
+    let mut file = Answer::new(alloc);
     let mut number = 0u64;
     for line in text.lines() {
         number = number.saturating_add(1);
-        if line.is_empty() || line.starts_with('#') {
-            continue;
-        }
-        let place = format!(in rt.alloc(); "{name}:{number}")?;
+        let mut failure = Answer::new(alloc);
         if let Some(escaped) = file_of(line) {
-            let mut meant = Answer::new(rt.alloc());
-            if !unescape(rt.alloc(), escaped, &mut meant) {
-                println!(rt; "FAILED {place}: an unknown escape")?;
-                tally.count(false);
-            }
-            file = meant.into_bytes()?;
-            continue;
+            file = read_file(alloc, escaped, &mut failure);
+        } else if !line.is_empty() && !line.starts_with('#') {
+            ask_line(alloc, line, file.as_slice(), &mut failure);
+            tally.rows = tally.rows.saturating_add(1);
         }
-        let is_right = ask_line(rt, place.as_str(), line, file.as_slice())?;
-        tally.count(is_right);
+        tally.take(name, number, &failure);
     }
-    Ok(())
 }
