@@ -6,13 +6,13 @@ use Rattle.ged_link.specs.Links.{Resolved}
 use Rattle.ged_schema.specs.Checked.{Checked}
 use Rattle.ged_schema.specs.Profiles.{NoNotice}
 use Rattle.ged_canon.specs.Laws.{NormalFormIsUnique, IsKept, EquivalentIsSymmetric, EquivalentIsTransitive, EditionsAgree, SecondIsNormalInFirst}
-use Rattle.ged_canon.proofs.Chains.{both, back, kept}
-use Rattle.ged_canon.proofs.Editions as editions
-use Rattle.ged_canon.proofs.Keeps.{step_resolved, step_checked}
-use Rattle.ged_canon.proofs.Normality.{ends_in_document}
-use Rattle.ged_canon.proofs.Noticed.{step_no_notice}
-use Rattle.ged_canon.proofs.Undone.{step_back}
-use Rattle.ged_canon.proofs.Unique as normal
+use Rattle.ged_canon.proofs.theory.Chains.{both, back, kept}
+use Rattle.ged_canon.proofs.theory.Editions as editions
+use Rattle.ged_canon.proofs.theory.Keeps.{step_resolved, step_checked}
+use Rattle.ged_canon.proofs.theory.Normality.{ends_in_document}
+use Rattle.ged_canon.proofs.theory.Noticed.{step_no_notice}
+use Rattle.ged_canon.proofs.theory.Undone.{step_back}
+use Rattle.ged_canon.proofs.theory.Unique as normal
 
 pub symmetric : EquivalentIsSymmetric
 symmetric edition d e h = back (step_back edition) h

@@ -13,8 +13,8 @@ use Rattle.ged_schema.specs.declared.context.Context.TheVariants.{File}
 use Rattle.ged_canon.specs.declared.edition.Edition.{Edition}
 use Rattle.ged_canon.specs.Normal.{InOrder, tags, AreNormal, AreNumbered, numbered, Normal}
 use Rattle.ged_canon.specs.inner.Working.{HasOwnNumber, HaveOwnNumbers, xref_count}
-use Rattle.ged_canon.proofs.Texts.{same_bytes, equal_bytes}
-use Rattle.ged_canon.proofs.Heads.{parts}
+use Rattle.ged_canon.proofs.theory.Texts.{same_bytes, equal_bytes}
+use Rattle.ged_canon.proofs.theory.Heads.{parts}
 
 -- a name that is X and what the number's digits spell is the numbered one
 pub numbered_is : (name digits : Bytes) (n : ℕ) (result : Bool) → name ≡ 88 ∷ digits → result ≡ bytes_eq digits (decimal n) → 0 < n → n < 2 ^ 64 → (result ≡ true) ↔ (name ≡ numbered n)

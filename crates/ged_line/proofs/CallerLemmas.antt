@@ -1,21 +1,23 @@
 -- What the proofs of the crates above cite of this crate, and they cite nothing else of its proofs.
-use Rattle.std.specs.Prelude.{◌≡◌, ℕ, true, List, [], ◌∷◌, ◌++◌, ◌⊎◌}
+use Rattle.std.specs.Prelude.{◌≡◌, ℕ, ◌≤◌, ◌==◌, true, List, [], ◌∷◌, ◌++◌, ◌⊎◌, length}
 use Rattle.std.specs.List.{AllByRecursion}
 use Rattle.ged_line.specs.Bytes.{Bytes, space}
 use Rattle.ged_line.specs.Characters.{is_tag_character, is_plain}
 use Rattle.ged_line.specs.Names.{is_tag, is_xref}
 use Rattle.ged_line.specs.Lines.{Value, LineParts, LineText, IsValuePart}
 use Rattle.ged_line.specs.Faults.{StandsAt, word}
-use Rattle.ged_line.specs.Pieces.{IsFirstPiece, AreCutInto, ArePiecesOf, pieces_of}
+use Rattle.ged_line.specs.Pieces.{HasNoEnd, IsFirstPiece, AreCutInto, ArePiecesOf, IsBehindMark, pieces_of}
+use Rattle.ged_line.specs.WholeLines.{EndsLine, OneWholeFront, WholePiecesStay}
 use Rattle.ged_line.specs.Files.{FileText, AreTexts, StopsAt}
 use Rattle.ged_line.specs.Laws.{OneLine, OneCut, OneReading, WrittenIsRead}
 use Rattle.ged_line.specs.declared.fault.LineFault.{LineFault}
-use Rattle.ged_line.proofs.Banned as banned
-use Rattle.ged_line.proofs.Cutting as cutting
-use Rattle.ged_line.proofs.FileLaws as files
-use Rattle.ged_line.proofs.LineLaws as lines_of_pieces
-use Rattle.ged_line.proofs.NameTests as names
-use Rattle.ged_line.proofs.Scans as scans
+use Rattle.ged_line.proofs.bytes.Banned as banned
+use Rattle.ged_line.proofs.bytes.Cutting as cutting
+use Rattle.ged_line.proofs.file.FileLaws as files
+use Rattle.ged_line.proofs.file.WholeLines as whole_lines
+use Rattle.ged_line.proofs.line.LineLaws as lines_of_pieces
+use Rattle.ged_line.proofs.line.NameTests as names
+use Rattle.ged_line.proofs.line.Scans as scans
 use Rattle.std.proofs.lemmas.Str.{IsUtf8-nil}
 use Rattle.std.proofs.Common.{refl}
 
@@ -90,3 +92,42 @@ no_stop = files.no_stop
 -- what is written of lines spells these lines
 pub written_is_read : WrittenIsRead
 written_is_read = files.FileText-file_of
+
+-- ---- lines that are counted, and a file that grows
+
+pub AreTexts-more : (lines : List LineParts) (before : List Bytes) (line : LineParts) (piece : Bytes)
+    → AreTexts lines before → LineText line piece → AreTexts (lines ++ (line ∷ [])) (before ++ (piece ∷ []))
+AreTexts-more = files.AreTexts-more
+
+pub length-AreTexts : (lines : List LineParts) (pieces : List Bytes) → AreTexts lines pieces → length lines ≡ length pieces
+length-AreTexts = files.length-AreTexts
+
+pub length-ArePiecesOf : (file : Bytes) (pieces : List Bytes) → ArePiecesOf file pieces → length pieces ≤ length file
+length-ArePiecesOf = files.length-ArePiecesOf
+
+-- a file that spells lines has a piece for each; and pieces that are lines' texts make the file that spells them
+pub FileText-texts : (file : Bytes) (lines : List LineParts) → FileText lines file → (pieces : List Bytes) × ArePiecesOf file pieces × AreTexts lines pieces
+FileText-texts = files.FileText-texts
+
+pub FileText-from_texts : (file : Bytes) (lines : List LineParts) (pieces : List Bytes) → ArePiecesOf file pieces → AreTexts lines pieces → FileText lines file
+FileText-from_texts = files.FileText-from_texts
+
+pub nil_of : (bs : List ℕ) → true ≡ (length bs == 0) → bs ≡ []
+nil_of = cutting.nil_of
+
+-- the pieces of whole lines stay, and bytes have one whole front, as the functions of these names in src/ state
+pub whole_stay : WholePiecesStay
+whole_stay = whole_lines.whole_stay
+
+pub one_whole : OneWholeFront
+one_whole = whole_lines.one_whole
+
+-- a file of whole lines is more than its mark
+pub mark_no_line : (file bytes : Bytes) → EndsLine file → IsBehindMark file bytes → bytes ≡ [] → ⊥
+mark_no_line = whole_lines.mark_no_line
+
+pub EndsLine-behind : (xs ys : Bytes) → EndsLine ys → EndsLine (xs ++ ys)
+EndsLine-behind = whole_lines.EndsLine-behind
+
+pub HasNoEnd-append : (xs ys : Bytes) → HasNoEnd xs → HasNoEnd ys → HasNoEnd (xs ++ ys)
+HasNoEnd-append = whole_lines.HasNoEnd-append

@@ -1,17 +1,1 @@
-pub mod NameTests
-pub mod Cuts
-pub mod Levels
-pub mod Banned
-pub mod Reading
-pub mod Values
-pub mod Words
-pub mod Scans
-pub mod Cutting
-pub mod LineLaws
-pub mod FileLaws
-pub mod Respelling
-pub mod Fast
-pub mod EndLemmas
-pub mod BlockLemmas
 pub mod CallerLemmas
-pub mod WholeLemmas

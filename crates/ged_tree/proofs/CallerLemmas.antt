@@ -1,18 +1,28 @@
 -- What the proofs of the crates above cite of this crate, and they cite nothing else of its proofs.
-use Rattle.std.specs.Prelude.{◌≡◌, ℕ, ◌+◌, ◌-◌, ◌<◌, ◌≤◌, true}
+use Rattle.std.specs.Prelude.{◌≡◌, ◌≢◌, ℕ, ◌+◌, ◌-◌, ◌<◌, ◌≤◌, true, List, Some}
+use Rattle.ged_line.specs.Bytes.{Bytes}
+use Rattle.ged_line.specs.Lines.{LineParts}
+use Rattle.ged_line.specs.Files.{FileText}
+use Rattle.ged_line.specs.WholeLines.{EndsLine}
 use Rattle.ged_tree.specs.Trees.{Structure, Trees, none, tree, trees_count, line_count}
 use Rattle.ged_tree.specs.Places.{trees_from, structure_at, below_at, place_after, line_at}
 use Rattle.ged_tree.specs.Runs.{trees_between, IsRun}
 use Rattle.ged_tree.specs.Documents.{is_document, are_at}
 use Rattle.ged_tree.specs.TreeLaws.{NoneShared, OneFaultInFile, AreLines}
 use Rattle.ged_tree.specs.Building.{FaultyFileHasNone, FileFaultIsBuildFault}
-use Rattle.ged_tree.proofs.BuildLemmas as building
-use Rattle.ged_tree.proofs.FileFaultLaws as file_faults
-use Rattle.ged_tree.proofs.Law as lines
-use Rattle.ged_tree.proofs.LineLemmas as numbers
-use Rattle.ged_tree.proofs.LineTests as tests_of_lines
-use Rattle.ged_tree.proofs.PlaceLemmas as places
-use Rattle.ged_tree.proofs.Shown as shown_lines
+use Rattle.ged_tree.specs.TreeFaults.{Pass, fault_after}
+use Rattle.ged_tree.specs.FileFaults.{FirstFaultIn}
+use Rattle.ged_tree.specs.FaultsStay.{FirstFaultStays}
+use Rattle.ged_tree.specs.declared.fault.TreeFault.{TreeFault}
+use Rattle.ged_tree.specs.declared.fault.TreeFault.TheVariants.{NoTrailer}
+use Rattle.ged_tree.proofs.theory.Building as building
+use Rattle.ged_tree.proofs.laws.FaultsStay as stays
+use Rattle.ged_tree.proofs.laws.FileFaults as file_faults
+use Rattle.ged_tree.proofs.theory.OneDocument as lines
+use Rattle.ged_tree.proofs.laws.LinesAtPlaces as numbers
+use Rattle.ged_tree.proofs.owned.LineTests as tests_of_lines
+use Rattle.ged_tree.proofs.theory.Places as places
+use Rattle.ged_tree.proofs.laws.Shown as shown_lines
 
 -- ---- the trees from a place on
 
@@ -84,3 +94,14 @@ faulty_file_has_none = building.none_of_file
 
 pub file_fault_is_build_fault : FileFaultIsBuildFault
 file_fault_is_build_fault = building.file_fault
+
+pub first_fault_stays : FirstFaultStays
+first_fault_stays = stays.first_fault_stays
+
+-- whole lines of which none is faulty have no other fault than that TRLR is missing, and no line has that one
+pub only_trailer : (front : Bytes) (lines : List LineParts) (line : ℕ) (fault : TreeFault) → EndsLine front → FileText lines front → Pass lines
+    → FirstFaultIn front line fault → fault ≡ NoTrailer
+only_trailer = stays.only_trailer
+
+pub not_at_line : (lines : List LineParts) (line : LineParts) (fault : TreeFault) → fault_after lines line ≡ Some fault → fault ≢ NoTrailer
+not_at_line = stays.not_at_line

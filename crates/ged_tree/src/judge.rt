@@ -54,7 +54,7 @@ impl Judge {
 
     /// Takes one more line. Where a fault stands at it, answers the lowest, from `LevelJump` to `AfterTrailer`, and is
     /// unchanged. Takes no memory (FamilySearch GEDCOM 7.0, "Lines" and "Structures").
-    #[tactic(auto, using(crate::proofs::JudgeLemmas::judging))]
+    #[tactic(auto, using(crate::proofs::theory::Judging::judging))]
     #[inline(always)]
     pub fn line(&mut self, line: &LineView<'_>) -> Result<(), TreeFault>
         ensures takes { IfOk result (λ _. (lines : List LineParts) → StandsFor self.old lines

@@ -72,7 +72,7 @@ fn copy_payload<F: Forest>(alloc: Global, forest: &F, place: usize) -> Result<Pa
 }
 
 /// The nodes of a run of trees, none of which is a record's.
-#[tactic(auto, using(crate::proofs::CopyLemmas::copies))]
+#[tactic(auto, using(crate::proofs::owned::Copies::copies))]
 fn copy_between<F: Forest>(
     alloc: Global,
     forest: &F,
@@ -110,7 +110,7 @@ fn copy_name(alloc: Global, name: Option<&str>) -> Result<Option<Xref>, AllocErr
 }
 
 /// The node of the first tree of a run of trees at level 0.
-#[tactic(auto, using(crate::proofs::CopyLemmas::record_copies))]
+#[tactic(auto, using(crate::proofs::owned::Copies::record_copies))]
 fn copy_first<F: Forest>(
     alloc: Global,
     forest: &F,
@@ -135,7 +135,7 @@ fn copy_first<F: Forest>(
 }
 
 /// The records of a run of trees at level 0.
-#[tactic(auto, using(crate::proofs::CopyLemmas::record_copies))]
+#[tactic(auto, using(crate::proofs::owned::Copies::record_copies))]
 fn copy_records<F: Forest>(
     alloc: Global,
     forest: &F,
@@ -158,7 +158,7 @@ fn copy_records<F: Forest>(
 }
 
 /// The document of a forest, as nodes. Grows; recurses as deep as the structures stand, at most 100 deep.
-#[tactic(auto, using(crate::proofs::CopyLemmas::placed_all, crate::proofs::CopyLemmas::record_copies))]
+#[tactic(auto, using(crate::proofs::owned::Copies::placed_all, crate::proofs::owned::Copies::record_copies))]
 pub fn document_of<F: Forest>(alloc: Global, forest: &F) -> Result<Document, AllocError>
     ensures { IfOk result (λ document. document ≡ F.trees forest.now) }
 {

@@ -8,7 +8,7 @@ use crate::forest::payload::PayloadView;
 use crate::owned::document::Document;
 use crate::owned::walks::count;
 
-#[tactic(auto, using(crate::proofs::PlaceLemmas::after_fits), unfolding(crate::specs::Places::structure_at, crate::specs::Places::below_at, crate::specs::Places::place_after))]
+#[tactic(auto, using(crate::proofs::theory::Places::after_fits), unfolding(crate::specs::Places::structure_at, crate::specs::Places::below_at, crate::specs::Places::place_after))]
 impl Forest for Document {
     ghost trees = { λ document. document };
 

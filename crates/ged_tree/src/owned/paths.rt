@@ -21,7 +21,7 @@ pub fn line_of(document: &Document, path: &[usize]) -> Option<u64>
 }
 
 /// The line that a path leads to.
-#[tactic(auto, using(crate::proofs::PathLemmas::path_steps))]
+#[tactic(auto, using(crate::proofs::theory::Paths::path_steps))]
 fn find_line(document: &Document, path: &[usize]) -> Option<u64>
     ensures { result ≡ line_of_path 1 document.now path.now }
 {
@@ -37,7 +37,7 @@ fn find_line(document: &Document, path: &[usize]) -> Option<u64>
 }
 
 /// The line that a path leads to from the records on, of which the first begins on a line.
-#[tactic(auto, using(crate::proofs::PathLemmas::path_steps))]
+#[tactic(auto, using(crate::proofs::theory::Paths::path_steps))]
 fn find_among(records: &[RecordNode], number: usize, path: &[usize], first: u64) -> Option<u64>
     requires small { first + lines_count (record_trees records.now) < 2 ^ 63 }
     ensures { result ≡ path_line first (record_trees records.now) number path.now }
@@ -56,7 +56,7 @@ fn find_among(records: &[RecordNode], number: usize, path: &[usize], first: u64)
 }
 
 /// The line that a path leads to from a structure on, which begins on a line.
-#[tactic(auto, using(crate::proofs::PathLemmas::path_steps))]
+#[tactic(auto, using(crate::proofs::theory::Paths::path_steps))]
 fn find_below(node: &Node, path: &[usize], first: u64) -> Option<u64>
     requires small { first + (line_count node.now.payload + lines_count node.now.children) < 2 ^ 63 }
     ensures { result ≡ line_below first node.now.payload node.now.children path.now }

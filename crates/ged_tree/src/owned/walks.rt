@@ -44,7 +44,7 @@ fn count_records(records: &[RecordNode]) -> usize
 }
 
 /// The structure at a place in trees that stand at a level.
-#[tactic(auto, using(crate::proofs::FoundLemmas::founds))]
+#[tactic(auto, using(crate::proofs::theory::Walks::founds))]
 fn look_up(nodes: &[Node], start: usize, level: u8) -> Found<'_>
     requires within { start < trees_count (trees_of nodes.now) }
     requires few { trees_count (trees_of nodes.now) < 2 ^ 63 }
@@ -71,7 +71,7 @@ fn look_up(nodes: &[Node], start: usize, level: u8) -> Found<'_>
 }
 
 /// The structure at a place in records.
-#[tactic(auto, using(crate::proofs::FoundLemmas::founds))]
+#[tactic(auto, using(crate::proofs::theory::Walks::founds))]
 fn look_up_record(records: &[RecordNode], start: usize) -> Found<'_>
     requires within { start < trees_count (record_trees records.now) }
     requires few { trees_count (record_trees records.now) < 2 ^ 63 }
@@ -113,7 +113,7 @@ pub(crate) fn count_lines(nodes: &[Node]) -> u64
 }
 
 /// The line of the structure at a place, where the trees begin on a line.
-#[tactic(auto, using(crate::proofs::FoundLemmas::line_steps))]
+#[tactic(auto, using(crate::proofs::theory::Walks::line_steps))]
 fn line_in(nodes: &[Node], start: usize, first: u64) -> u64
     requires within { start < trees_count (trees_of nodes.now) }
     requires few { trees_count (trees_of nodes.now) < 2 ^ 63 }
@@ -139,7 +139,7 @@ fn line_in(nodes: &[Node], start: usize, first: u64) -> u64
 }
 
 /// The line of the structure at a place in records that begin on a line.
-#[tactic(auto, using(crate::proofs::FoundLemmas::line_steps))]
+#[tactic(auto, using(crate::proofs::theory::Walks::line_steps))]
 fn line_in_records(records: &[RecordNode], start: usize, first: u64) -> u64
     requires within { start < trees_count (record_trees records.now) }
     requires few { trees_count (record_trees records.now) < 2 ^ 63 }
@@ -176,7 +176,7 @@ impl Document {
     }
 
     /// The structure at a place.
-    #[tactic(auto, using(crate::proofs::FoundLemmas::founds))]
+    #[tactic(auto, using(crate::proofs::theory::Walks::founds))]
     pub(crate) fn find(&self, place: usize) -> Found<'_>
         requires { place < trees_count self.now }
         ensures structure { first_structure (trees_from self.now place)
@@ -203,7 +203,7 @@ impl Document {
     }
 
     /// The line of the structure at a place.
-    #[tactic(auto, using(crate::proofs::FoundLemmas::line_steps))]
+    #[tactic(auto, using(crate::proofs::theory::Walks::line_steps))]
     pub(crate) fn line_at(&self, place: usize) -> u64
         requires { place < trees_count self.now }
         ensures { result ≡ line_at 1 self.now place }

@@ -1,4 +1,4 @@
-use Rattle.ged_canon.proofs.Editions.{one_second, first_normal}
+use Rattle.ged_canon.proofs.theory.Editions.{one_second, first_normal}
 use Rattle.ged_canon.proofs.laws.editions_agree.Goals as goal
 
 pub returns : goal.returns

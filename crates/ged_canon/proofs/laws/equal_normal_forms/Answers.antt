@@ -1,8 +1,8 @@
 use Rattle.std.proofs.Common.{sym, subst}
 use Rattle.ged_canon.specs.Steps.{Equivalent}
-use Rattle.ged_canon.proofs.Chains.{both, back}
-use Rattle.ged_canon.proofs.Undone.{step_back}
-use Rattle.ged_canon.proofs.Unique.{unique}
+use Rattle.ged_canon.proofs.theory.Chains.{both, back}
+use Rattle.ged_canon.proofs.theory.Undone.{step_back}
+use Rattle.ged_canon.proofs.theory.Unique.{unique}
 use Rattle.ged_canon.proofs.laws.equal_normal_forms.Goals as goal
 
 pub returns : goal.returns

@@ -1,5 +1,5 @@
-use Rattle.ged_canon.proofs.Chains.{both, back}
-use Rattle.ged_canon.proofs.Undone.{step_back}
+use Rattle.ged_canon.proofs.theory.Chains.{both, back}
+use Rattle.ged_canon.proofs.theory.Undone.{step_back}
 use Rattle.ged_canon.proofs.laws.equivalence.Goals as goal
 
 pub returns : goal.returns

@@ -1,5 +1,5 @@
 use Rattle.ged_canon.specs.inner.Working.{canon}
-use Rattle.ged_canon.proofs.Normality.{canon_is_normal_form}
+use Rattle.ged_canon.proofs.theory.Normality.{canon_is_normal_form}
 use Rattle.ged_canon.proofs.laws.normal_form_exists.Goals as goal
 
 pub returns : goal.returns

@@ -1,10 +1,10 @@
 use Rattle.ged_link.specs.Links.{Resolved}
 use Rattle.ged_schema.specs.Checked.{Checked}
 use Rattle.ged_schema.specs.Profiles.{NoNotice}
-use Rattle.ged_canon.proofs.Chains.{kept}
-use Rattle.ged_canon.proofs.Keeps.{step_resolved, step_checked}
-use Rattle.ged_canon.proofs.Noticed.{step_no_notice}
-use Rattle.ged_canon.proofs.Normality.{ends_in_document}
+use Rattle.ged_canon.proofs.theory.Chains.{kept}
+use Rattle.ged_canon.proofs.theory.Keeps.{step_resolved, step_checked}
+use Rattle.ged_canon.proofs.theory.Noticed.{step_no_notice}
+use Rattle.ged_canon.proofs.theory.Normality.{ends_in_document}
 use Rattle.ged_canon.proofs.laws.normal_form_is_accepted.Goals as goal
 
 pub returns : goal.returns

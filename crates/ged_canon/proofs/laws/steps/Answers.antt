@@ -1,6 +1,6 @@
-use Rattle.ged_canon.proofs.Undone.{step_back}
-use Rattle.ged_canon.proofs.Keeps.{step_resolved, step_checked}
-use Rattle.ged_canon.proofs.Noticed.{step_no_notice}
+use Rattle.ged_canon.proofs.theory.Undone.{step_back}
+use Rattle.ged_canon.proofs.theory.Keeps.{step_resolved, step_checked}
+use Rattle.ged_canon.proofs.theory.Noticed.{step_no_notice}
 use Rattle.ged_canon.proofs.laws.steps.Goals as goal
 
 pub returns : goal.returns

@@ -1,4 +1,4 @@
-use Rattle.ged_line.proofs.LineLaws.{line_or_faulty}
+use Rattle.ged_line.proofs.line.LineLaws.{line_or_faulty}
 use Rattle.ged_line.proofs.laws.line_or_fault.Goals as goal
 
 pub returns : goal.returns

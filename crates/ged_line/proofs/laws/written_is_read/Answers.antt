@@ -1,4 +1,4 @@
-use Rattle.ged_line.proofs.FileLaws.{FileText-file_of as law}
+use Rattle.ged_line.proofs.file.FileLaws.{FileText-file_of as law}
 use Rattle.ged_line.proofs.laws.written_is_read.Goals as goal
 
 pub returns : goal.returns

@@ -1,4 +1,4 @@
-use Rattle.ged_tool.proofs.FileLaws.{accepted_faultless}
+use Rattle.ged_tool.proofs.calls.FileLaws.{accepted_faultless}
 use Rattle.ged_tool.proofs.laws.accepted_is_faultless.Goals as goal
 
 pub returns : goal.returns

@@ -1,4 +1,4 @@
-use Rattle.ged_tool.proofs.Accepting.{accepted_or_faulty}
+use Rattle.ged_tool.proofs.laws.Accepting.{accepted_or_faulty}
 use Rattle.ged_tool.proofs.laws.accepted_or_faulty.Goals as goal
 
 pub returns : goal.returns

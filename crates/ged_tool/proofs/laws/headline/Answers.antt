@@ -1,4 +1,4 @@
-use Rattle.ged_tool.proofs.CanonLaws.{headline, agrees_with_first}
+use Rattle.ged_tool.proofs.calls.CanonLaws.{headline, agrees_with_first}
 use Rattle.ged_tool.proofs.laws.headline.Goals as goal
 
 pub returns : goal.returns

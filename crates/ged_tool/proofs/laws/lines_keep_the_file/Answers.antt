@@ -1,4 +1,4 @@
-use Rattle.ged_tool.proofs.Respelt.{lines_keep_acceptance, lines_keep_fault, lines_keep_canon}
+use Rattle.ged_tool.proofs.laws.Respelt.{lines_keep_acceptance, lines_keep_fault, lines_keep_canon}
 use Rattle.ged_tool.proofs.laws.lines_keep_the_file.Goals as goal
 
 pub returns : goal.returns

@@ -1,4 +1,4 @@
-use Rattle.ged_tool.proofs.FileLaws.{one_accepted}
+use Rattle.ged_tool.proofs.calls.FileLaws.{one_accepted}
 use Rattle.ged_tool.proofs.laws.one_accepted.Goals as goal
 
 pub returns : goal.returns

@@ -1,4 +1,4 @@
-use Rattle.ged_tool.proofs.OneList.{one_verdict}
+use Rattle.ged_tool.proofs.laws.OneList.{one_verdict}
 use Rattle.ged_tool.proofs.laws.one_verdict.Goals as goal
 
 pub returns : goal.returns

@@ -1,4 +1,4 @@
-use Rattle.ged_tool.proofs.Comparing.{one_comparison, same_as_itself, same_both_ways, same_onward, same_by_canon}
+use Rattle.ged_tool.proofs.laws.Comparing.{one_comparison, same_as_itself, same_both_ways, same_onward, same_by_canon}
 use Rattle.ged_tool.proofs.laws.same_is_an_equivalence.Goals as goal
 
 pub returns : goal.returns

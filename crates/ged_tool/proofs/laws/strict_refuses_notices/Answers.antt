@@ -1,4 +1,4 @@
-use Rattle.ged_tool.proofs.Strict.{strict_refuses}
+use Rattle.ged_tool.proofs.laws.Strict.{strict_refuses}
 use Rattle.ged_tool.proofs.laws.strict_refuses_notices.Goals as goal
 
 pub returns : goal.returns

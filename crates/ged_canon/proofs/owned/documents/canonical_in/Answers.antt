@@ -2,9 +2,9 @@ use Rattle.std.proofs.Common.{sym, ap, ◌∙◌, subst}
 use Rattle.std.proofs.lemmas.Bool.{true≢false}
 use Rattle.ged_tree.specs.Documents.{is_document}
 use Rattle.ged_canon.specs.Normal.{IsNormalForm}
-use Rattle.ged_canon.proofs.Fixed.{canon_same}
-use Rattle.ged_canon.proofs.Normality.{canon_is_normal_form}
-use Rattle.ged_canon.proofs.CanonParts.{canon_is_document}
+use Rattle.ged_canon.proofs.theory.Fixed.{canon_same}
+use Rattle.ged_canon.proofs.theory.Normality.{canon_is_normal_form}
+use Rattle.ged_canon.proofs.writer.Parts.{canon_is_document}
 use Rattle.ged_canon.proofs.owned.documents.canonical_in.Goals as goal
 
 pub unreachable-requires : goal.unreachable-requires

@@ -3,7 +3,7 @@ use Rattle.std.proofs.lemmas.Bool.{true≢false}
 use Rattle.std.proofs.lemmas.Fmt.{decimal-digits_of}
 use Rattle.ged_line.specs.Names.{is_xref}
 use Rattle.ged_canon.specs.Normal.{numbered}
-use Rattle.ged_canon.proofs.Numbering.{numbered_name}
+use Rattle.ged_canon.proofs.theory.Numbering.{numbered_name}
 use Rattle.ged_canon.proofs.owned.identifiers.new_identifier.Goals as goal
 
 pub unreachable-requires : goal.unreachable-requires

@@ -5,9 +5,9 @@ use Rattle.std.proofs.lemmas.List.Sorted.{ranks_by, answers_always}
 use Rattle.ged_line.specs.Names.{tag_order}
 use Rattle.ged_tree.specs.Trees.{Tree, structure_of, trees_of}
 use Rattle.ged_canon.specs.inner.Working.{grouped, placed}
-use Rattle.ged_canon.proofs.Sorting.{tags_total}
-use Rattle.ged_canon.proofs.StableSort.{nodes_listed, a_stable_sort_of_trees}
-use Rattle.ged_canon.proofs.Placed.{grouped_placed}
+use Rattle.ged_canon.proofs.theory.Sorting.{tags_total}
+use Rattle.ged_canon.proofs.writer.StableSort.{nodes_listed, a_stable_sort_of_trees}
+use Rattle.ged_canon.proofs.owned.Placed.{grouped_placed}
 use Rattle.ged_canon.proofs.owned.placing.+placed_nodes.Goals as goal
 
 pub returns : goal.returns

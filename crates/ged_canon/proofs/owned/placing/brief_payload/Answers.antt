@@ -1,7 +1,7 @@
 use Rattle.std.proofs.Common.{◌≡◌, IfOk, option_map, sym, ap, subst, ◌∙◌}
 use Rattle.ged_schema.specs.Rows.{as_row}
 use Rattle.ged_canon.specs.inner.Working.{brief}
-use Rattle.ged_canon.proofs.Placed.{brief_no_row}
+use Rattle.ged_canon.proofs.owned.Placed.{brief_no_row}
 use Rattle.ged_canon.proofs.owned.placing.brief_payload.Goals as goal
 
 pub returns-in_default : goal.returns-in_default

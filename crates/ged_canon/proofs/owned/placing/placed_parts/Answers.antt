@@ -1,7 +1,7 @@
 use Rattle.std.proofs.Common.{None, ap, ◌∙◌}
 use Rattle.ged_tree.specs.Trees.{Tree, tree, structure_of}
 use Rattle.ged_tree.specs.Records.{record_trees}
-use Rattle.ged_canon.proofs.UseTests.{placed_whole}
+use Rattle.ged_canon.proofs.writer.UseTests.{placed_whole}
 use Rattle.ged_canon.proofs.owned.placing.placed_parts.Goals as goal
 
 pub returns-clause-placed : goal.returns-clause-placed

@@ -10,9 +10,9 @@ use Rattle.ged_tree.specs.declared.owned.node.RecordNode.{RecordNode}
 use Rattle.ged_link.specs.Links.{identifiers}
 use Rattle.ged_schema.specs.declared.context.Context.TheVariants.{File}
 use Rattle.ged_canon.specs.inner.Working.{grouped, is_named, sorted, used_trees}
-use Rattle.ged_canon.proofs.Sorting.{tags_total}
-use Rattle.ged_canon.proofs.StableSort.{records_listed, a_stable_sort_of_trees}
-use Rattle.ged_canon.proofs.UseTests.{placed_record, grouped_records, identifier_at}
+use Rattle.ged_canon.proofs.theory.Sorting.{tags_total}
+use Rattle.ged_canon.proofs.writer.StableSort.{records_listed, a_stable_sort_of_trees}
+use Rattle.ged_canon.proofs.writer.UseTests.{placed_record, grouped_records, identifier_at}
 use Rattle.ged_canon.proofs.owned.placing.placed_records.Goals as goal
 
 pub used_identifier-requires-clause-here : goal.used_identifier-requires-clause-here

@@ -1,6 +1,6 @@
 use Rattle.std.proofs.Common.{◌≡◌, map, take}
 use Rattle.ged_canon.specs.inner.Working.{is_named}
-use Rattle.ged_canon.proofs.UseTests.{placed_record}
+use Rattle.ged_canon.proofs.writer.UseTests.{placed_record}
 use Rattle.ged_canon.proofs.owned.placing.placed_records.Given as goal
 
 -- the records so far are made

@@ -2,7 +2,7 @@ use Rattle.std.proofs.Common.{Some, sym, ap, ◌∙◌}
 use Rattle.std.specs.Option.{option_copied}
 use Rattle.std.proofs.lemmas.Bool.{true≢false}
 use Rattle.ged_canon.specs.inner.Working.{is_named, used_xref}
-use Rattle.ged_canon.proofs.UseTests.{kept_used, dropped_unused}
+use Rattle.ged_canon.proofs.writer.UseTests.{kept_used, dropped_unused}
 use Rattle.ged_canon.proofs.owned.placing.used_identifier.Goals as goal
 
 pub returns-then-not-is_used : goal.returns-then-not-is_used

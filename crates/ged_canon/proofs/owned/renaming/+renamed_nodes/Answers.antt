@@ -2,7 +2,7 @@ use Rattle.std.proofs.Common.{◌≡◌, List, [], ◌∷◌, ◌++◌, map, sym
 use Rattle.std.proofs.lemmas.List.{append-nil, append_assoc, map-append, nil_from_length}
 use Rattle.ged_tree.specs.Trees.{Tree, trees_of}
 use Rattle.ged_canon.specs.inner.Working.{number_of, renamed_tree}
-use Rattle.ged_canon.proofs.NewNames.{renamed_each}
+use Rattle.ged_canon.proofs.writer.NewNames.{renamed_each}
 use Rattle.ged_canon.proofs.owned.renaming.+renamed_nodes.Goals as goal
 
 pub loop-node-preserved : goal.loop-node-preserved

@@ -1,5 +1,5 @@
 use Rattle.std.proofs.Common.{◌≡◌, ℕ, Option, Some, None, sym}
-use Rattle.ged_canon.proofs.NewNames.{unnumbered}
+use Rattle.ged_canon.proofs.writer.NewNames.{unnumbered}
 use Rattle.ged_canon.proofs.owned.renaming.new_number.Goals as goal
 
 pub returns-in-None : goal.returns-in-None

@@ -8,8 +8,8 @@ use Rattle.ged_tree.specs.Trees.{records_of}
 use Rattle.ged_tree.specs.Records.{record_trees}
 use Rattle.ged_tree.specs.declared.owned.node.RecordNode.{RecordNode}
 use Rattle.ged_link.specs.Links.{xrefs, with_xref, identifiers, IsRecordNumber}
-use Rattle.ged_canon.proofs.NewNumbers.{ArePlaces, places_more, names_more, fresh_name, name_among, numbered_among}
-use Rattle.ged_canon.proofs.UseTests.{identifiers_of}
+use Rattle.ged_canon.proofs.writer.NewNumbers.{ArePlaces, places_more, names_more, fresh_name, name_among, numbered_among}
+use Rattle.ged_canon.proofs.writer.UseTests.{identifiers_of}
 use Rattle.ged_canon.proofs.owned.renaming.new_numbers.Goals as goal
 use Rattle.ged_canon.proofs.owned.renaming.new_numbers.Goals.{in-Some+in-Some-record_of, in-Some+in_default-record_of, in_default}
 

@@ -1,7 +1,7 @@
 use Rattle.std.proofs.Common.{◌≡◌, ◌<◌, IfOk, sym, ap, ◌∙◌, subst, arith}
 use Rattle.ged_canon.specs.Normal.{numbered}
 use Rattle.ged_canon.specs.inner.Working.{number_among}
-use Rattle.ged_canon.proofs.NewNames.{kept_name, given_number}
+use Rattle.ged_canon.proofs.writer.NewNames.{kept_name, given_number}
 use Rattle.ged_canon.proofs.owned.renaming.renamed_identifier.Goals as goal
 
 pub returns-then-number-eq0 : goal.returns-then-number-eq0

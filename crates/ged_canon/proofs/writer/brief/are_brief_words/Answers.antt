@@ -6,7 +6,7 @@ use Rattle.std.proofs.lemmas.Iterator.Splits.{YieldsList-from_str_split}
 use Rattle.std.proofs.lemmas.Iterator.Consumers.{YieldsList-turn, YieldsList-end}
 use Rattle.ged_value.specs.Words.{words_of}
 use Rattle.ged_canon.specs.inner.Working.{is_brief_word}
-use Rattle.ged_canon.proofs.BriefTests.{all_brief, brief_without_g}
+use Rattle.ged_canon.proofs.writer.BriefTests.{all_brief, brief_without_g}
 use Rattle.ged_canon.proofs.writer.brief.are_brief_words.Goals as goal
 
 pub returns-then-not-without_zeros : goal.returns-then-not-without_zeros

@@ -5,7 +5,7 @@ use Rattle.std.proofs.lemmas.Iterator.Consumers.{YieldsList-end}
 use Rattle.ged_value.specs.Words.{joined}
 use Rattle.ged_value.specs.Texts.{bytes_of}
 use Rattle.ged_value.specs.inner.Texts.{texts}
-use Rattle.ged_canon.proofs.BriefWords.{MadeOf, left, made_more}
+use Rattle.ged_canon.proofs.writer.BriefWords.{MadeOf, left, made_more}
 use Rattle.ged_canon.proofs.writer.brief.brief_line.Goals as goal
 
 pub loop-word-preserved-then-not-is_left_out : goal.loop-word-preserved-then-not-is_left_out

@@ -1,6 +1,6 @@
 use Rattle.std.proofs.Common.{string_bytes}
 use Rattle.ged_value.specs.inner.Texts.{texts}
-use Rattle.ged_canon.proofs.BriefWords.{MadeOf, left}
+use Rattle.ged_canon.proofs.writer.BriefWords.{MadeOf, left}
 use Rattle.ged_canon.proofs.writer.brief.brief_line.Given as goal
 
 -- the line is made of what is left of the words so far

@@ -1,6 +1,6 @@
 use Rattle.std.proofs.Common.{◌∙◌, ap, not}
 use Rattle.std.specs.Str.{bytes_eq}
-use Rattle.ged_canon.proofs.BriefTests.{trimmed_differs}
+use Rattle.ged_canon.proofs.writer.BriefTests.{trimmed_differs}
 use Rattle.ged_canon.proofs.writer.brief.has_leading_zero.Goals as goal
 
 pub returns : goal.returns

@@ -3,7 +3,7 @@ use Rattle.std.specs.List.{list_all}
 use Rattle.ged_value.specs.Words.{words_of}
 use Rattle.ged_schema.specs.Rows.{as_row}
 use Rattle.ged_canon.specs.inner.Working.{is_brief_word}
-use Rattle.ged_canon.proofs.BriefTests.{brief_from, from_brief}
+use Rattle.ged_canon.proofs.writer.BriefTests.{brief_from, from_brief}
 use Rattle.ged_canon.proofs.writer.brief.is_brief_line.Goals as goal
 
 pub returns : goal.returns

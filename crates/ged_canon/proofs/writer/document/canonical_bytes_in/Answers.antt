@@ -4,9 +4,9 @@ use Rattle.ged_schema.specs.declared.context.Context.TheVariants.{File}
 use Rattle.ged_canon.specs.declared.writer.siblings.Sibling.{Sibling}
 use Rattle.ged_canon.specs.inner.Working.{is_named, canon, AreNumbersOf, IsNumberingOf}
 use Rattle.ged_canon.specs.inner.Siblings.{StandsIn, sibling_trees, sibling_names}
-use Rattle.ged_canon.proofs.Normality.{canon_is_normal_form}
-use Rattle.ged_canon.proofs.CanonParts.{sorted_known, sorted_distinct}
-use Rattle.ged_canon.proofs.RecordBytes.{names_listed, sorted_named, siblings_stand, file_spelled, only_form}
+use Rattle.ged_canon.proofs.theory.Normality.{canon_is_normal_form}
+use Rattle.ged_canon.proofs.writer.Parts.{sorted_known, sorted_distinct}
+use Rattle.ged_canon.proofs.writer.Records.{names_listed, sorted_named, siblings_stand, file_spelled, only_form}
 use Rattle.ged_canon.proofs.writer.document.canonical_bytes_in.Goals as goal
 
 pub numbers_in_order-requires-clause-within : goal.numbers_in_order-requires-clause-within

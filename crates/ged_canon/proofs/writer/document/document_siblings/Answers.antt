@@ -5,8 +5,8 @@ use Rattle.ged_schema.specs.declared.context.Context.TheVariants.{File}
 use Rattle.ged_canon.specs.declared.writer.siblings.Sibling.{Sibling}
 use Rattle.ged_canon.specs.inner.Working.{is_named}
 use Rattle.ged_canon.specs.inner.Siblings.{StandsIn, sibling_trees}
-use Rattle.ged_canon.proofs.RecordBytes.{document_listed, records_listed}
-use Rattle.ged_canon.proofs.SortedTail.{headed}
+use Rattle.ged_canon.proofs.writer.Records.{document_listed, records_listed}
+use Rattle.ged_canon.proofs.writer.SortedTail.{headed}
 use Rattle.ged_canon.proofs.writer.document.document_siblings.Goals as goal
 
 pub returns-clause-within : goal.returns-clause-within

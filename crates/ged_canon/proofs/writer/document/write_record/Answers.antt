@@ -12,9 +12,9 @@ use Rattle.ged_schema.specs.Rows.{as_row}
 use Rattle.ged_schema.specs.Tables.{row, below_row}
 use Rattle.ged_canon.specs.inner.Working.{number_of, sorted}
 use Rattle.ged_canon.specs.inner.Writing.{brief_sibling}
-use Rattle.ged_canon.proofs.WriteRuns.{tree_lines}
-use Rattle.ged_canon.proofs.Numbering.{numbered_name}
-use Rattle.ged_canon.proofs.RecordBytes.{no_number, own_identifier, own_stands, below_stands, record_spelled}
+use Rattle.ged_canon.proofs.writer.RunsWritten.{tree_lines}
+use Rattle.ged_canon.proofs.theory.Numbering.{numbered_name}
+use Rattle.ged_canon.proofs.writer.Records.{no_number, own_identifier, own_stands, below_stands, record_spelled}
 use Rattle.ged_canon.proofs.writer.document.write_record.Goals as goal
 
 pub write_tree-requires-clause-run : goal.write_tree-requires-clause-run

@@ -7,7 +7,7 @@ use Rattle.ged_canon.specs.declared.writer.siblings.Sibling.{Sibling}
 use Rattle.ged_canon.specs.inner.Working.{is_named}
 use Rattle.ged_canon.specs.inner.Siblings.{StandsIn, sibling_trees}
 use Rattle.ged_canon.specs.inner.CanonBytes.{spelled_siblings}
-use Rattle.ged_canon.proofs.RecordBytes.{first_stands, others_stand, left_split, left_after}
+use Rattle.ged_canon.proofs.writer.Records.{first_stands, others_stand, left_split, left_after}
 use Rattle.ged_canon.proofs.writer.document.write_records.Goals as goal
 
 abbrev other : Sibling

@@ -3,8 +3,8 @@ use Rattle.std.specs.Option.{option_copied}
 use Rattle.ged_tree.specs.Places.{structure_at}
 use Rattle.ged_schema.specs.Rows.{as_row}
 use Rattle.ged_canon.specs.inner.Working.{brief}
-use Rattle.ged_canon.proofs.Brief.{brief_payload_same}
-use Rattle.ged_canon.proofs.WriteLemmas.{no_row_kept, unshortened}
+use Rattle.ged_canon.proofs.theory.Brief.{brief_payload_same}
+use Rattle.ged_canon.proofs.writer.OwnLines.{no_row_kept, unshortened}
 use Rattle.ged_canon.proofs.writer.lines.is_kept.Goals as goal
 
 pub returns-in_default : goal.returns-in_default

@@ -4,7 +4,7 @@ use Rattle.ged_line.specs.Lines.{Pointer, line_parts}
 use Rattle.ged_line.specs.Spelling.{spelling}
 use Rattle.ged_canon.specs.Normal.{numbered}
 use Rattle.ged_canon.specs.inner.Working.{number_among}
-use Rattle.ged_canon.proofs.NewNames.{kept_name, given_number}
+use Rattle.ged_canon.proofs.writer.NewNames.{kept_name, given_number}
 use Rattle.ged_canon.proofs.writer.lines.write_pointer.Goals as goal
 
 pub returns-then-number-eq0 : goal.returns-then-number-eq0

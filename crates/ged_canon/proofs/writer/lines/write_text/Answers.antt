@@ -5,8 +5,8 @@ use Rattle.ged_line.specs.Spelling.{spelling}
 use Rattle.ged_tree.specs.DocumentLines.{line_value}
 use Rattle.ged_schema.specs.Rows.{as_row}
 use Rattle.ged_canon.specs.inner.Working.{brief_line}
-use Rattle.ged_canon.proofs.Brief.{brief_same}
-use Rattle.ged_canon.proofs.WriteLemmas.{line_no_row}
+use Rattle.ged_canon.proofs.theory.Brief.{brief_same}
+use Rattle.ged_canon.proofs.writer.OwnLines.{line_no_row}
 use Rattle.ged_canon.proofs.writer.lines.write_text.Goals as goal
 
 pub write_parts-requires : goal.write_parts-requires

@@ -14,9 +14,9 @@ use Rattle.ged_link.specs.LinkFaults.{HasXref}
 use Rattle.ged_canon.specs.declared.writer.siblings.Sibling.{Sibling}
 use Rattle.ged_canon.specs.inner.Siblings.{sibling_names, StandsIn}
 use Rattle.ged_canon.specs.inner.Working.{is_named, used_xref}
-use Rattle.ged_canon.proofs.NewNumbers.{ArePlaces, places_more, numbered_among}
-use Rattle.ged_canon.proofs.SiblingNames.{siblings_named, fresh_sibling, unchanged, unknown_dropped}
-use Rattle.ged_canon.proofs.UseTests.{kept_used, dropped_unused}
+use Rattle.ged_canon.proofs.writer.NewNumbers.{ArePlaces, places_more, numbered_among}
+use Rattle.ged_canon.proofs.writer.SiblingNames.{siblings_named, fresh_sibling, unchanged, unknown_dropped}
+use Rattle.ged_canon.proofs.writer.UseTests.{kept_used, dropped_unused}
 use Rattle.ged_canon.proofs.writer.siblings.numbers_in_order.Goals as goal
 use Rattle.ged_canon.proofs.writer.siblings.numbers_in_order.Goals.{in-Some+in-Some-record_with+then-is_used, in-Some+in-Some-record_with+else-is_used, in-Some+in_default-record_with, in_default}
 

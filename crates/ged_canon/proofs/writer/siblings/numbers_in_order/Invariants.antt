@@ -1,6 +1,6 @@
 use Rattle.std.proofs.Common.{◌≡◌, ◌≤◌, length, take}
 use Rattle.ged_canon.specs.inner.Siblings.{sibling_names}
-use Rattle.ged_canon.proofs.NewNumbers.{ArePlaces}
+use Rattle.ged_canon.proofs.writer.NewNumbers.{ArePlaces}
 use Rattle.ged_canon.proofs.writer.siblings.numbers_in_order.Given as goal
 
 -- the names so far have their numbers

@@ -1,8 +1,8 @@
 use Rattle.std.proofs.Common.{sym, ap, ◌∙◌}
 use Rattle.std.proofs.lemmas.Cmp.{tied_itself}
 use Rattle.ged_line.specs.Names.{tag_order}
-use Rattle.ged_canon.proofs.Texts.{equal_bytes}
-use Rattle.ged_canon.proofs.Sorting.{tags_total}
+use Rattle.ged_canon.proofs.theory.Texts.{equal_bytes}
+use Rattle.ged_canon.proofs.theory.Sorting.{tags_total}
 use Rattle.ged_canon.proofs.writer.siblings.order.Goals as goal
 
 -- a tag stands neither before nor behind itself

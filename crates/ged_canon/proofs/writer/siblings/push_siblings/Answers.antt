@@ -5,8 +5,8 @@ use Rattle.ged_link.specs.Links.{identifiers}
 use Rattle.ged_canon.specs.declared.writer.siblings.Sibling.{Sibling}
 use Rattle.ged_canon.specs.inner.Working.{used_trees, each_sorted}
 use Rattle.ged_canon.specs.inner.Siblings.{StandsIn, sibling_trees}
-use Rattle.ged_canon.proofs.SiblingTrees.{first_sibling, all_with}
-use Rattle.ged_canon.proofs.SortedTail.{still_kept, still_long, one_more}
+use Rattle.ged_canon.proofs.writer.SiblingTrees.{first_sibling, all_with}
+use Rattle.ged_canon.proofs.writer.SortedTail.{still_kept, still_long, one_more}
 use Rattle.ged_canon.proofs.writer.siblings.push_siblings.Goals as goal
 
 pub loop-after-init : goal.loop-after-init

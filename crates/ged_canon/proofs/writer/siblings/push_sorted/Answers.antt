@@ -8,9 +8,9 @@ use Rattle.ged_tree.specs.Runs.{trees_between}
 use Rattle.ged_canon.specs.declared.writer.siblings.Sibling.{Sibling}
 use Rattle.ged_canon.specs.inner.Working.{grouped, sorted, used_trees}
 use Rattle.ged_canon.specs.inner.Siblings.{StandsIn, sibling_trees}
-use Rattle.ged_canon.proofs.StableSort.{grouped_is_sorted}
-use Rattle.ged_canon.proofs.SiblingTrees.{all_permuted}
-use Rattle.ged_canon.proofs.SortedTail.{kept_long, written_tail}
+use Rattle.ged_canon.proofs.writer.StableSort.{grouped_is_sorted}
+use Rattle.ged_canon.proofs.writer.SiblingTrees.{all_permuted}
+use Rattle.ged_canon.proofs.writer.SortedTail.{kept_long, written_tail}
 use Rattle.ged_canon.proofs.writer.siblings.push_sorted.Goals as goal
 
 either_way : {A E P : Type 0} (r : Result A E) → P → OnOk r P

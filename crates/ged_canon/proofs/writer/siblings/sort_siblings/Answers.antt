@@ -8,9 +8,9 @@ use Rattle.ged_schema.specs.Tables.{context_below}
 use Rattle.ged_canon.specs.declared.writer.siblings.Sibling.{Sibling}
 use Rattle.ged_canon.specs.inner.Working.{sorted, used_structure, brief_structure}
 use Rattle.ged_canon.specs.inner.Siblings.{sibling_structure, sibling_trees}
-use Rattle.ged_canon.proofs.Sorting.{tags_total}
-use Rattle.ged_canon.proofs.StableSort.{a_stable_sort_of_trees}
-use Rattle.ged_canon.proofs.SiblingTrees.{siblings_listed}
+use Rattle.ged_canon.proofs.theory.Sorting.{tags_total}
+use Rattle.ged_canon.proofs.writer.StableSort.{a_stable_sort_of_trees}
+use Rattle.ged_canon.proofs.writer.SiblingTrees.{siblings_listed}
 use Rattle.ged_canon.proofs.writer.siblings.sort_siblings.Goals as goal
 
 pub returns-clause-trees : goal.returns-clause-trees

@@ -17,8 +17,8 @@ use Rattle.ged_canon.specs.Steps.{renamed}
 use Rattle.ged_canon.specs.inner.Working.{used_xref, number_of, sorted, each_sorted}
 use Rattle.ged_canon.specs.inner.Siblings.{StandsIn, sibling_trees}
 use Rattle.ged_canon.specs.inner.Writing.{brief_sibling, renamed_sibling}
-use Rattle.ged_canon.proofs.SiblingTrees.{below_step}
-use Rattle.ged_canon.proofs.WriteRuns.{tree_lines, written_below, written_all, first_stands, below_stands, rest_stands, next_told, next_left, all_listed, in_order_sorted, run_first}
+use Rattle.ged_canon.proofs.writer.SiblingTrees.{below_step}
+use Rattle.ged_canon.proofs.writer.RunsWritten.{tree_lines, written_below, written_all, first_stands, below_stands, rest_stands, next_told, next_left, all_listed, in_order_sorted, run_first}
 use Rattle.ged_canon.proofs.writer.structures.+trees.Goals as goal
 
 -- A structure, and what stands below it.

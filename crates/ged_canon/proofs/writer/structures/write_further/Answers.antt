@@ -4,7 +4,7 @@ use Rattle.ged_line.specs.Lines.{is_line, line_parts}
 use Rattle.ged_line.specs.Spelling.{spelled_lines}
 use Rattle.ged_tree.specs.DocumentLines.{continued}
 use Rattle.std.specs.Prelude.{None}
-use Rattle.ged_canon.proofs.WriteLemmas.{cont_line, plain_at, further_more}
+use Rattle.ged_canon.proofs.writer.OwnLines.{cont_line, plain_at, further_more}
 use Rattle.ged_canon.proofs.writer.structures.write_further.Goals as goal
 
 pub loop-number-init : goal.loop-number-init

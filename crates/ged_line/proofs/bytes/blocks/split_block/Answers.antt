@@ -1,5 +1,5 @@
 use Rattle.std.proofs.Common.{arith}
-use Rattle.ged_line.proofs.BlockLemmas.{pieces_of_blocks}
+use Rattle.ged_line.proofs.bytes.WholeBlocks.{pieces_of_blocks}
 use Rattle.ged_line.proofs.bytes.blocks.split_block.Goals as goal
 
 pub returns-in-Some-clause-pieces : goal.returns-in-Some-clause-pieces

@@ -1,4 +1,4 @@
-use Rattle.ged_line.proofs.Banned.{told_by_control, told_by_noncharacter, told_by_search}
+use Rattle.ged_line.proofs.bytes.Banned.{told_by_control, told_by_noncharacter, told_by_search}
 use Rattle.ged_line.proofs.bytes.characters.has_banned.Goals as goal
 
 pub returns-then-has_control : goal.returns-then-has_control

@@ -1,4 +1,4 @@
-use Rattle.ged_line.proofs.Banned.{some_line_text}
+use Rattle.ged_line.proofs.bytes.Banned.{some_line_text}
 use Rattle.ged_line.proofs.bytes.characters.is_line_text.Goals as goal
 
 pub returns-then-not-is_empty : goal.returns-then-not-is_empty

@@ -1,8 +1,8 @@
 use Rattle.std.proofs.Common.{◌≡◌, ◌<◌, [], length, get_or, inl, arith}
 use Rattle.std.proofs.lemmas.Str.{IsUtf8-take, IsCharBoundary-before_ascii}
 use Rattle.ged_line.specs.Pieces.{HasNoEnd}
-use Rattle.ged_line.proofs.Banned.{has_banned-no_special, has_banned-before_special, no_end_special}
-use Rattle.ged_line.proofs.Cutting.{HasNoEnd-from_search, first_of_pieces, last_text, parts_of_cut}
+use Rattle.ged_line.proofs.bytes.Banned.{has_banned-no_special, has_banned-before_special, no_end_special}
+use Rattle.ged_line.proofs.bytes.Cutting.{HasNoEnd-from_search, first_of_pieces, last_text, parts_of_cut}
 use Rattle.ged_line.proofs.bytes.cut.cut_line.Goals as goal
 use Rattle.ged_line.proofs.bytes.cut.cut_line.Goals.{then-bytes-special-eq10-via-then-bytes-special-eq10, then-bytes-special-eq10-via-else-bytes-special-eq10+then-bytes-special-eq13}
 

@@ -1,7 +1,7 @@
 use Rattle.std.proofs.Common.{◌<◌, [], get_or, inl, arith}
 use Rattle.std.proofs.lemmas.Str.{IsUtf8-take, IsCharBoundary-before_ascii}
 use Rattle.ged_line.specs.Pieces.{HasNoEnd}
-use Rattle.ged_line.proofs.Cutting.{end_ascii, HasNoEnd-from_search, first_of_pieces, last_text, parts_of_cut}
+use Rattle.ged_line.proofs.bytes.Cutting.{end_ascii, HasNoEnd-from_search, first_of_pieces, last_text, parts_of_cut}
 use Rattle.ged_line.proofs.bytes.cut.cut_special_line.Goals as goal
 
 pub returns-in_default-clause-first : goal.returns-in_default-clause-first

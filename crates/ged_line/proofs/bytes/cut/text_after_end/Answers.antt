@@ -1,6 +1,6 @@
 use Rattle.std.proofs.Common.{◌≡◌, arith, get_or}
 use Rattle.std.proofs.lemmas.Str.{IsCharBoundary-after_ascii}
-use Rattle.ged_line.proofs.Cutting.{both_end_text, one_end_text, first_ascii}
+use Rattle.ged_line.proofs.bytes.Cutting.{both_end_text, one_end_text, first_ascii}
 use Rattle.ged_line.proofs.bytes.cut.text_after_end.Goals as goal
 use Rattle.ged_line.proofs.bytes.cut.text_after_end.Goals.{else-bytes-eq13-via-then-bytes-eq13+then-bytes-gt1+else-bytes-eq10, else-bytes-eq13-via-then-bytes-eq13+else-bytes-gt1, else-bytes-eq13-via-else-bytes-eq13}
 

@@ -1,6 +1,6 @@
 use Rattle.memchr.specs.Find.{Passes, is_byte2}
 use Rattle.ged_line.specs.Bytes.{carriage_return, line_feed}
-use Rattle.ged_line.proofs.EndLemmas.{none_marked, first_marked}
+use Rattle.ged_line.proofs.bytes.LineEnds.{none_marked, first_marked}
 use Rattle.ged_line.proofs.bytes.line_ends.end_in_run.Goals as goal
 
 pub returns-then-ends-eq0 : goal.returns-then-ends-eq0

@@ -1,5 +1,5 @@
 use Rattle.std.proofs.Common.{arith}
-use Rattle.ged_line.proofs.EndLemmas.{marks_of_run}
+use Rattle.ged_line.proofs.bytes.LineEnds.{marks_of_run}
 use Rattle.ged_line.proofs.bytes.line_ends.marks.Goals as goal
 
 pub returns : goal.returns

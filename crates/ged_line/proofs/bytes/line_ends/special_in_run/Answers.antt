@@ -1,6 +1,6 @@
 use Rattle.memchr.specs.Find.{Passes}
 use Rattle.ged_line.specs.inner.ByteTests.{is_special}
-use Rattle.ged_line.proofs.EndLemmas.{none_marked, first_marked}
+use Rattle.ged_line.proofs.bytes.LineEnds.{none_marked, first_marked}
 use Rattle.ged_line.proofs.bytes.line_ends.special_in_run.Goals as goal
 
 pub returns-then-marks-eq0 : goal.returns-then-marks-eq0

@@ -1,5 +1,5 @@
 use Rattle.std.proofs.Common.{arith}
-use Rattle.ged_line.proofs.EndLemmas.{special_marks_of_run}
+use Rattle.ged_line.proofs.bytes.LineEnds.{special_marks_of_run}
 use Rattle.ged_line.proofs.bytes.line_ends.special_marks.Goals as goal
 
 pub returns : goal.returns

@@ -1,5 +1,5 @@
 use Rattle.std.proofs.Common.{sym, ◌∙◌}
-use Rattle.ged_line.proofs.Scans.{banned_character}
+use Rattle.ged_line.proofs.line.Scans.{banned_character}
 use Rattle.ged_line.proofs.file.line_views.first_line.Goals as goal
 
 pub returns-then-has_banned-clause-line : goal.returns-then-has_banned-clause-line

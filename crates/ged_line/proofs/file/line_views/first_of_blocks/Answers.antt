@@ -1,7 +1,7 @@
 use Rattle.std.proofs.Common.{sym, ◌∙◌, ap, ◌∷◌, ◌++◌}
 use Rattle.ged_line.specs.Pieces.{pieces_of}
-use Rattle.ged_line.proofs.Cutting.{first_of_pieces, pieces_only}
-use Rattle.ged_line.proofs.BlockLemmas.{no_pieces, none_before, first_of_block}
+use Rattle.ged_line.proofs.bytes.Cutting.{first_of_pieces, pieces_only}
+use Rattle.ged_line.proofs.bytes.WholeBlocks.{no_pieces, none_before, first_of_block}
 use Rattle.ged_line.proofs.file.line_views.first_of_blocks.Goals as goal
 
 pub returns-in_default : goal.returns-in_default

@@ -1,5 +1,5 @@
 use Rattle.ged_line.specs.Pieces.{pieces_of}
-use Rattle.ged_line.proofs.BlockLemmas.{none_before}
+use Rattle.ged_line.proofs.bytes.WholeBlocks.{none_before}
 use Rattle.ged_line.proofs.file.line_views.lines_behind_mark.Goals as goal
 
 pub returns : goal.returns

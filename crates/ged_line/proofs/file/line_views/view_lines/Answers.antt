@@ -1,8 +1,8 @@
 use Rattle.std.proofs.Common.{sym, subst, ◌++◌}
 use Rattle.ged_line.specs.Pieces.{AreCutInto, pieces_of}
-use Rattle.ged_line.proofs.Cutting.{are_cut}
-use Rattle.ged_line.proofs.FileLaws.{length-ArePiecesOf}
-use Rattle.ged_line.proofs.BlockLemmas.{none_before}
+use Rattle.ged_line.proofs.bytes.Cutting.{are_cut}
+use Rattle.ged_line.proofs.file.FileLaws.{length-ArePiecesOf}
+use Rattle.ged_line.proofs.bytes.WholeBlocks.{none_before}
 use Rattle.ged_line.proofs.file.line_views.view_lines.Goals as goal
 
 pub returns-clause-pieces : goal.returns-clause-pieces

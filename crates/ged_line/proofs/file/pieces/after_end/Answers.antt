@@ -1,5 +1,5 @@
 use Rattle.std.proofs.Common.{arith}
-use Rattle.ged_line.proofs.Cutting.{both_end, one_end}
+use Rattle.ged_line.proofs.bytes.Cutting.{both_end, one_end}
 use Rattle.ged_line.proofs.file.pieces.after_end.Goals as goal
 use Rattle.ged_line.proofs.file.pieces.after_end.Goals.{else-bytes-eq13-via-then-bytes-eq13+then-bytes-gt1+else-bytes-eq10, else-bytes-eq13-via-then-bytes-eq13+else-bytes-gt1, else-bytes-eq13-via-else-bytes-eq13}
 

@@ -1,4 +1,4 @@
-use Rattle.ged_line.proofs.Cutting.{are_cut}
+use Rattle.ged_line.proofs.bytes.Cutting.{are_cut}
 use Rattle.ged_line.proofs.file.pieces.cut_pieces.Goals as goal
 
 pub returns : goal.returns

@@ -1,7 +1,7 @@
 use Rattle.std.proofs.Common.{Some, None, [], ◌∷◌, sym, arith}
 use Rattle.std.proofs.lemmas.List.{append-nil}
 use Rattle.std.proofs.lemmas.Str.Pattern.{strip_suffix_char}
-use Rattle.ged_line.proofs.Respelling.{text_filled, text_stripped, text_kept}
+use Rattle.ged_line.proofs.file.Respelling.{text_filled, text_stripped, text_kept}
 use Rattle.ged_line.proofs.file.respell.canonical_text.Goals as goal
 
 pub returns-in-Some-clause-spelled : goal.returns-in-Some-clause-spelled

@@ -1,5 +1,5 @@
 use Rattle.std.proofs.Common.{◌<◌, length, arith}
-use Rattle.ged_line.proofs.Respelling.{HaveRespelled-more, HaveRespelled-end, HaveRespelled-fault, HaveRespelled-room}
+use Rattle.ged_line.proofs.file.Respelling.{HaveRespelled-more, HaveRespelled-end, HaveRespelled-fault, HaveRespelled-room}
 use Rattle.ged_line.proofs.file.respell.respell_pieces.Goals as goal
 
 pub overflow_add-line : goal.overflow_add-line

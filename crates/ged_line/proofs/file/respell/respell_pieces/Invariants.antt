@@ -1,4 +1,4 @@
-use Rattle.ged_line.proofs.Respelling.{HaveRespelled}
+use Rattle.ged_line.proofs.file.Respelling.{HaveRespelled}
 use Rattle.ged_line.proofs.file.respell.respell_pieces.Given as goal
 
 -- the lines so far are respelled

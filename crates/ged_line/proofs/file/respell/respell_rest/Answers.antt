@@ -1,8 +1,8 @@
 use Rattle.std.proofs.Common.{◌+◌, ◌≤◌, length, arith}
 use Rattle.ged_line.specs.Pieces.{pieces_of}
-use Rattle.ged_line.proofs.Cutting.{are_cut, pieces_of_nil}
-use Rattle.ged_line.proofs.FileLaws.{StopsIn-few}
-use Rattle.ged_line.proofs.Respelling.{HaveRespelled-start, HaveRespelled-block, HaveRespelled-block_fault, HaveRespelled-end, HaveRespelled-few}
+use Rattle.ged_line.proofs.bytes.Cutting.{are_cut, pieces_of_nil}
+use Rattle.ged_line.proofs.file.FileLaws.{StopsIn-few}
+use Rattle.ged_line.proofs.file.Respelling.{HaveRespelled-start, HaveRespelled-block, HaveRespelled-block_fault, HaveRespelled-end, HaveRespelled-few}
 use Rattle.ged_line.proofs.file.respell.respell_rest.Goals as goal
 
 pub loop-unread-init : goal.loop-unread-init

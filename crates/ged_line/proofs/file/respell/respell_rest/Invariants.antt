@@ -1,6 +1,6 @@
 use Rattle.std.proofs.Common.{length}
 use Rattle.ged_line.specs.Pieces.{pieces_of}
-use Rattle.ged_line.proofs.Respelling.{HaveRespelled}
+use Rattle.ged_line.proofs.file.Respelling.{HaveRespelled}
 use Rattle.ged_line.proofs.file.respell.respell_rest.Given as goal
 
 -- the lines of the blocks so far are respelled

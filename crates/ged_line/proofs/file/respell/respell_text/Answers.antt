@@ -1,10 +1,10 @@
 use Rattle.std.proofs.Common.{◌<◌, ◌++◌, length, arith, ap, sym, ◌∙◌}
 use Rattle.std.proofs.lemmas.List.{append_assoc}
 use Rattle.ged_line.specs.Pieces.{pieces_of}
-use Rattle.ged_line.proofs.Cutting.{parts_of_first, nil_of, pieces_of_nil}
-use Rattle.ged_line.proofs.Respelling.{IsRespelledTo-start, IsRespelledTo-kept, IsRespelledTo-copied, IsRespelledTo-end, HaveRespelled-fault, HaveRespelled-room}
+use Rattle.ged_line.proofs.bytes.Cutting.{parts_of_first, nil_of, pieces_of_nil}
+use Rattle.ged_line.proofs.file.Respelling.{IsRespelledTo-start, IsRespelledTo-kept, IsRespelledTo-copied, IsRespelledTo-end, HaveRespelled-fault, HaveRespelled-room}
 use Rattle.ged_line.specs.declared.fault.LineFault.TheVariants.{BannedCharacter}
-use Rattle.ged_line.proofs.Scans.{banned_character}
+use Rattle.ged_line.proofs.line.Scans.{banned_character}
 use Rattle.ged_line.proofs.file.respell.respell_text.Goals as goal
 
 pub loop-rest-init : goal.loop-rest-init

@@ -1,7 +1,7 @@
 use Rattle.std.proofs.Common.{length}
 use denote.Text.{Utf8}
 use denote.Shadow.{shadow}
-use Rattle.ged_line.proofs.Respelling.{IsRespelledTo}
+use Rattle.ged_line.proofs.file.Respelling.{IsRespelledTo}
 use Rattle.ged_line.proofs.file.respell.respell_text.Given as goal
 
 -- the lines so far are respelled, but for those that are not copied yet

@@ -1,4 +1,4 @@
-use Rattle.ged_line.proofs.WholeLemmas.{first_pieces, later_pieces}
+use Rattle.ged_line.proofs.file.WholeLines.{first_pieces, later_pieces}
 use Rattle.ged_line.proofs.file.whole_lines.further_lines.Goals as goal
 
 pub returns-in-None : goal.returns-in-None

@@ -1,4 +1,4 @@
-use Rattle.ged_line.proofs.WholeLemmas.{one_whole}
+use Rattle.ged_line.proofs.file.WholeLines.{one_whole}
 use Rattle.ged_line.proofs.file.whole_lines.one_whole_front.Goals as goal
 
 pub returns : goal.returns

@@ -1,7 +1,7 @@
 use Rattle.std.proofs.Common.{inr, sym, subst}
 use Rattle.ged_line.specs.Pieces.{HasNoEnd}
-use Rattle.ged_line.proofs.Cutting.{HasNoEnd-whole}
-use Rattle.ged_line.proofs.WholeLemmas.{EndsLine-taken, HasNoEnd-dropped}
+use Rattle.ged_line.proofs.bytes.Cutting.{HasNoEnd-whole}
+use Rattle.ged_line.proofs.file.WholeLines.{EndsLine-taken, HasNoEnd-dropped}
 use Rattle.ged_line.proofs.file.whole_lines.split_whole.Goals as goal
 
 pub returns-in-Some-clause-whole : goal.returns-in-Some-clause-whole

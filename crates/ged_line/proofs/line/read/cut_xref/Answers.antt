@@ -1,6 +1,6 @@
 use Rattle.std.proofs.Common.{◌∷◌, None, refl, sym, arith}
 use Rattle.std.proofs.lemmas.Str.Pattern.{strip_prefix_char}
-use Rattle.ged_line.proofs.Reading.{lacks_if_none, cut_if_some, no_xref, not_xref, no_space_after}
+use Rattle.ged_line.proofs.line.Reading.{lacks_if_none, cut_if_some, no_xref, not_xref, no_space_after}
 use Rattle.ged_line.proofs.line.read.cut_xref.Goals as goal
 
 pub returns-in_err-name : goal.returns-in_err-name

@@ -1,5 +1,5 @@
 use Rattle.std.proofs.Common.{inr, refl, sym}
-use Rattle.ged_line.proofs.Levels.{level_one, level_two, level_many}
+use Rattle.ged_line.proofs.line.Levels.{level_one, level_two, level_many}
 use Rattle.ged_line.proofs.line.read.read_level.Goals as goal
 
 pub returns-in-len1 : goal.returns-in-len1

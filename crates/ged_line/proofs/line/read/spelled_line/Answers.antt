@@ -1,6 +1,6 @@
 use Rattle.std.proofs.Common.{◌≡◌, sym, ◌∙◌, ap, true}
 use Rattle.ged_line.specs.Characters.{has_banned}
-use Rattle.ged_line.proofs.Scans.{not_utf8, banned_character}
+use Rattle.ged_line.proofs.line.Scans.{not_utf8, banned_character}
 use Rattle.ged_line.proofs.line.read.spelled_line.Goals as goal
 
 pub returns-in_default : goal.returns-in_default

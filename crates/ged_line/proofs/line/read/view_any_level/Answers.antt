@@ -1,6 +1,6 @@
 use Rattle.std.proofs.Common.{inl, refl, arith}
 use Rattle.std.proofs.lemmas.Result.{err_from_is_err_and}
-use Rattle.ged_line.proofs.Reading.{lacks_if_none, cut_if_some, no_level, level_fault}
+use Rattle.ged_line.proofs.line.Reading.{lacks_if_none, cut_if_some, no_level, level_fault}
 use Rattle.ged_line.proofs.line.read.view_any_level.Goals as goal
 
 pub returns-in_default : goal.returns-in_default

@@ -1,6 +1,6 @@
 use Rattle.std.proofs.Common.{sym, arith}
 use Rattle.std.proofs.lemmas.Str.{IsCharBoundary-after_ascii}
-use Rattle.ged_line.proofs.Fast.{level_digit}
+use Rattle.ged_line.proofs.line.QuickReading.{level_digit}
 use Rattle.ged_line.proofs.line.read.view_level.Goals as goal
 
 pub range_from-requires : goal.range_from-requires

@@ -1,4 +1,4 @@
-use Rattle.ged_line.proofs.LineLaws.{only_line, none_at_line}
+use Rattle.ged_line.proofs.line.LineLaws.{only_line, none_at_line}
 use Rattle.ged_line.proofs.line.read.view_line.Goals as goal
 
 pub returns-clause-only : goal.returns-clause-only

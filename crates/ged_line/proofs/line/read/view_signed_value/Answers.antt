@@ -1,7 +1,7 @@
 use Rattle.std.proofs.Common.{refl, arith, true}
 use Rattle.std.proofs.lemmas.Str.Pattern.{starts_char}
-use Rattle.ged_line.proofs.Values.{starts_with_sign}
-use Rattle.ged_line.proofs.Fast.{signed_text}
+use Rattle.ged_line.proofs.line.Values.{starts_with_sign}
+use Rattle.ged_line.proofs.line.QuickReading.{signed_text}
 use Rattle.ged_line.proofs.line.read.view_signed_value.Goals as goal
 
 pub returns-then-starts_with : goal.returns-then-starts_with

@@ -1,7 +1,7 @@
 use Rattle.std.proofs.Common.{◌≡◌, refl, sym, ap, ◌∙◌, arith, get_or, rules}
 use Rattle.std.proofs.lemmas.Str.{IsCharBoundary-after_ascii}
 use Rattle.ged_line.specs.Names.{is_tag}
-use Rattle.ged_line.proofs.Fast.{front_boundary, tag_cut, IsBehindTag, all_characters, word_is_tag, no_tag, behind_none, behind_space}
+use Rattle.ged_line.proofs.line.QuickReading.{front_boundary, tag_cut, IsBehindTag, all_characters, word_is_tag, no_tag, behind_none, behind_space}
 use Rattle.ged_line.proofs.line.read.view_tag.Goals as goal
 use Rattle.ged_line.proofs.line.read.view_tag.Goals.{in-empty, in-32}
 

@@ -1,7 +1,7 @@
 use Rattle.std.proofs.Common.{option_map}
 use Rattle.std.proofs.lemmas.Result.{err_from_is_err_and}
 use Rattle.ged_line.specs.Views.{viewed_value}
-use Rattle.ged_line.proofs.Scans.{empty_at, level_at, leveled, xref_cut, bad_xref, bad_tag, plain_value, value_fault, found_line}
+use Rattle.ged_line.proofs.line.Scans.{empty_at, level_at, leveled, xref_cut, bad_xref, bad_tag, plain_value, value_fault, found_line}
 use Rattle.ged_line.proofs.line.read.view_text.Goals as goal
 
 pub returns-in_err-xref : goal.returns-in_err-xref

@@ -1,8 +1,8 @@
 use Rattle.std.proofs.Common.{◌≡◌, ◌∷◌, ◌==◌, false, length, sym, arith, rules}
 use Rattle.std.proofs.lemmas.Bool.Decides.{nat_tests}
 use Rattle.std.proofs.lemmas.Str.{IsCharBoundary-after_ascii}
-use Rattle.ged_line.proofs.Values.{plain_text, starts_with_none}
-use Rattle.ged_line.proofs.Fast.{cut_first, plain_behind, signed_value}
+use Rattle.ged_line.proofs.line.Values.{plain_text, starts_with_none}
+use Rattle.ged_line.proofs.line.QuickReading.{cut_first, plain_behind, signed_value}
 use Rattle.ged_line.proofs.line.read.view_value.Goals as goal
 
 pub range_from-requires : goal.range_from-requires

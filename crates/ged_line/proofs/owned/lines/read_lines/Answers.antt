@@ -1,4 +1,4 @@
-use Rattle.ged_line.proofs.FileLaws.{only_read}
+use Rattle.ged_line.proofs.file.FileLaws.{only_read}
 use Rattle.ged_line.proofs.owned.lines.read_lines.Goals as goal
 
 pub returns-clause-only : goal.returns-clause-only

@@ -1,5 +1,5 @@
 use Rattle.std.proofs.Common.{◌≡◌, ◌∙◌, ap, length, ◌+◌}
-use Rattle.ged_line.proofs.FileLaws.{HaveReadFile-start, HaveReadFile-more, HaveReadFile-end, HaveReadFile-fault}
+use Rattle.ged_line.proofs.file.FileLaws.{HaveReadFile-start, HaveReadFile-more, HaveReadFile-end, HaveReadFile-fault}
 use Rattle.ged_line.proofs.owned.lines.read_pieces.Goals as goal
 
 pub loop-piece-init : goal.loop-piece-init

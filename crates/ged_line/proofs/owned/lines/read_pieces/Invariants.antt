@@ -1,4 +1,4 @@
-use Rattle.ged_line.proofs.FileLaws.{HaveReadFile}
+use Rattle.ged_line.proofs.file.FileLaws.{HaveReadFile}
 use Rattle.ged_line.proofs.owned.lines.read_pieces.Given as goal
 
 -- the pieces so far spell the lines

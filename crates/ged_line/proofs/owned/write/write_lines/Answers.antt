@@ -4,7 +4,7 @@ use Rattle.std.specs.List.{AllByRecursion}
 use Rattle.ged_line.specs.Lines.{LineParts, is_line}
 use Rattle.ged_line.specs.Files.{FileText}
 use Rattle.ged_line.specs.Spelling.{file_of}
-use Rattle.ged_line.proofs.FileLaws.{FileText-file_of}
+use Rattle.ged_line.proofs.file.FileLaws.{FileText-file_of}
 use Rattle.ged_line.proofs.owned.write.write_lines.Goals as goal
 
 pub returns-clause-text : goal.returns-clause-text

@@ -7,7 +7,7 @@ use Rattle.ged_canon.specs.declared.edition.Edition.TheVariants.{Second}
 use Rattle.ged_tool.specs.Profiles.{profile_of, edition_of}
 use Rattle.ged_tool.specs.Canon.{IsCanon}
 use Rattle.ged_tool.specs.Headline.{AgreesWithFirst}
-use Rattle.ged_tool.proofs.CanonLaws.{headline, agrees_with_first}
+use Rattle.ged_tool.proofs.calls.CanonLaws.{headline, agrees_with_first}
 use Rattle.ged_tool.proofs.calls.canonicalise.canonicalise_as.Goals as goal
 
 pub returns-in-Ok-canonical_bytes_in-clause-headline :

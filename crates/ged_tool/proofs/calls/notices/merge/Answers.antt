@@ -1,5 +1,5 @@
 use Rattle.std.proofs.Common.{rules}
-use Rattle.ged_tool.proofs.Merging.{merged_first, merged_second, merged_left, merged_right}
+use Rattle.ged_tool.proofs.calls.Merging.{merged_first, merged_second, merged_left, merged_right}
 use Rattle.ged_tool.proofs.calls.notices.merge.Goals.{in_default, in_default-2}
 use Rattle.ged_tool.proofs.calls.notices.merge.Goals as goal
 

@@ -1,7 +1,7 @@
 use Rattle.std.proofs.Common.{subst}
 use Rattle.std.proofs.lemmas.Result.{IfOk-weaker}
 use Rattle.ged_tool.specs.Notices.{AreNotices}
-use Rattle.ged_tool.proofs.Noticing.{are_notices, are_links}
+use Rattle.ged_tool.proofs.calls.Noticing.{are_notices, are_links}
 use Rattle.ged_tool.proofs.calls.notices.notices.Goals as goal
 
 pub returns-in-Whole : goal.returns-in-Whole

@@ -1,4 +1,4 @@
-use Rattle.ged_tool.proofs.Told.{lines_more, told_all}
+use Rattle.ged_tool.proofs.calls.Told.{lines_more, told_all}
 use Rattle.ged_tool.proofs.calls.notices.verdict.Goals as goal
 
 pub loop-notice-preserved : goal.loop-notice-preserved

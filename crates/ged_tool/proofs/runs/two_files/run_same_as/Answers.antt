@@ -1,4 +1,4 @@
-use Rattle.ged_tool.proofs.RunLemmas.{first_stops, second_stops, judging_stops}
+use Rattle.ged_tool.proofs.runs.Running.{first_stops, second_stops, judging_stops}
 use Rattle.ged_tool.proofs.runs.two_files.run_same_as.Goals as goal
 
 pub returns-in-Err-clause-bytes : goal.returns-in-Err-clause-bytes

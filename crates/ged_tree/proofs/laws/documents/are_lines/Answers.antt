@@ -1,4 +1,4 @@
-use Rattle.ged_tree.proofs.Shown.{shown}
+use Rattle.ged_tree.proofs.laws.Shown.{shown}
 use Rattle.ged_tree.proofs.laws.documents.are_lines.Goals as goal
 
 pub returns : goal.returns

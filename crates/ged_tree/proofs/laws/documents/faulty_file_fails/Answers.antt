@@ -1,4 +1,4 @@
-use Rattle.ged_tree.proofs.FileFaultLaws.{faulty_fails}
+use Rattle.ged_tree.proofs.laws.FileFaults.{faulty_fails}
 use Rattle.ged_tree.proofs.laws.documents.faulty_file_fails.Goals as goal
 
 pub returns : goal.returns

@@ -1,4 +1,4 @@
-use Rattle.ged_tree.proofs.Law.{one_document}
+use Rattle.ged_tree.proofs.theory.OneDocument.{one_document}
 use Rattle.ged_tree.proofs.laws.documents.none_shared.Goals as goal
 
 pub returns : goal.returns

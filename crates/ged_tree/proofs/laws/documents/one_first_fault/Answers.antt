@@ -1,4 +1,4 @@
-use Rattle.ged_tree.proofs.FirstFaults.{one_fault}
+use Rattle.ged_tree.proofs.theory.FirstFaults.{one_fault}
 use Rattle.ged_tree.proofs.laws.documents.one_first_fault.Goals as goal
 
 pub returns : goal.returns

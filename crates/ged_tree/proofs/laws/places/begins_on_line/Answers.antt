@@ -1,4 +1,4 @@
-use Rattle.ged_tree.proofs.LineLemmas.{begins_on_line}
+use Rattle.ged_tree.proofs.laws.LinesAtPlaces.{begins_on_line}
 use Rattle.ged_tree.proofs.laws.places.begins_on_line.Goals as goal
 
 pub returns : goal.returns

@@ -1,4 +1,4 @@
-use Rattle.ged_tree.proofs.LineLemmas.{counted}
+use Rattle.ged_tree.proofs.laws.LinesAtPlaces.{counted}
 use Rattle.ged_tree.proofs.laws.places.counted_lines.Goals as goal
 
 pub returns : goal.returns

@@ -1,4 +1,4 @@
-use Rattle.ged_tree.proofs.OneToOne.{nodes_by_trees, records_by_trees, documents_by_trees}
+use Rattle.ged_tree.proofs.laws.OneToOne.{nodes_by_trees, records_by_trees, documents_by_trees}
 use Rattle.ged_tree.proofs.laws.places.known_by_trees.Goals as goal
 
 pub returns : goal.returns

@@ -1,4 +1,4 @@
-use Rattle.ged_tree.proofs.EntryLemmas.{entry_at_place}
+use Rattle.ged_tree.proofs.laws.Entries.{entry_at_place}
 use Rattle.ged_tree.proofs.laws.places.listed_at_place.Goals as goal
 
 pub returns : goal.returns

@@ -1,5 +1,5 @@
 use Rattle.std.proofs.Common.{arith}
-use Rattle.ged_tree.proofs.LineLemmas.{next_line}
+use Rattle.ged_tree.proofs.laws.LinesAtPlaces.{next_line}
 use Rattle.ged_tree.proofs.laws.places.next_line.Goals as goal
 
 pub returns : goal.returns

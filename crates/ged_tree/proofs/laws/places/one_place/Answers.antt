@@ -1,4 +1,4 @@
-use Rattle.ged_tree.proofs.PathLemmas.{leads_one}
+use Rattle.ged_tree.proofs.theory.Paths.{leads_one}
 use Rattle.ged_tree.proofs.laws.places.one_place.Goals as goal
 
 pub returns : goal.returns

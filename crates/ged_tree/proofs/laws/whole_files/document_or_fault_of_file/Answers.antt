@@ -1,6 +1,6 @@
 use Rattle.std.proofs.Common.{◌<◌, ◌^◌, ◌+◌, [], ◌∷◌, ◌++◌, length, refl, rules}
-use Rattle.ged_tree.proofs.ReadLemmas.{HaveReadFile-start, HaveReadFile-more, HaveReadFile-end, HaveReadFile-fault}
-use Rattle.ged_tree.proofs.WholeFiles.{of_lines, of_stop}
+use Rattle.ged_tree.proofs.theory.ReadLines.{HaveReadFile-start, HaveReadFile-more, HaveReadFile-end, HaveReadFile-fault}
+use Rattle.ged_tree.proofs.laws.WholeFiles.{of_lines, of_stop}
 use Rattle.ged_tree.proofs.laws.whole_files.document_or_fault_of_file.Goals as goal
 
 pub loop-piece-init : goal.loop-piece-init

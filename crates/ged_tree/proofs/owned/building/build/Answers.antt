@@ -1,4 +1,4 @@
-use Rattle.ged_tree.proofs.BuildLemmas.{written_fault, written_has, written_stop}
+use Rattle.ged_tree.proofs.theory.Building.{written_fault, written_has, written_stop}
 use Rattle.ged_tree.proofs.owned.building.build.Goals as goal
 
 pub first_fault-requires : goal.first_fault-requires

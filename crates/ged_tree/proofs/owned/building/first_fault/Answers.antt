@@ -1,5 +1,5 @@
 use Rattle.std.proofs.Common.{arith}
-use Rattle.ged_tree.proofs.BuildLemmas.{stop_first}
+use Rattle.ged_tree.proofs.theory.Building.{stop_first}
 use Rattle.ged_tree.proofs.owned.building.first_fault.Goals as goal
 
 pub returns-in-Some : goal.returns-in-Some

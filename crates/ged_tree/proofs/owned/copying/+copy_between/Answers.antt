@@ -1,8 +1,8 @@
 use Rattle.std.proofs.Common.{◌∙◌, sym, arith}
 use Rattle.ged_tree.specs.Trees.{trees_of}
 use Rattle.ged_tree.specs.Runs.{trees_between}
-use Rattle.ged_tree.proofs.RowLemmas.{beside_none}
-use Rattle.ged_tree.proofs.CopyLemmas.{copied_more, below_rest}
+use Rattle.ged_tree.proofs.theory.RowsAtPlaces.{beside_none}
+use Rattle.ged_tree.proofs.owned.Copies.{copied_more, below_rest}
 use Rattle.ged_tree.proofs.owned.copying.+copy_between.Goals as goal
 
 pub loop-after-preserved : goal.loop-after-preserved

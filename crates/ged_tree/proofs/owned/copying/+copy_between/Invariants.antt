@@ -1,7 +1,7 @@
 use Rattle.std.proofs.Common.{◌-◌, ◌≡◌, ◌≤◌}
 use Rattle.ged_tree.specs.Trees.{trees_of}
 use Rattle.ged_tree.specs.Runs.{trees_between, IsRun}
-use Rattle.ged_tree.proofs.RowLemmas.{beside}
+use Rattle.ged_tree.proofs.theory.RowsAtPlaces.{beside}
 use Rattle.ged_tree.specs.inner.Copies.{StandBelow}
 use Rattle.ged_tree.proofs.owned.copying.+copy_between.Given as goal
 

@@ -1,8 +1,8 @@
 use Rattle.std.proofs.Common.{◌∙◌, sym}
 use Rattle.ged_tree.specs.Records.{record_trees}
 use Rattle.ged_tree.specs.Runs.{trees_between}
-use Rattle.ged_tree.proofs.RowLemmas.{beside_none}
-use Rattle.ged_tree.proofs.CopyLemmas.{record_more, record_rest}
+use Rattle.ged_tree.proofs.theory.RowsAtPlaces.{beside_none}
+use Rattle.ged_tree.proofs.owned.Copies.{record_more, record_rest}
 use Rattle.ged_tree.proofs.owned.copying.copy_records.Goals as goal
 
 pub loop-after-preserved : goal.loop-after-preserved

@@ -2,7 +2,7 @@ use Rattle.std.proofs.Common.{◌-◌, ◌≡◌, true}
 use Rattle.ged_tree.specs.Documents.{are_at}
 use Rattle.ged_tree.specs.Records.{record_trees}
 use Rattle.ged_tree.specs.Runs.{trees_between, IsRun}
-use Rattle.ged_tree.proofs.RowLemmas.{beside}
+use Rattle.ged_tree.proofs.theory.RowsAtPlaces.{beside}
 use Rattle.ged_tree.proofs.owned.copying.copy_records.Given as goal
 
 abbrev pub invariant-loop-after : goal.invariant-loop-after

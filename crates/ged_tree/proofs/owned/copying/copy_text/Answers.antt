@@ -1,7 +1,7 @@
 use Rattle.std.proofs.Common.{arith}
 use Rattle.ged_tree.specs.Trees.{further_lines}
 use Rattle.ged_tree.specs.Places.{structure_at}
-use Rattle.ged_tree.proofs.CopyLemmas.{text_more}
+use Rattle.ged_tree.proofs.owned.Copies.{text_more}
 use Rattle.ged_tree.proofs.owned.copying.copy_text.Goals as goal
 
 pub loop-number-preserved : goal.loop-number-preserved

@@ -1,7 +1,7 @@
 use Rattle.std.proofs.Common.{◌∙◌, sym, ap}
 use Rattle.std.proofs.lemmas.Bool.{true≢false}
 use Rattle.ged_tree.specs.Documents.{is_document}
-use Rattle.ged_tree.proofs.CopyLemmas.{document_copied}
+use Rattle.ged_tree.proofs.owned.Copies.{document_copied}
 use Rattle.ged_tree.proofs.owned.copying.document_of.Goals as goal
 
 pub unreachable-requires-in-None : goal.unreachable-requires-in-None

@@ -1,5 +1,5 @@
 use Rattle.std.proofs.Common.{◌∙◌}
-use Rattle.ged_tree.proofs.PathLemmas.{leads_line, leads_nowhere}
+use Rattle.ged_tree.proofs.theory.Paths.{leads_line, leads_nowhere}
 use Rattle.ged_tree.proofs.owned.paths.line_of.Goals as goal
 
 pub returns-clause-found : goal.returns-clause-found

@@ -3,8 +3,8 @@ use Rattle.ged_line.specs.Bytes.{Bytes}
 use Rattle.ged_line.specs.Lines.{LineParts, LineText, xref_part}
 use Rattle.ged_tree.specs.Rows.{names_record}
 use Rattle.ged_tree.specs.Spelled.{shown_line}
-use Rattle.ged_tree.proofs.SpelledLemmas.{line_is_shown}
-use Rattle.ged_tree.proofs.KeptLemmas.{level_alone, level_kept}
+use Rattle.ged_tree.proofs.table.SpelledTexts.{line_is_shown}
+use Rattle.ged_tree.proofs.table.PackedStructures.{level_alone, level_kept}
 use Rattle.ged_tree.proofs.table.builder.structure_of_line.Goals as goal
 
 pub returns-clause-line : goal.returns-clause-line

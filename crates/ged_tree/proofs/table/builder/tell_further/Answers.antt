@@ -1,7 +1,7 @@
 use Rattle.std.proofs.Common.{◌-◌, arith}
 use Rattle.std.proofs.lemmas.Bool.{lt-ltb}
 use Rattle.std.proofs.lemmas.List.{length-set}
-use Rattle.ged_tree.proofs.KeptLemmas.{tells_further}
+use Rattle.ged_tree.proofs.table.PackedStructures.{tells_further}
 use Rattle.ged_tree.proofs.table.builder.tell_further.Goals as goal
 
 pub returns : goal.returns

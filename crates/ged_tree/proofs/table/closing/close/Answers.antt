@@ -3,7 +3,7 @@ use Rattle.std.proofs.lemmas.List.{length-set}
 use Rattle.ged_tree.specs.declared.table.packed.KeptStructure.{KeptStructure}
 use Rattle.ged_tree.specs.Rows.{IsClosed, deeper, kept_level, kept_levels}
 use Rattle.ged_tree.specs.inner.Tables.{end_from}
-use Rattle.ged_tree.proofs.CloseLemmas.{others_kept, closed_here}
+use Rattle.ged_tree.proofs.table.ClosedTables.{others_kept, closed_here}
 use Rattle.ged_tree.proofs.table.closing.close.Goals as goal
 
 pub loop-place-preserved : goal.loop-place-preserved

@@ -1,7 +1,7 @@
 use Rattle.std.proofs.Common.{◌<◌, ◌∙◌, refl, length, arith, slice_index_or}
 use Rattle.ged_tree.specs.declared.table.packed.KeptStructure.{KeptStructure}
 use Rattle.ged_tree.specs.Rows.{kept_level}
-use Rattle.ged_tree.proofs.AfterLemmas.{step_here}
+use Rattle.ged_tree.proofs.table.Afters.{step_here}
 use Rattle.ged_tree.proofs.table.closing.end_of_deeper.Goals as goal
 
 pub loop-next-preserved : goal.loop-next-preserved

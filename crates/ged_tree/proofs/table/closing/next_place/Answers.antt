@@ -1,7 +1,7 @@
 use Rattle.std.proofs.Common.{◌<◌, ◌∙◌, refl, length, arith, slice_index_or}
 use Rattle.ged_tree.specs.declared.table.packed.KeptStructure.{KeptStructure}
 use Rattle.ged_tree.specs.Rows.{kept_level}
-use Rattle.ged_tree.proofs.AfterLemmas.{below_fits, jump_closed, jump_is}
+use Rattle.ged_tree.proofs.table.Afters.{below_fits, jump_closed, jump_is}
 use Rattle.ged_tree.proofs.table.closing.next_place.Goals as goal
 
 pub loop-next-preserved : goal.loop-next-preserved

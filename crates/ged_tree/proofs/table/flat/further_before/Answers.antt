@@ -1,6 +1,6 @@
 use Rattle.std.proofs.Common.{leb, rules}
 use Rattle.std.proofs.lemmas.List.Sorted.{IsPartitionPoint-from_clause, IsPartitionedBy-leb}
-use Rattle.ged_tree.proofs.FurtherLemmas.{point_is}
+use Rattle.ged_tree.proofs.table.Continuations.{point_is}
 use Rattle.ged_tree.proofs.table.flat.further_before.Goals as goal
 
 pub returns : goal.returns

@@ -1,5 +1,5 @@
 use Rattle.std.proofs.Common.{rules, ◌<◌, ◌^◌, length, arith}
-use Rattle.ged_tree.proofs.FlattenLemmas.{taken_more, count_fits, fault_told, lines_few, read_all, stopped, unended}
+use Rattle.ged_tree.proofs.table.Flattening.{taken_more, count_fits, fault_told, lines_few, read_all, stopped, unended}
 use Rattle.ged_tree.proofs.table.flatten.flatten_lines.Goals as goal
 
 pub take-requires-clause-few : goal.take-requires-clause-few

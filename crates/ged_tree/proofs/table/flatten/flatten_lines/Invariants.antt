@@ -1,4 +1,4 @@
-use Rattle.ged_tree.proofs.FlattenLemmas.{HasTaken}
+use Rattle.ged_tree.proofs.table.Flattening.{HasTaken}
 use Rattle.ged_tree.proofs.table.flatten.flatten_lines.Given as goal
 
 -- the pieces so far spell the lines of the table

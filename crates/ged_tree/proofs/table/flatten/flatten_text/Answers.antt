@@ -2,7 +2,7 @@ use Rattle.std.proofs.Common.{rules, ◌<◌, ◌^◌, ap, length, arith}
 use Rattle.ged_line.specs.Lines.{LineText}
 use Rattle.ged_line.specs.Pieces.{IsFirstPiece, pieces_of}
 use Rattle.ged_line.proofs.CallerLemmas.{first_of_pieces}
-use Rattle.ged_tree.proofs.FlattenLemmas.{taken_in, begun_in, count_fits_in, lines_few_in, slice_of_rest, taken_more_in, fault_told, stopped, read_all, unended}
+use Rattle.ged_tree.proofs.table.Flattening.{taken_in, begun_in, count_fits_in, lines_few_in, slice_of_rest, taken_more_in, fault_told, stopped, read_all, unended}
 use Rattle.ged_tree.proofs.table.flatten.flatten_text.Goals as goal
 
 pub loop-line-init : goal.loop-line-init

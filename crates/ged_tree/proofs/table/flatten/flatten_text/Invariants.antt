@@ -1,7 +1,7 @@
 use Rattle.std.proofs.Common.{length}
 use denote.Text.{Utf8}
 use denote.Shadow.{shadow}
-use Rattle.ged_tree.proofs.FlattenLemmas.{HasTakenIn}
+use Rattle.ged_tree.proofs.table.Flattening.{HasTakenIn}
 use Rattle.ged_tree.proofs.table.flatten.flatten_text.Given as goal
 
 -- the pieces so far spell the lines of the table

@@ -1,7 +1,7 @@
 use Rattle.std.proofs.Common.{[], ltb, rules}
 use Rattle.std.proofs.lemmas.List.Sorted.{IsPartitionPoint-from_clause, IsPartitionedBy-ltb}
 use Rattle.ged_tree.specs.declared.table.packed.TextApart.{TextApart}
-use Rattle.ged_tree.proofs.ApartLemmas.{found_apart}
+use Rattle.ged_tree.proofs.table.Apart.{found_apart}
 use Rattle.ged_tree.proofs.table.packed.text_apart.Goals as goal
 
 pub bounds-apart-index : goal.bounds-apart-index

@@ -1,5 +1,5 @@
 use Rattle.std.proofs.Common.{sym, arith}
-use Rattle.ged_tree.proofs.TagLemmas.{length-decimal_one, length-decimal_two}
+use Rattle.ged_tree.proofs.table.Tags.{length-decimal_one, length-decimal_two}
 use Rattle.ged_tree.proofs.table.structure.digits_of_level.Goals as goal
 
 pub returns-then-level-lt10 : goal.returns-then-level-lt10

@@ -1,6 +1,6 @@
 use Rattle.std.proofs.Common.{◌≤◌, length, arith}
 use Rattle.std.proofs.lemmas.Str.{IsCharBoundary-after_ascii}
-use Rattle.ged_tree.proofs.PartLemmas.{first_is_space}
+use Rattle.ged_tree.proofs.table.TextParts.{first_is_space}
 use Rattle.ged_tree.proofs.table.structure.payload_behind_tag.Goals as goal
 
 pub range_from-requires-in_default : goal.range_from-requires-in_default

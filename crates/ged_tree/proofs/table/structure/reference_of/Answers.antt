@@ -1,6 +1,6 @@
 use Rattle.std.proofs.Common.{◌∙◌, ap, sym}
 use Rattle.ged_tree.specs.Spelled.{shown_pointer}
-use Rattle.ged_tree.proofs.PartLemmas.{has_reference, name_is, other_name}
+use Rattle.ged_tree.proofs.table.TextParts.{has_reference, name_is, other_name}
 use Rattle.ged_tree.proofs.table.structure.reference_of.Goals as goal
 
 pub returns-else-eq : goal.returns-else-eq

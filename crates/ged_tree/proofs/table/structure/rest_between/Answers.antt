@@ -1,5 +1,5 @@
 use Rattle.std.proofs.Common.{◌∙◌, length, refl, arith}
-use Rattle.ged_tree.proofs.TagLemmas.{tag_boundary, part_boundary, tag_fits, rest_alone, rest_whole}
+use Rattle.ged_tree.proofs.table.Tags.{tag_boundary, part_boundary, tag_fits, rest_alone, rest_whole}
 use Rattle.ged_tree.proofs.table.structure.rest_between.Goals as goal
 
 pub overflow_add-end : goal.overflow_add-end

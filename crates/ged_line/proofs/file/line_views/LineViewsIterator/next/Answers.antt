@@ -1,8 +1,8 @@
 use Rattle.std.proofs.Common.{◌++◌, List, length, sym, ap, ◌∙◌, arith}
 use Rattle.ged_line.specs.Bytes.{Bytes}
 use Rattle.ged_line.specs.Pieces.{pieces_of}
-use Rattle.ged_line.proofs.BlockLemmas.{first_behind}
-use Rattle.ged_line.proofs.Cutting.{first_of_pieces}
+use Rattle.ged_line.proofs.bytes.WholeBlocks.{first_behind}
+use Rattle.ged_line.proofs.bytes.Cutting.{first_of_pieces}
 use Rattle.ged_line.proofs.file.line_views.LineViewsIterator.next.Goals as goal
 
 pub returns-in-Some-next-clause-steps : goal.returns-in-Some-next-clause-steps

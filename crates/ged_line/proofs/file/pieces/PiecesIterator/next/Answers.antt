@@ -1,6 +1,6 @@
 use Rattle.std.proofs.Common.{◌<◌, length, drop, ◌∷◌, sym, ap, subst, ◌∙◌, arith}
 use Rattle.ged_line.specs.Pieces.{pieces_of}
-use Rattle.ged_line.proofs.Cutting.{EndsWithRest, first_piece, last_piece}
+use Rattle.ged_line.proofs.bytes.Cutting.{EndsWithRest, first_piece, last_piece}
 use Rattle.ged_line.proofs.file.pieces.PiecesIterator.next.Goals as goal
 
 pub returns-in_default-clause-steps : goal.returns-in_default-clause-steps

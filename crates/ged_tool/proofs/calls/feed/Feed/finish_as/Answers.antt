@@ -3,7 +3,7 @@ use Rattle.ged_line.specs.Bytes.{Bytes}
 use Rattle.ged_tool.specs.Profiles.{profile_of}
 use Rattle.ged_tool.specs.Accepted.{FileFaultAt, IsRefusal}
 use Rattle.ged_tool.specs.Fed.{Fed}
-use Rattle.ged_tool.proofs.Feeding.{refusal_of}
+use Rattle.ged_tool.proofs.calls.Feeding.{refusal_of}
 use Rattle.ged_tool.proofs.calls.feed.Feed.finish_as.Goals as goal
 
 pub returns-in-Some-clause-refused : goal.returns-in-Some-clause-refused

@@ -1,9 +1,9 @@
 use Rattle.std.proofs.Common.{◌-◌, ◌++◌, length, refl, sym, ◌∙◌, ap}
 use Rattle.ged_line.specs.WholeLines.{EndsLine}
-use Rattle.ged_line.proofs.Cutting.{nil_of}
+use Rattle.ged_line.proofs.CallerLemmas.{nil_of}
 use Rattle.ged_tool.specs.Fed.{Fed}
 use Rattle.ged_tool.specs.Judged.{IsReady}
-use Rattle.ged_tool.proofs.Feeding.{ready_of, held_ready, none_told, still_ready, told_in_piece, ready_behind, some_end, whole_fault_stays}
+use Rattle.ged_tool.proofs.calls.Feeding.{ready_of, held_ready, none_told, still_ready, told_in_piece, ready_behind, some_end, whole_fault_stays}
 use Rattle.ged_tool.proofs.calls.feed.Feed.piece.Goals as goal
 
 pub invariant_of-self-then-is_empty : goal.invariant_of-self-then-is_empty

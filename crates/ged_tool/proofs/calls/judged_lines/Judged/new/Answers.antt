@@ -1,4 +1,4 @@
-use Rattle.ged_tool.proofs.Judging.{judged_none}
+use Rattle.ged_tool.proofs.calls.Judging.{judged_none}
 use Rattle.ged_tool.proofs.calls.judged_lines.Judged.new.Goals as goal
 
 pub returns : goal.returns

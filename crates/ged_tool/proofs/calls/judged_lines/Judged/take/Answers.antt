@@ -1,5 +1,5 @@
 use Rattle.std.proofs.Common.{rules, refl, ◌<◌, ◌+◌, ◌++◌, ◌^◌, length, length-append, arith}
-use Rattle.ged_tool.proofs.Judging.{judging_start, count_fits, judging_more, told_at_piece, told_at_line, judging_end}
+use Rattle.ged_tool.proofs.calls.Judging.{judging_start, count_fits, judging_more, told_at_piece, told_at_line, judging_end}
 use Rattle.ged_tool.proofs.calls.judged_lines.Judged.take.Goals as goal
 
 pub loop-spelled-init : goal.loop-spelled-init

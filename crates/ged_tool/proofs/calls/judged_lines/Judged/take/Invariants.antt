@@ -1,5 +1,5 @@
 use Rattle.std.proofs.Common.{◌++◌}
-use Rattle.ged_tool.proofs.Judging.{IsJudging}
+use Rattle.ged_tool.proofs.calls.Judging.{IsJudging}
 use Rattle.ged_tool.proofs.calls.judged_lines.Judged.take.Given as goal
 
 -- the pieces so far spell the lines that were judged

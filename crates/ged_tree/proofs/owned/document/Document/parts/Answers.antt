@@ -1,5 +1,5 @@
-use Rattle.ged_tree.proofs.FoundLemmas.{few_of_document}
-use Rattle.ged_tree.proofs.LineTests.{levels_of_document, lines_of_document}
+use Rattle.ged_tree.proofs.theory.Walks.{few_of_document}
+use Rattle.ged_tree.proofs.owned.LineTests.{levels_of_document, lines_of_document}
 use Rattle.ged_tree.specs.Records.{document_trees}
 use Rattle.ged_tree.proofs.owned.document.Document.parts.Goals as goal
 

@@ -1,6 +1,6 @@
 use Rattle.std.proofs.Common.{◌≡◌, ◌∙◌, true, false, arith, sym}
 use Rattle.ged_tree.specs.TreeFaults.{has_trailer}
-use Rattle.ged_tree.proofs.TakeLemmas.{finished, past, nothing}
+use Rattle.ged_tree.proofs.table.Taking.{finished, past, nothing}
 use Rattle.ged_tree.proofs.table.builder.TableBuilder.finish.Goals.{then-self-eq0, else-self-eq0}
 use Rattle.ged_tree.proofs.table.builder.TableBuilder.finish.Goals as goal
 

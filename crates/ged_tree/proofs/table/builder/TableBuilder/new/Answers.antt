@@ -1,6 +1,6 @@
 use Rattle.std.proofs.Common.{refl}
 use Rattle.ged_tree.specs.TreeFaults.{start}
-use Rattle.ged_tree.proofs.TakeLemmas.{none_kept}
+use Rattle.ged_tree.proofs.table.Taking.{none_kept}
 use Rattle.ged_tree.proofs.table.builder.TableBuilder.new.Goals as goal
 
 pub returns-clause-lines : goal.returns-clause-lines

@@ -1,7 +1,7 @@
 use Rattle.std.proofs.Common.{sym, refl, ◌∙◌}
 use Rattle.ged_tree.specs.declared.forest.continuations.FurtherLine.{FurtherLine}
 use Rattle.ged_tree.specs.declared.table.builder.TableBuilder.{TableBuilder}
-use Rattle.ged_tree.proofs.PushLemmas.{put_further}
+use Rattle.ged_tree.proofs.table.Pushing.{put_further}
 use Rattle.ged_tree.proofs.table.builder.TableBuilder.push.Goals as goal
 
 pub returns-then-is_cont : goal.returns-then-is_cont

@@ -1,7 +1,7 @@
 use Rattle.std.proofs.Common.{refl, ◌∙◌}
 use Rattle.ged_tree.specs.declared.table.packed.TextApart.{TextApart}
 use Rattle.ged_tree.specs.declared.table.builder.TableBuilder.{TableBuilder}
-use Rattle.ged_tree.proofs.PushLemmas.{put_apart}
+use Rattle.ged_tree.proofs.table.Pushing.{put_apart}
 use Rattle.ged_tree.proofs.table.builder.TableBuilder.push_apart.Goals as goal
 
 pub returns : goal.returns

@@ -1,7 +1,7 @@
 use Rattle.std.proofs.Common.{ℕ, ◌<◌, ◌∙◌, refl, sym, subst, arith}
 use Rattle.ged_tree.specs.inner.Tables.{IsSliceAt}
 use Rattle.ged_tree.specs.declared.table.builder.TableBuilder.{TableBuilder}
-use Rattle.ged_tree.proofs.PushLemmas.{put_slice}
+use Rattle.ged_tree.proofs.table.Pushing.{put_slice}
 use Rattle.ged_tree.proofs.table.builder.TableBuilder.push_structure.Goals as goal
 
 pub returns : goal.returns

@@ -1,5 +1,5 @@
 use Rattle.std.proofs.Common.{◌+◌, refl}
-use Rattle.ged_tree.proofs.TakeLemmas.{taken}
+use Rattle.ged_tree.proofs.table.Taking.{taken}
 use Rattle.ged_tree.proofs.table.builder.TableBuilder.take.Goals as goal
 
 pub returns-in-Ok-clause-lines : goal.returns-in-Ok-clause-lines

@@ -1,8 +1,8 @@
 use Rattle.std.proofs.Common.{arith, slice_index_or}
 use Rattle.std.proofs.lemmas.List.{get_or_default}
 use Rattle.ged_tree.specs.declared.table.packed.KeptStructure.{KeptStructure}
-use Rattle.ged_tree.proofs.FlatLemmas.{kept_count, kept_after}
-use Rattle.ged_tree.proofs.AfterLemmas.{closed_later}
+use Rattle.ged_tree.proofs.table.Answers.{kept_count, kept_after}
+use Rattle.ged_tree.proofs.table.Afters.{closed_later}
 use Rattle.ged_tree.proofs.table.flat.Flat.after_at.Goals as goal
 
 pub after_in-requires-clause-within : goal.after_in-requires-clause-within

@@ -1,7 +1,7 @@
 use Rattle.std.proofs.Common.{List, ◌∙◌, ap, arith}
 use Rattle.ged_tree.specs.Rows.{text_at}
 use Rattle.ged_tree.specs.declared.table.packed.TextApart.{TextApart}
-use Rattle.ged_tree.proofs.FlatLemmas.{kept_count, kept_slice, kept_text, kept_shows}
+use Rattle.ged_tree.proofs.table.Answers.{kept_count, kept_slice, kept_text, kept_shows}
 use Rattle.ged_tree.proofs.table.flat.Flat.at.Goals as goal
 
 pub index-requires : goal.index-requires

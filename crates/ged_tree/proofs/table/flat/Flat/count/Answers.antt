@@ -1,5 +1,5 @@
 use Rattle.std.proofs.Common.{◌∙◌}
-use Rattle.ged_tree.proofs.FlatLemmas.{kept_count}
+use Rattle.ged_tree.proofs.table.Answers.{kept_count}
 use Rattle.ged_tree.proofs.table.flat.Flat.count.Goals as goal
 
 pub returns : goal.returns

@@ -2,8 +2,8 @@ use Rattle.std.proofs.Common.{List, ◌+◌, ◌∙◌, arith, ap, length}
 use Rattle.std.proofs.lemmas.List.{length-map}
 use Rattle.ged_tree.specs.Rows.{further_before, further_at, places_of, shown_from}
 use Rattle.ged_tree.specs.declared.forest.continuations.FurtherLine.{FurtherLine}
-use Rattle.ged_tree.proofs.KeptLemmas.{length-shown}
-use Rattle.ged_tree.proofs.FlatLemmas.{kept_count, flat_lines, before_within, before_next, texts_cut}
+use Rattle.ged_tree.proofs.table.PackedStructures.{length-shown}
+use Rattle.ged_tree.proofs.table.Answers.{kept_count, flat_lines, before_within, before_next, texts_cut}
 use Rattle.ged_tree.proofs.table.flat.Flat.found_lines_at.Goals as goal
 
 pub overflow_add-place : goal.overflow_add-place

@@ -3,8 +3,8 @@ use Rattle.std.specs.Option.{option_map}
 use Rattle.std.proofs.lemmas.Option.{slice_get_read}
 use Rattle.ged_tree.specs.declared.forest.continuations.FurtherLine.{FurtherLine}
 use Rattle.ged_tree.specs.Rows.{shown_from}
-use Rattle.ged_tree.proofs.KeptLemmas.{length-shown}
-use Rattle.ged_tree.proofs.FlatLemmas.{kept_count, flat_further}
+use Rattle.ged_tree.proofs.table.PackedStructures.{length-shown}
+use Rattle.ged_tree.proofs.table.Answers.{kept_count, flat_further}
 use Rattle.ged_tree.proofs.table.flat.Flat.further_at.Goals as goal
 
 pub index-requires : goal.index-requires

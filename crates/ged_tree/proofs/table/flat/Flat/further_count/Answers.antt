@@ -1,7 +1,7 @@
 use Rattle.std.proofs.Common.{◌+◌, ◌-◌, ◌∙◌, ℕ, arith, sym, ap}
 use Rattle.ged_tree.specs.Rows.{further_before, places_of, shown_from}
-use Rattle.ged_tree.proofs.KeptLemmas.{length-shown}
-use Rattle.ged_tree.proofs.FlatLemmas.{kept_count, kept_alone, flat_count_at}
+use Rattle.ged_tree.proofs.table.PackedStructures.{length-shown}
+use Rattle.ged_tree.proofs.table.Answers.{kept_count, kept_alone, flat_count_at}
 use Rattle.ged_tree.proofs.table.flat.Flat.further_count.Goals as goal
 
 pub index-requires : goal.index-requires

@@ -1,5 +1,5 @@
 use Rattle.std.proofs.Common.{◌∙◌, arith, sym}
-use Rattle.ged_tree.proofs.FlatLemmas.{kept_count, kept_alone, nothing}
+use Rattle.ged_tree.proofs.table.Answers.{kept_count, kept_alone, nothing}
 use Rattle.ged_tree.proofs.table.flat.Flat.further_lines_at.Goals as goal
 
 pub index-requires : goal.index-requires

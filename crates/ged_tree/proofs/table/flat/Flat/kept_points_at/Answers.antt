@@ -1,6 +1,6 @@
 use Rattle.std.proofs.Common.{Bool, Option, Some, None, ◌∙◌, sym, arith}
 use Rattle.std.specs.Prelude.{IfSome}
-use Rattle.ged_tree.proofs.FlatLemmas.{kept_count, kept_pointer}
+use Rattle.ged_tree.proofs.table.Answers.{kept_count, kept_pointer}
 use Rattle.ged_tree.proofs.table.flat.Flat.kept_points_at.Goals as goal
 
 told_also : (P Q : Bool → Type 0) (told : Option Bool) → ((points : Bool) → P points → Q points) → IfSome told P → IfSome told Q

@@ -1,5 +1,5 @@
 use Rattle.std.proofs.Common.{◌∙◌, arith}
-use Rattle.ged_tree.proofs.FlatLemmas.{kept_count, kept_level_is}
+use Rattle.ged_tree.proofs.table.Answers.{kept_count, kept_level_is}
 use Rattle.ged_tree.proofs.table.flat.Flat.level_at.Goals as goal
 
 pub index-requires : goal.index-requires

@@ -1,7 +1,7 @@
 use Rattle.std.proofs.Common.{arith}
 use Rattle.ged_tree.specs.Rows.{shown_from}
-use Rattle.ged_tree.proofs.KeptLemmas.{length-shown}
-use Rattle.ged_tree.proofs.FlatLemmas.{kept_count, flat_line, flat_number}
+use Rattle.ged_tree.proofs.table.PackedStructures.{length-shown}
+use Rattle.ged_tree.proofs.table.Answers.{kept_count, flat_line, flat_number}
 use Rattle.ged_tree.proofs.table.flat.Flat.line_at.Goals as goal
 
 pub further_before-before-requires : goal.further_before-before-requires

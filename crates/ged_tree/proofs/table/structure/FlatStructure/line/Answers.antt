@@ -1,5 +1,5 @@
 use Rattle.ged_line.proofs.CallerLemmas.{line_plain, one_line, no_fault}
-use Rattle.ged_tree.proofs.TestParts.{plain_is_unbanned}
+use Rattle.ged_tree.proofs.theory.LineParts.{plain_is_unbanned}
 use Rattle.ged_tree.specs.Rows.{line_shown}
 use Rattle.ged_tree.specs.inner.Rows.{shown_of}
 use Rattle.ged_tree.proofs.table.structure.FlatStructure.line.Goals as goal

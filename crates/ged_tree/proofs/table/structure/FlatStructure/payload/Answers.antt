@@ -1,11 +1,11 @@
 use Rattle.std.proofs.Common.{◌<◌, ◌∙◌, ap, sym, subst, arith}
 use Rattle.ged_line.specs.Bytes.{Bytes}
 use Rattle.ged_line.specs.Lines.{IsValuePart}
-use Rattle.ged_tree.proofs.TestParts.{line_is}
+use Rattle.ged_tree.proofs.theory.LineParts.{line_is}
 use Rattle.ged_tree.specs.Rows.{line_shown, IsSpelled}
 use Rattle.ged_tree.specs.inner.Rows.{shown_of}
 use Rattle.ged_tree.specs.Spelled.{shown_value}
-use Rattle.ged_tree.proofs.TagLemmas.{part_boundary, part_is, part_shown}
+use Rattle.ged_tree.proofs.table.Tags.{part_boundary, part_is, part_shown}
 use Rattle.ged_tree.proofs.table.structure.FlatStructure.payload.Goals as goal
 
 pub range_from-requires : goal.range_from-requires

@@ -1,7 +1,7 @@
 use Rattle.std.proofs.Common.{◌<◌, ◌∙◌, arith}
 use Rattle.ged_tree.specs.Rows.{line_shown, IsSpelled}
 use Rattle.ged_tree.specs.inner.Rows.{shown_of}
-use Rattle.ged_tree.proofs.TagLemmas.{tag_boundary, part_boundary, tag_is}
+use Rattle.ged_tree.proofs.table.Tags.{tag_boundary, part_boundary, tag_is}
 use Rattle.ged_tree.proofs.table.structure.FlatStructure.tag.Goals as goal
 
 pub range-requires-clause-start_boundary : goal.range-requires-clause-start_boundary

@@ -1,7 +1,7 @@
 use Rattle.std.proofs.Common.{ℕ, ◌≢◌, ◌+◌, ◌<◌, ◌∙◌, Some, length, decimal, ap, sym, arith}
 use Rattle.ged_tree.specs.Rows.{line_shown, IsSpelled}
 use Rattle.ged_tree.specs.inner.Rows.{shown_of}
-use Rattle.ged_tree.proofs.TagLemmas.{named, name_boundary, name_end_boundary, name_is}
+use Rattle.ged_tree.proofs.table.Tags.{named, name_boundary, name_end_boundary, name_is}
 use Rattle.ged_tree.proofs.table.structure.FlatStructure.xref.Goals as goal
 
 pub range-requires-clause-start_boundary : goal.range-requires-clause-start_boundary

@@ -1,0 +1,13 @@
+pub mod BriefTests
+pub mod BriefWords
+pub mod NewNames
+pub mod NewNumbers
+pub mod OwnLines
+pub mod Parts
+pub mod Records
+pub mod RunsWritten
+pub mod SiblingNames
+pub mod SiblingTrees
+pub mod SortedTail
+pub mod StableSort
+pub mod UseTests

@@ -1,0 +1,4 @@
+pub mod Banned
+pub mod Cutting
+pub mod LineEnds
+pub mod WholeBlocks

@@ -1,0 +1,3 @@
+pub mod FileLaws
+pub mod Respelling
+pub mod WholeLines

@@ -1,0 +1,199 @@
+-- The text of a line and its canonical spelling, and the lines respelled so far.
+use Rattle.std.proofs.Common.{◌≡◌, ◌≢◌, ℕ, ◌+◌, ◌-◌, ◌<◌, ◌≤◌, List, [], ◌∷◌, ◌++◌, ◌⊎◌, inl, inr, true, length, take, refl, sym, ◌∙◌, ap, subst, arith, decimal, length-append}
+use Rattle.std.proofs.lemmas.List.{append-nil, append_assoc, append_cancel_right}
+use Rattle.std.proofs.Math.Seq.{take-append_seam}
+use Rattle.ged_line.specs.Bytes.{Bytes}
+use Rattle.ged_line.specs.Lines.{LineParts, Value, Empty, Void, Pointer, Text, LineText, IsValuePart, xref_part}
+use Rattle.ged_line.specs.Views.{viewed_value}
+use Rattle.ged_line.specs.Faults.{IsFaultOf}
+use Rattle.ged_line.specs.Pieces.{AreCutInto, pieces_of}
+use Rattle.ged_line.specs.Spelling.{spelling, value_part, spelled_lines}
+use Rattle.ged_line.specs.Files.{StopsIn}
+use Rattle.ged_line.specs.inner.Reading.{IsRespelledBehind}
+use Rattle.ged_line.specs.declared.fault.LineFault.{LineFault}
+use Rattle.ged_line.specs.declared.line.view.ValueView.{ValueView}
+use Rattle.ged_line.specs.declared.line.view.ValueView.TheVariants as views
+use Rattle.ged_line.proofs.line.Cuts.{Lacks, cut_not_whole}
+use Rattle.ged_line.proofs.line.NameTests.{tag_some}
+use Rattle.ged_line.proofs.bytes.Cutting.{are_cut, length-AreCutInto}
+use Rattle.ged_line.proofs.line.Scans.{Lacks-tag}
+use Rattle.ged_line.proofs.line.LineLaws.{line_is}
+use Rattle.ged_line.specs.Names.{is_tag}
+use Rattle.ged_line.proofs.file.FileLaws.{length-AreTexts, HaveRead, HaveRead-start, HaveRead-more, HaveRead-end, HaveRead-fault, HaveRead-block, StopsIn-block}
+
+nothing_after : (xs ys : List ℕ) → ys ≢ [] → xs ++ ys ≡ [] → ⊥
+nothing_after [] ys n e = n e
+nothing_after (x ∷ xs) ys n e = cc
+
+-- a list that ends with parts other than c doesn't end with c
+last_lacks : (c : ℕ) (xs ys front : List ℕ) → Lacks c ys → ys ≢ [] → xs ++ ys ≡ front ++ (c ∷ []) → ⊥
+last_lacks c [] [] front l n e = n refl
+last_lacks c [] (y ∷ ys) front l n e = cut_not_whole c front [] (y ∷ ys) l (sym e)
+last_lacks c (x ∷ xs) ys [] l n e =
+    let tail : xs ++ ys ≡ [] = cc in
+    nothing_after xs ys n tail
+last_lacks c (x ∷ xs) ys (f ∷ front) l n e =
+    let tail : xs ++ ys ≡ front ++ (c ∷ []) = cc in
+    last_lacks c xs ys front l n tail
+
+-- the bytes of a line before its tag
+abbrev before_tag : LineParts → Bytes
+before_tag line = decimal line.level ++ (32 ∷ xref_part line.xref)
+
+before_and_tag : (line : LineParts) (part : Bytes) → decimal line.level ++ (32 ∷ (xref_part line.xref ++ (line.tag ++ part))) ≡ (before_tag line ++ line.tag) ++ part
+before_and_tag line part = sym (append_assoc (before_tag line) line.tag part ∙ append_assoc (decimal line.level) (32 ∷ xref_part line.xref) (line.tag ++ part))
+
+tag_not_nil : (line : LineParts) (text : Bytes) → LineText line text → line.tag ≢ []
+tag_not_nil line text t e = tag_some (subst (λ tag. is_tag tag ≡ true) e (line_is line t.is_line).tag)
+
+part_filled : (value : Value) (part : Bytes) → IsValuePart value part → value ≢ Empty → part ≡ value_part value
+part_filled Empty part p n = absurd (n refl)
+part_filled Void part p n = p
+part_filled (Pointer name) part p n = p
+part_filled (Text text) part p n = p
+
+not_empty_value : (view : ValueView) (value : Value) → viewed_value view ≡ value → view ≢ views.Empty → value ≢ Empty
+not_empty_value views.Empty value e n = λ f. n refl
+not_empty_value views.Void value e n = λ f. (let z : Void ≡ Empty = e ∙ f in cc)
+not_empty_value (views.Pointer name) value e n = λ f. (let z : Pointer name.now ≡ Empty = e ∙ f in cc)
+not_empty_value (views.Text text) value e n = λ f. (let z : Text text.now ≡ Empty = e ∙ f in cc)
+
+-- a line with a value has one text
+pub text_filled : (line : LineParts) (text : Bytes) (view : ValueView) → LineText line text → viewed_value view ≡ line.value → view ≢ views.Empty → text ≡ spelling line
+text_filled line text view t e n =
+    let part : t.value_part ≡ value_part line.value = part_filled line.value t.value_part t.value (not_empty_value view line.value e n) in
+    t.spelled ∙ ap (λ p. decimal line.level ++ (32 ∷ (xref_part line.xref ++ (line.tag ++ p)))) part
+
+empty_spelling : (line : LineParts) → line.value ≡ Empty → spelling line ≡ before_tag line ++ line.tag
+empty_spelling line e = ap (λ v. decimal line.level ++ (32 ∷ (xref_part line.xref ++ (line.tag ++ value_part v)))) e ∙ before_and_tag line [] ∙ append-nil (before_tag line ++ line.tag)
+
+empty_part : (line : LineParts) (text : Bytes) (t : LineText line text) → line.value ≡ Empty → (t.value_part ≡ []) ⊎ (t.value_part ≡ 32 ∷ [])
+empty_part line text t e = subst (λ v. IsValuePart v t.value_part) e t.value
+
+-- the text of a line without a value has a space at its end, or is its spelling
+pub text_stripped : (line : LineParts) (text front : Bytes) → LineText line text → Empty ≡ line.value → text ≡ front ++ (32 ∷ []) → front ≡ spelling line
+text_stripped line text front t e s = elim (empty_part line text t (sym e)) [
+  | inl none ↦
+      let whole : before_tag line ++ line.tag ≡ text = sym (append-nil (before_tag line ++ line.tag)) ∙ ap (λ p. (before_tag line ++ line.tag) ++ p) (sym none) ∙ sym (t.spelled ∙ before_and_tag line t.value_part) in
+      absurd (last_lacks 32 (before_tag line) line.tag front (Lacks-tag line.tag (line_is line t.is_line).tag) (tag_not_nil line text t) (whole ∙ s))
+  | inr blank ↦
+      let whole : (before_tag line ++ line.tag) ++ (32 ∷ []) ≡ front ++ (32 ∷ []) = ap (λ p. (before_tag line ++ line.tag) ++ p) (sym blank) ∙ sym (t.spelled ∙ before_and_tag line t.value_part) ∙ s in
+      sym (append_cancel_right (before_tag line ++ line.tag) front (32 ∷ []) whole) ∙ sym (empty_spelling line (sym e))
+]
+
+pub text_kept : (line : LineParts) (text : Bytes) → LineText line text → Empty ≡ line.value → ((front : Bytes) → text ≢ front ++ (32 ∷ [])) → text ≡ spelling line
+text_kept line text t e n = elim (empty_part line text t (sym e)) [
+  | inl none ↦ t.spelled ∙ before_and_tag line t.value_part ∙ ap (λ p. (before_tag line ++ line.tag) ++ p) none ∙ append-nil (before_tag line ++ line.tag) ∙ sym (empty_spelling line (sym e))
+  | inr blank ↦ absurd (n (before_tag line ++ line.tag) (t.spelled ∙ before_and_tag line t.value_part ∙ ap (λ p. (before_tag line ++ line.tag) ++ p) blank))
+]
+
+-- so many lines of the bytes are respelled behind what stood there, and those pieces are left
+abbrev pub HaveRespelled : Bytes → ℕ → List Bytes → Bytes → Bytes → Type 0
+HaveRespelled bytes count left old out = (lines : List LineParts) × HaveRead bytes lines left × (count ≡ length lines) × (out ≡ old ++ spelled_lines lines)
+
+pub HaveRespelled-start : (bytes : Bytes) (pieces : List Bytes) (old : Bytes) → AreCutInto bytes pieces → HaveRespelled bytes 0 pieces old old
+HaveRespelled-start bytes pieces old c = ([], HaveRead-start bytes pieces c, refl, sym (append-nil old))
+
+spelled_more : (lines : List LineParts) (line : LineParts) → spelled_lines (lines ++ (line ∷ [])) ≡ spelled_lines lines ++ (spelling line ++ (10 ∷ []))
+spelled_more [] line = refl
+spelled_more (l ∷ lines) line = ap (λ x. spelling l ++ (10 ∷ x)) (spelled_more lines line) ∙ sym (append_assoc (spelling l) (10 ∷ spelled_lines lines) (spelling line ++ (10 ∷ [])))
+
+pub HaveRespelled-more : (bytes : Bytes) (count : ℕ) (left rest : List Bytes) (piece old out now : Bytes) (line : LineParts)
+    → left ≡ piece ∷ rest → LineText line piece → now ≡ out ++ (spelling line ++ (10 ∷ [])) → HaveRespelled bytes count left old out → HaveRespelled bytes (count + 1) rest old now
+HaveRespelled-more bytes count left rest piece old out now line e t n (lines, h, k, o) = (
+  lines ++ (line ∷ []),
+  HaveRead-more bytes lines (lines ++ (line ∷ [])) left rest piece line e refl t h,
+  omega (arith, length-append lines (line ∷ [])),
+  n ∙ ap (λ x. x ++ (spelling line ++ (10 ∷ []))) o ∙ append_assoc old (spelled_lines lines) (spelling line ++ (10 ∷ [])) ∙ ap (λ x. old ++ x) (sym (spelled_more lines line)),
+)
+
+pub HaveRespelled-end : (bytes : Bytes) (count : ℕ) (left : List Bytes) (old out : Bytes) → left ≡ [] → HaveRespelled bytes count left old out
+    → IsRespelledBehind bytes count old out
+HaveRespelled-end bytes count left old out e (lines, h, k, o) = (lines, HaveRead-end bytes lines left e h, k, o)
+
+pub HaveRespelled-fault : (bytes : Bytes) (count : ℕ) (left rest : List Bytes) (piece old out : Bytes) (fault : LineFault)
+    → left ≡ piece ∷ rest → IsFaultOf fault piece → HaveRespelled bytes count left old out → (lines : List LineParts) × StopsIn bytes lines (count + 1) fault
+HaveRespelled-fault bytes count left rest piece old out fault e f (lines, h, k, o) = (lines, HaveRead-fault bytes lines left rest piece fault (count + 1) e f (omega arith) h)
+
+pub HaveRespelled-room : (bytes : Bytes) (count : ℕ) (left rest : List Bytes) (piece old out : Bytes) → left ≡ piece ∷ rest → HaveRespelled bytes count left old out → count < length bytes
+HaveRespelled-room bytes count left rest piece old out e (lines, (before, c, a), k, o) =
+    let all = length-AreCutInto (before ++ left) bytes c in
+    let same : length lines ≡ length before = length-AreTexts lines before a in
+    omega (arith, length-append before left, ap length e)
+
+-- the same where lines that are spelled as they should be are not copied yet: they stand before the rest
+pub record IsRespelledTo (bytes : Bytes) (count : ℕ) (rest uncopied old out : Bytes) : Type 0 where
+  pub kept : Bytes
+  pub split : uncopied ≡ kept ++ rest
+  pub read : HaveRespelled bytes count (pieces_of rest) old (out ++ kept)
+
+pub IsRespelledTo-start : (bytes old : Bytes) → IsRespelledTo bytes 0 bytes bytes old old
+IsRespelledTo-start bytes old = record {
+  kept = [];
+  split = refl;
+  read = subst (HaveRespelled bytes 0 (pieces_of bytes) old) (sym (append-nil old)) (HaveRespelled-start bytes (pieces_of bytes) old (are_cut bytes));
+}
+
+-- a line that stands as it should be
+pub IsRespelledTo-kept : (bytes : Bytes) (count : ℕ) (rest after uncopied old out piece : Bytes) (line : LineParts)
+    → pieces_of rest ≡ piece ∷ pieces_of after → LineText line piece → rest ≡ spelling line ++ (10 ∷ after)
+    → IsRespelledTo bytes count rest uncopied old out → IsRespelledTo bytes (count + 1) after uncopied old out
+IsRespelledTo-kept bytes count rest after uncopied old out piece line p t e r =
+    let added : (spelling line ++ (10 ∷ [])) ++ after ≡ rest = append_assoc (spelling line) (10 ∷ []) after ∙ sym e in
+    record {
+      kept = r.kept ++ (spelling line ++ (10 ∷ []));
+      split = r.split ∙ ap (λ x. r.kept ++ x) (sym added) ∙ sym (append_assoc r.kept (spelling line ++ (10 ∷ [])) after);
+      read = HaveRespelled-more bytes count (pieces_of rest) (pieces_of after) piece old (out ++ r.kept) (out ++ (r.kept ++ (spelling line ++ (10 ∷ [])))) line p t
+          (sym (append_assoc out r.kept (spelling line ++ (10 ∷ [])))) r.read;
+    }
+
+take_front : (kept rest : Bytes) → take (length (kept ++ rest) - length rest) (kept ++ rest) ≡ kept
+take_front kept rest =
+    let count : length (kept ++ rest) - length rest ≡ length kept = omega (arith, length-append kept rest) in
+    rw count (take-append_seam kept rest)
+
+-- a line that is respelled behind what was kept
+pub IsRespelledTo-copied : (bytes : Bytes) (count : ℕ) (rest after uncopied old out now piece : Bytes) (line : LineParts)
+    → pieces_of rest ≡ piece ∷ pieces_of after → LineText line piece
+    → now ≡ out ++ (take (length uncopied - length rest) uncopied ++ (spelling line ++ (10 ∷ [])))
+    → IsRespelledTo bytes count rest uncopied old out → IsRespelledTo bytes (count + 1) after after old now
+IsRespelledTo-copied bytes count rest after uncopied old out now piece line p t n r =
+    let front : take (length uncopied - length rest) uncopied ≡ r.kept = rw r.split (take_front r.kept rest) in
+    let grown : now ≡ (out ++ r.kept) ++ (spelling line ++ (10 ∷ [])) = n ∙ ap (λ x. out ++ (x ++ (spelling line ++ (10 ∷ [])))) front ∙ sym (append_assoc out r.kept (spelling line ++ (10 ∷ []))) in
+    record {
+      kept = [];
+      split = refl;
+      read = subst (HaveRespelled bytes (count + 1) (pieces_of after) old) (sym (append-nil now))
+          (HaveRespelled-more bytes count (pieces_of rest) (pieces_of after) piece old (out ++ r.kept) now line p t grown r.read);
+    }
+
+pub IsRespelledTo-end : (bytes : Bytes) (count : ℕ) (rest uncopied old out now : Bytes) → pieces_of rest ≡ [] → rest ≡ [] → now ≡ out ++ uncopied
+    → IsRespelledTo bytes count rest uncopied old out → IsRespelledBehind bytes count old now
+IsRespelledTo-end bytes count rest uncopied old out now p e n r =
+    let kept : uncopied ≡ r.kept = r.split ∙ ap (λ x. r.kept ++ x) e ∙ append-nil r.kept in
+    HaveRespelled-end bytes count (pieces_of rest) old now p (subst (HaveRespelled bytes count (pieces_of rest) old) (sym (n ∙ ap (λ x. out ++ x) kept)) r.read)
+
+-- the lines of a block behind those that are respelled
+spelled-append : (lines more : List LineParts) → spelled_lines (lines ++ more) ≡ spelled_lines lines ++ spelled_lines more
+spelled-append [] more = refl
+spelled-append (l ∷ lines) more = ap (λ x. spelling l ++ (10 ∷ x)) (spelled-append lines more) ∙ sym (append_assoc (spelling l) (10 ∷ spelled_lines lines) (spelled_lines more))
+
+pub HaveRespelled-block : (bytes : Bytes) (count more : ℕ) (left rest : List Bytes) (block old out now : Bytes)
+    → left ≡ pieces_of block ++ rest → IsRespelledBehind block more out now → HaveRespelled bytes count left old out → HaveRespelled bytes (count + more) rest old now
+HaveRespelled-block bytes count more left rest block old out now e (added, s, m, n) (lines, h, k, o) = (
+  lines ++ added,
+  HaveRead-block bytes lines added left rest block e s h,
+  omega (arith, length-append lines added),
+  n ∙ ap (λ x. x ++ spelled_lines added) o ∙ append_assoc old (spelled_lines lines) (spelled_lines added) ∙ ap (λ x. old ++ x) (sym (spelled-append lines added)),
+)
+
+pub HaveRespelled-block_fault : (bytes : Bytes) (count line : ℕ) (left rest : List Bytes) (block old out : Bytes) (fault : LineFault)
+    → left ≡ pieces_of block ++ rest → ((lines : List LineParts) × StopsIn block lines line fault) → HaveRespelled bytes count left old out
+    → (lines : List LineParts) × StopsIn bytes lines (count + line) fault
+HaveRespelled-block_fault bytes count line left rest block old out fault e (more, s) (lines, h, k, o) = (lines ++ more, rw k (StopsIn-block bytes lines more line left rest block fault e s h))
+
+pub HaveRespelled-few : (bytes : Bytes) (count : ℕ) (left : List Bytes) (old out : Bytes) → HaveRespelled bytes count left old out → count ≤ length bytes
+HaveRespelled-few bytes count left old out (lines, (before, c, a), k, o) =
+    let all = length-AreCutInto (before ++ left) bytes c in
+    let same : length lines ≡ length before = length-AreTexts lines before a in
+    omega (arith, length-append before left)

@@ -1,0 +1,9 @@
+pub mod Cuts
+pub mod Levels
+pub mod LineLaws
+pub mod NameTests
+pub mod QuickReading
+pub mod Reading
+pub mod Scans
+pub mod Values
+pub mod Words

@@ -1,0 +1,7 @@
+pub mod CanonLaws
+pub mod Feeding
+pub mod FileLaws
+pub mod Judging
+pub mod Merging
+pub mod Noticing
+pub mod Told

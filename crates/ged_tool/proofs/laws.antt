@@ -1,0 +1,6 @@
+pub mod Accepting
+pub mod Comparing
+pub mod LineNumbers
+pub mod OneList
+pub mod Respelt
+pub mod Strict

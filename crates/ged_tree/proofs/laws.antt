@@ -1,0 +1,8 @@
+pub mod Entries
+pub mod FaultsStay
+pub mod FileFaults
+pub mod FileLines
+pub mod LinesAtPlaces
+pub mod OneToOne
+pub mod Shown
+pub mod WholeFiles

@@ -1,0 +1,13 @@
+pub mod Afters
+pub mod Answers
+pub mod Apart
+pub mod Assembly
+pub mod ClosedTables
+pub mod Continuations
+pub mod Flattening
+pub mod PackedStructures
+pub mod Pushing
+pub mod SpelledTexts
+pub mod Tags
+pub mod Taking
+pub mod TextParts

@@ -1,0 +1,14 @@
+pub mod Building
+pub mod FirstFaults
+pub mod Growing
+pub mod Grown
+pub mod Judging
+pub mod LineParts
+pub mod LinesAgain
+pub mod LinesThatPass
+pub mod OneDocument
+pub mod Paths
+pub mod Places
+pub mod ReadLines
+pub mod RowsAtPlaces
+pub mod Walks
