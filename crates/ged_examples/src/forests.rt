@@ -68,7 +68,7 @@ pub(crate) fn say_rests<F: Forest>(forest: &F, answer: &mut Answer) {
     }
 }
 
-/// The further lines of a payload: all at once where the forest has them so, else one by one.
+/// The further lines of a payload: all at once where the forest has them so, else one by one, by another word.
 fn say_further<F: Forest>(forest: &F, place: usize, answer: &mut Answer)
     requires { place < trees_count (F.trees forest.now) }
 {
@@ -81,7 +81,7 @@ fn say_further<F: Forest>(forest: &F, place: usize, answer: &mut Answer)
         }
         None => {
             for number in 0..forest.further(place) {
-                answer.say(" further=");
+                answer.say(" single=");
                 answer.say(forest.further_line(place, number));
             }
         }

@@ -8,9 +8,9 @@ use ged_line::Tag;
 use ged_link::{Index, LinkFault, resolve};
 use ged_schema::{
     Context, ContextRows, Coverage, Profile, Rule, SchemaAt, SchemaFault, check, check_as,
-    check_coverage, checked_or_fault, distinct_tags, fault_of_unchecked, first_unlisted, lookup,
-    lookup_name, no_fault_of_checked, none_is_unlisted, one_first_fault, one_listing, one_notice,
-    rows, unlisted, unlisted_has_place,
+    check_coverage, checked_or_fault, context_below, distinct_tags, fault_of_unchecked,
+    first_unlisted, lookup, lookup_name, no_fault_of_checked, none_is_unlisted, one_first_fault,
+    one_listing, one_notice, rows, unlisted, unlisted_has_place,
 };
 use ged_tree::Forest;
 use std::alloc::Global;
@@ -119,6 +119,7 @@ pub(crate) fn answer(alloc: Global, call: &str, argument: &[u8], answer: &mut An
         },
         "lookup_name" => say_found(answer, lookup_name(*context, name).as_ref()),
         "ContextRows::row" => say_found(answer, ContextRows::of(*context).row(name)),
+        "context_below" => say_context(answer, context_below(ContextRows::of(*context).row(name))),
         _ => return false,
     }
     true
