@@ -8,7 +8,7 @@ use std::{env, fs, io};
 fn main(rt: HostRuntime) -> io::Result<()> {
     let words: Vec<String> = env::args(&rt)?.collect(rt.alloc())?;
     let [_, path] = words.as_slice() else {
-        eprintln!(rt; "usage: ged_flatten FILE")?;
+        eprintln!(rt; "usage: bench_flatten FILE")?;
         return Ok(());
     };
     let bytes = fs::read(&rt, path.as_str())?;
