@@ -3,10 +3,12 @@ pub mod Brief
 pub mod Chains
 pub mod Editions
 pub mod Examples
+pub mod Family
 pub mod Fixed
 pub mod Heads
 pub mod Keeps
 pub mod Moves
+pub mod NormalTests
 pub mod Normality
 pub mod Noticed
 pub mod Numbering
@@ -15,6 +17,7 @@ pub mod Reach
 pub mod Renaming
 pub mod Sorting
 pub mod Stays
+pub mod StepForms
 pub mod Texts
 pub mod Undone
 pub mod Unique

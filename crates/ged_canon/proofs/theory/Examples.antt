@@ -1,17 +1,18 @@
 -- Worked documents, computed.
 use Rattle.std.proofs.Common.{◌≡◌, Bool, true, false, [], ◌∷◌, Option, Some, None, refl, ap, codes, inl, inr}
 use Rattle.std.specs.Str.{bytes_eq, is_utf8, chars}
-use Rattle.std.proofs.lemmas.Bool.{true≢false}
+use Rattle.std.proofs.lemmas.Bool.{true≢false, false≢true}
 use Rattle.ged_line.specs.Bytes.{Bytes}
 use Rattle.ged_tree.specs.declared.owned.payload.Payload.{Payload}
 use Rattle.ged_tree.specs.declared.owned.payload.Payload.TheVariants.{Pointer, Text}
-use Rattle.ged_tree.specs.Trees.{Trees, none, tree, records_of}
+use Rattle.ged_tree.specs.Trees.{Structure, Trees, none, tree, records_of}
 use Rattle.ged_tree.specs.Documents.{is_document}
 use Rattle.ged_link.specs.Notices.{OneWay}
 use Rattle.ged_schema.specs.Tables.{row, rows}
 use Rattle.ged_canon.specs.declared.edition.Edition.TheVariants.{First, Second}
-use Rattle.ged_canon.specs.Steps.{Equivalent}
+use Rattle.ged_canon.specs.Steps.{gains, after, lose, done, then, Equivalent}
 use Rattle.ged_canon.specs.inner.Working.{canon, falls}
+use Rattle.ged_canon.proofs.theory.Fixed.{is_named-true}
 use Rattle.ged_canon.proofs.theory.Unique.{canon_equivalent}
 
 abbrev empty : Payload
@@ -69,6 +70,22 @@ itself : canon First (doc (rec (Some (codes "I")) (codes "INDI") (node (codes "G
     ≡ doc (rec None (codes "FAM") none (rec (Some (codes "X1")) (codes "INDI") (node (codes "GEDC") (Pointer (codes "X1")) none (node (codes "ABC") empty none none)) none))
 unfolding falls row rows
 itself = refl
+
+-- an identifier that no pointer names is dropped, by one step
+unused_is_dropped : Equivalent First (doc (rec (Some (codes "I1")) (codes "INDI") none none)) (doc (rec None (codes "INDI") none none))
+unfolding is_utf8 chars lib.Utf8.encode
+unused_is_dropped =
+    let person : Structure = record { xref = None; tag = codes "INDI"; payload = empty } in
+    then (record {
+      from = refl;
+      to = refl;
+      move = lose (record {
+        name = codes "I1";
+        no_record_has_it = λ h. h;
+        no_pointer_names_it = λ h. false≢true (is_named-true (doc (rec None (codes "INDI") none none)) (codes "I1") h);
+        gained = after _ _ (gains person none none);
+      });
+    }) done
 
 -- a birth with a checked date and an unchecked one
 abbrev born : Bytes → Bytes → Trees
