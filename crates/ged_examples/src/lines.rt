@@ -3,8 +3,8 @@ use crate::answers::Answer;
 use crate::parts::{Parts, read_parts, say_line, say_line_fault, say_view};
 use ged_line::{
     Line, LineAt, LineView, ParseFault, RespellFault, Tag, Text, Xref, first_line, is_plain,
-    parse_line, read_lines, respell_lines, split_pieces, tag_order, text_behind_mark, view_line,
-    view_lines, view_text, write_head, write_line, write_lines, write_parts, write_view,
+    is_same_tag, parse_line, read_lines, respell_lines, split_pieces, tag_order, text_behind_mark,
+    view_line, view_lines, view_text, write_head, write_line, write_lines, write_parts, write_view,
 };
 use std::alloc::Global;
 use std::str;
@@ -195,9 +195,9 @@ fn answer_of_names(alloc: Global, call: &str, text: &str, answer: &mut Answer) -
             Ok(None) => say_none_read(call, answer),
             Err(_) => answer.lack_memory(),
         },
-        "Tag::order" | "tag_order" => {
+        "Tag::order" | "tag_order" | "is_same_tag" => {
             if let Some((first, second)) = text.split_once(' ') {
-                say_order_of_tags(alloc, call, first, second, answer);
+                say_of_two_tags(alloc, call, first, second, answer);
             }
         }
         _ => return false,
@@ -232,15 +232,18 @@ fn say_of_xref(alloc: Global, call: &str, name: &Xref, answer: &mut Answer) {
     }
 }
 
-/// The order of two tags by one of the two calls that tell it.
-fn say_order_of_tags(alloc: Global, call: &str, first: &str, second: &str, answer: &mut Answer) {
-    let tag = answer.given(Tag::read(alloc, first)).flatten();
-    let other = answer.given(Tag::read(alloc, second)).flatten();
-    if let (Some(tag), Some(other)) = (tag, other) {
-        answer.say_order(match call {
-            "Tag::order" => tag.order(&other),
-            _ => tag_order(tag.as_str(), other.as_str()),
-        });
+/// What one of the calls tells of two tags. Only `Tag::order` has to be given tags.
+fn say_of_two_tags(alloc: Global, call: &str, first: &str, second: &str, answer: &mut Answer) {
+    match call {
+        "tag_order" => answer.say_order(tag_order(first, second)),
+        "is_same_tag" => answer.say_truth(is_same_tag(first, second)),
+        _ => {
+            let tag = answer.given(Tag::read(alloc, first)).flatten();
+            let other = answer.given(Tag::read(alloc, second)).flatten();
+            if let (Some(tag), Some(other)) = (tag, other) {
+                answer.say_order(tag.order(&other));
+            }
+        }
     }
 }
 

@@ -5,5 +5,6 @@ pub mod NameTests
 pub mod QuickReading
 pub mod Reading
 pub mod Scans
+pub mod TagOrder
 pub mod Values
 pub mod Words

@@ -19,7 +19,7 @@ pub use file::respell::respell_lines;
 pub use file::spelled_line::SpelledLine;
 pub use file::whole_lines::{further_lines, one_whole_front, split_whole, whole_pieces_stay};
 pub use laws::{line_or_fault, one_cut, one_line, one_reading, spelling_spells, written_is_read};
-pub use line::names::tag_order;
+pub use line::names::{is_same_tag, tag_order};
 pub use line::read::{view_line, view_text};
 pub use line::view::{LineView, ValueView};
 pub use line::write::{write_head, write_parts, write_view};

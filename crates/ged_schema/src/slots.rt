@@ -1,7 +1,6 @@
 // The number of a tag's row in a context, by one look into a table.
 ghost use Rattle.std.specs.Prelude.{◌≡◌, ◌<◌, ◌≤◌, ◌+◌, ◌*◌, ◌%◌, ℕ, IfSome, MatchOption, None, Some, true, length, map, option_map, slice_get};
 ghost use Rattle.std.specs.Option.{option_copied};
-ghost use Rattle.std.specs.Str.{bytes_eq};
 ghost use Rattle.ged_schema.specs.Rows.{Row, as_row};
 ghost use Rattle.ged_schema.specs.Tables.{row, row_of, rows as rows_of};
 ghost use Rattle.ged_schema.specs.Slots.{are_numbered, kept_number, slot_from};
@@ -9,6 +8,7 @@ ghost use Rattle.ged_schema.specs.Slots.{are_numbered, kept_number, slot_from};
 use crate::context::Context;
 use crate::rule::Rule;
 use crate::tables::rows;
+use ged_line::is_same_tag;
 
 /// At the slot of each row's tag, the number of the row in its context; 0 at the slots that no row has.
 ///
@@ -107,19 +107,6 @@ fn slot_of(seed: usize, tag: &[u8]) -> usize
     }
 }
 
-/// Whether two tags are the same. Most have four bytes, which are compared at once.
-#[inline(always)]
-fn is_same(tag: &str, other: &str) -> bool
-    ensures { result ≡ bytes_eq tag.now other.now }
-{
-    match (tag.as_bytes(), other.as_bytes()) {
-        ([a, b, c, d], [e, f, g, h]) => {
-            u32::from_le_bytes([*a, *b, *c, *d]) == u32::from_le_bytes([*e, *f, *g, *h])
-        }
-        _ => tag == other,
-    }
-}
-
 /// The number of a tag's row among the rows of a context, counted from 0, where the seed is that of the context. A walk
 /// over structures that stand side by side asks for rows and seed once.
 #[inline(always)]
@@ -133,7 +120,7 @@ pub(crate) fn number_among(rules: &[Rule], seed: usize, tag: &str) -> Option<usi
     ensures only { (number : ℕ) (r : Row) → slice_get (map as_row rules.now) number ≡ Some r → r.tag ≡ tag.now → result ≡ Some number }
 {
     let number = usize::from(SLOTS[slot_of(seed, tag.as_bytes())]);
-    if number < rules.len() && is_same(rules[number].tag, tag) {
+    if number < rules.len() && is_same_tag(rules[number].tag, tag) {
         Some(number)
     } else {
         None

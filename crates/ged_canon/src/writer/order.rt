@@ -3,7 +3,7 @@ ghost use Rattle.std.specs.Prelude.{◌<◌, ◌↔◌, Some, IsTrue};
 ghost use Rattle.ged_tree.specs.Runs.{IsRun, trees_between};
 ghost use Rattle.ged_canon.specs.Normal.{InOrder, tags};
 
-use crate::writer::siblings::order;
+use ged_line::tag_order;
 use ged_tree::{Forest, next_in_run};
 use std::cmp::Ordering;
 
@@ -21,7 +21,7 @@ pub(crate) fn are_in_order<F: Forest>(forest: &F, start: usize, end: usize) -> b
     let mut before = forest.tag(start);
     while let Some(after) = next_in_run(forest, place, end) {
         let tag = forest.tag(place);
-        if order(before, tag) == Ordering::Greater {
+        if tag_order(before, tag) == Ordering::Greater {
             return false;
         }
         before = tag;

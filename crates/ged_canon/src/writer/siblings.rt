@@ -2,9 +2,7 @@
 ghost use Rattle.std.specs.Prelude.{◌≡◌, ◌<◌, ◌≤◌, Bool, true, IfOk, OnOk, length, take, drop};
 ghost use Rattle.std.specs.List.{AllByRecursion};
 ghost use Rattle.std.specs.List.Sorted.{IsPermutation};
-ghost use Rattle.std.specs.Str.{bytes_eq};
 ghost use Rattle.ged_line.specs.Bytes.{Bytes};
-ghost use Rattle.ged_line.specs.Names.{tag_order as order_of_tags};
 ghost use Rattle.ged_tree.specs.Trees.{Trees, trees_count, records_of};
 ghost use Rattle.ged_tree.specs.Documents.{is_document};
 ghost use Rattle.ged_tree.specs.Runs.{IsRun, trees_between};
@@ -15,71 +13,16 @@ ghost use Rattle.ged_link.specs.Indexes.{IsIndexOf};
 ghost use Rattle.ged_canon.specs.inner.Working.{grouped, sorted, each_sorted, used_trees, AreNumbersOf};
 ghost use Rattle.ged_canon.specs.inner.Siblings.{StandsIn, sibling_trees, sibling_names};
 
+use ged_line::tag_order;
 use ged_link::{Index, RecordCursor};
 use ged_tree::{Forest, next_in_run};
 use std::alloc::{AllocError, Global};
-use std::cmp::Ordering;
 
 /// A structure among its siblings: its tag, and its place among all structures.
 #[derive(Clone, Copy, Debug)]
 pub(crate) struct Sibling<'a> {
     pub(crate) tag: &'a str,
     pub(crate) place: usize,
-}
-
-/// Whether two tags are the same. Most have four bytes, which are compared at once.
-#[inline(always)]
-fn is_same(tag: &str, other: &str) -> bool
-    ensures { result ≡ bytes_eq tag.now other.now }
-{
-    match (tag.as_bytes(), other.as_bytes()) {
-        ([a, b, c, d], [e, f, g, h]) => {
-            u32::from_le_bytes([*a, *b, *c, *d]) == u32::from_le_bytes([*e, *f, *g, *h])
-        }
-        _ => tag == other,
-    }
-}
-
-/// The order of tags, for any texts, from the texts whole.
-fn whole_order(tag: &str, other: &str) -> Ordering
-    ensures { result ≡ order_of_tags tag.now other.now }
-{
-    match (tag == "GEDC", other == "GEDC") {
-        (true, true) => Ordering::Equal,
-        (true, false) => Ordering::Less,
-        (false, true) => Ordering::Greater,
-        (false, false) => tag.cmp(other),
-    }
-}
-
-/// The order of tags, for any texts. Most tags that begin with the same byte differ in their second one.
-#[inline(never)]
-fn order_of_alike(tag: &str, other: &str) -> Ordering
-    ensures { result ≡ order_of_tags tag.now other.now }
-{
-    match (tag.as_bytes(), other.as_bytes()) {
-        ([first, a, ..], [second, b, ..]) if first == second && *first != b'G' && a != b => {
-            a.cmp(b)
-        }
-        _ => whole_order(tag, other),
-    }
-}
-
-/// The order of tags, for any texts. Most tags that are not the same differ in their first byte, and no other byte is then
-/// read, unless one of the tags may be GEDC.
-#[inline(always)]
-pub(crate) fn order(tag: &str, other: &str) -> Ordering
-    ensures { result ≡ order_of_tags tag.now other.now }
-{
-    if is_same(tag, other) {
-        return Ordering::Equal;
-    }
-    match (tag.as_bytes(), other.as_bytes()) {
-        ([first, ..], [second, ..]) if first != second && *first != b'G' && *second != b'G' => {
-            first.cmp(second)
-        }
-        _ => order_of_alike(tag, other),
-    }
 }
 
 /// The same tag, that of a structure at a level. Those of most records are answered from one place each, so that a sort of many
@@ -135,7 +78,7 @@ fn sort_siblings(alloc: Global, siblings: &mut [Sibling<'_>]) -> Result<(), Allo
         OnOk result (sibling_trees used edition context d siblings.new ≡ grouped (sibling_trees used edition context d siblings.old)) }
 {
     siblings.sort_by(alloc, |a: &Sibling<'_>, b: &Sibling<'_>| {
-        order(a.tag, b.tag)
+        tag_order(a.tag, b.tag)
     })
 }
 

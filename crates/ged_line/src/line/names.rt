@@ -1,6 +1,7 @@
 // Tags and cross-reference identifiers.
 ghost use Rattle.std.specs.Prelude.{◌≡◌, ◌<◌, ◌≤◌, ℕ, length, slice_index, true, false};
 ghost use Rattle.std.specs.List.{list_all};
+ghost use Rattle.std.specs.Str.{bytes_eq};
 ghost use Rattle.ged_line.specs.Characters.{is_tag_character as tests_tag_character};
 ghost use Rattle.ged_line.specs.Names.{is_tag as tests_tag, is_xref as tests_xref, tag_order as order_of_tags};
 
@@ -66,9 +67,21 @@ pub(crate) fn is_xref(text: &str) -> bool
     !text.is_empty() && text != "VOID" && are_tag_characters(text.as_bytes())
 }
 
-/// The order of two tags, as [`Tag::order`] answers it. Takes no memory.
-pub fn tag_order(tag: &str, other: &str) -> Ordering
-    requires tags { (tests_tag tag.now ≡ true) × (tests_tag other.now ≡ true) }
+/// Whether two texts are the same, asked of tags: most have four bytes, which are compared at once. Takes no memory.
+#[inline(always)]
+pub fn is_same_tag(tag: &str, other: &str) -> bool
+    ensures { result ≡ bytes_eq tag.now other.now }
+{
+    match (tag.as_bytes(), other.as_bytes()) {
+        ([a, b, c, d], [e, f, g, h]) => {
+            u32::from_le_bytes([*a, *b, *c, *d]) == u32::from_le_bytes([*e, *f, *g, *h])
+        }
+        _ => tag == other,
+    }
+}
+
+/// The order of tags, from the texts whole.
+fn whole_order(tag: &str, other: &str) -> Ordering
     ensures { result ≡ order_of_tags tag.now other.now }
 {
     match (tag == "GEDC", other == "GEDC") {
@@ -76,5 +89,36 @@ pub fn tag_order(tag: &str, other: &str) -> Ordering
         (true, false) => Ordering::Less,
         (false, true) => Ordering::Greater,
         (false, false) => tag.cmp(other),
+    }
+}
+
+/// The order of tags. Most tags that begin with the same byte differ in their second one.
+#[inline(never)]
+fn order_of_alike(tag: &str, other: &str) -> Ordering
+    ensures { result ≡ order_of_tags tag.now other.now }
+{
+    match (tag.as_bytes(), other.as_bytes()) {
+        ([first, a, ..], [second, b, ..]) if first == second && *first != b'G' && a != b => {
+            a.cmp(b)
+        }
+        _ => whole_order(tag, other),
+    }
+}
+
+/// The order of two tags, as [`crate::Tag::order`] answers it: GEDC before every other one, then by bytes. It is told for any
+/// texts. Takes no memory.
+// Most tags that are not the same differ in their first byte, and no other byte is then read, unless one of them may be GEDC.
+#[inline(always)]
+pub fn tag_order(tag: &str, other: &str) -> Ordering
+    ensures { result ≡ order_of_tags tag.now other.now }
+{
+    if is_same_tag(tag, other) {
+        return Ordering::Equal;
+    }
+    match (tag.as_bytes(), other.as_bytes()) {
+        ([first, ..], [second, ..]) if first != second && *first != b'G' && *second != b'G' => {
+            first.cmp(second)
+        }
+        _ => order_of_alike(tag, other),
     }
 }
