@@ -1,11 +1,11 @@
 -- Structures of a run, marked by the numbers of their rows.
-use Rattle.std.proofs.Common.{◌≡◌, ◌≢◌, ℕ, zero, suc, ◌+◌, ◌*◌, ◌%◌, ◌^◌, bit_or, ◌<◌, ◌≤◌, ◌==◌, ◌&&◌, Bool, cond, sym, ◌∙◌, ap, refl, arith, true, false, List, [], ◌∷◌, inl, inr, Option, Some, None, get_or, slice_get, length, map, eqb→eq, subst, T}
+use Rattle.std.proofs.Common.{◌≡◌, ◌≢◌, ℕ, zero, suc, ◌+◌, ◌*◌, ◌%◌, ◌^◌, bit_and, bit_or, min, ◌<◌, ◌≤◌, ◌==◌, ◌&&◌, Bool, sym, ◌∙◌, ap, refl, arith, true, false, List, [], ◌∷◌, inl, inr, Option, Some, None, get_or, slice_get, length, map, eqb→eq, subst, T}
 use Rattle.std.specs.Prelude.{◌⊎◌, ◌↔◌, IsTrue}
 use Rattle.std.specs.List.{AllByRecursion}
 use Rattle.std.specs.Bool.{OnTrue}
 use Rattle.std.specs.Str.{bytes_eq}
 use Rattle.std.specs.Int.{bit_at, w64}
-use Rattle.std.proofs.lemmas.Nat.Bits.{bit_at-zero, bit_at-lt, bit_at_set_same, bit_at_set_other}
+use Rattle.std.proofs.lemmas.Nat.Bits.{bit_at-zero, bit_at-lt, bit_at_and, bit_at_set_same, bit_at_set_other}
 use Rattle.std.proofs.lemmas.List.{length-map}
 use Rattle.std.proofs.lemmas.Slice.Eq.{bytes_eq-Decides}
 use Rattle.ged_line.specs.Bytes.{Bytes}
@@ -17,7 +17,7 @@ use Rattle.ged_schema.specs.Rows.{Row, as_row}
 use Rattle.ged_schema.specs.Tables.{rows, row}
 use Rattle.ged_schema.specs.Payloads.{IsOfKind, target}
 use Rattle.ged_schema.specs.Checked.{count_of, IsAtMost, CountsRight, PointsRight, AreChecked}
-use Rattle.ged_schema.specs.inner.Marks.{allows_one, is_needed, are_simple, IsNeededMarked, MarksOneMore}
+use Rattle.ged_schema.specs.inner.Marks.{allows_one, are_simple, AreNeededMarked, AreMarkedAsNeeded, MarksOneMore}
 use Rattle.ged_schema.proofs.Numbers.{rule_stands, numbered_row}
 use Rattle.ged_schema.proofs.Runs.{count_same, count_other, IsOnlyNumber, checked_some}
 
@@ -93,34 +93,37 @@ all_rows : (P : Row → Type 0) (rs : List Row) → ((i : ℕ) (r : Row) → sli
 all_rows P [] each = tt
 all_rows P (r ∷ rs) each = (each 0 r refl, all_rows P rs (λ i q stands. each (suc i) q stands))
 
-abbrev IsSimple : Option ℕ → ℕ → Row → Type 0
-IsSimple needed number r = (allows_one r.most ≡ true) × ((r.least == cond (is_needed needed number) 1 0) ≡ true)
+abbrev IsSimple : ℕ → ℕ → Row → Type 0
+IsSimple needed number r = (allows_one r.most ≡ true) × ((r.least == bit_at needed number) ≡ true)
 
-simple_at : (needed : Option ℕ) (n i : ℕ) (rs : List Row) (r : Row) → are_simple needed n rs ≡ true → slice_get rs i ≡ Some r → IsSimple needed (n + i) r
+simple_at : (needed n i : ℕ) (rs : List Row) (r : Row) → are_simple needed n rs ≡ true → slice_get rs i ≡ Some r → IsSimple needed (n + i) r
 simple_at needed n i [] r simple e = cc
 simple_at needed n zero (q ∷ rs) r simple e =
-    let one : allows_one q.most ≡ true = and_left (allows_one q.most) ((q.least == cond (is_needed needed n) 1 0) && are_simple needed (n + 1) rs) simple in
-    let more : ((q.least == cond (is_needed needed n) 1 0) && are_simple needed (n + 1) rs) ≡ true = and_right (allows_one q.most) ((q.least == cond (is_needed needed n) 1 0) && are_simple needed (n + 1) rs) simple in
-    let least : (q.least == cond (is_needed needed n) 1 0) ≡ true = and_left (q.least == cond (is_needed needed n) 1 0) (are_simple needed (n + 1) rs) more in
+    let one : allows_one q.most ≡ true = and_left (allows_one q.most) ((q.least == bit_at needed n) && are_simple needed (n + 1) rs) simple in
+    let more : ((q.least == bit_at needed n) && are_simple needed (n + 1) rs) ≡ true = and_right (allows_one q.most) ((q.least == bit_at needed n) && are_simple needed (n + 1) rs) simple in
+    let least : (q.least == bit_at needed n) ≡ true = and_left (q.least == bit_at needed n) (are_simple needed (n + 1) rs) more in
     let here : IsSimple needed n q = (one, least) in
     let place : n ≡ n + 0 = omega arith in
     subst (λ (x : Row). IsSimple needed (n + 0) x) (some_row q r e) (subst (λ (k : ℕ). IsSimple needed k q) place here)
 simple_at needed n (suc i) (q ∷ rs) r simple e =
-    let more : ((q.least == cond (is_needed needed n) 1 0) && are_simple needed (n + 1) rs) ≡ true = and_right (allows_one q.most) ((q.least == cond (is_needed needed n) 1 0) && are_simple needed (n + 1) rs) simple in
-    let rest : are_simple needed (n + 1) rs ≡ true = and_right (q.least == cond (is_needed needed n) 1 0) (are_simple needed (n + 1) rs) more in
+    let more : ((q.least == bit_at needed n) && are_simple needed (n + 1) rs) ≡ true = and_right (allows_one q.most) ((q.least == bit_at needed n) && are_simple needed (n + 1) rs) simple in
+    let rest : are_simple needed (n + 1) rs ≡ true = and_right (q.least == bit_at needed n) (are_simple needed (n + 1) rs) more in
     let place : n + 1 + i ≡ n + suc i = omega arith in
     subst (λ (k : ℕ). IsSimple needed k r) place (simple_at needed (n + 1) i rs r rest e)
 
-least_right : (needed : Option ℕ) (marks : ℕ) (i least count : ℕ) → (least == cond (is_needed needed i) 1 0) ≡ true → IsNeededMarked needed marks → bit_at marks i ≤ count → least ≤ count
-least_right None marks i least count same marked enough = let e : least ≡ 0 = eqb→eq least 0 (subst T (sym same) tt) in omega (arith, e)
-least_right (Some k) marks i least count same marked enough = elim (bool_cases (k == i)) [
-  | inl here ↦ (
-      let e : least ≡ 1 = eqb→eq least 1 (subst T (sym (rw here at same)) tt) in
-      let at : k ≡ i = eqb→eq k i (subst T (sym here) tt) in
-      let some : 0 < bit_at marks i = subst (λ (n : ℕ). 0 < bit_at marks n) at marked in
-      omega (arith, e, some, enough))
-  | inr other ↦ (let e : least ≡ 0 = eqb→eq least 0 (subst T (sym (rw other at same)) tt) in omega (arith, e))
-]
+least_right : (needed marks i least count : ℕ) → (least == bit_at needed i) ≡ true → AreNeededMarked needed marks → bit_at marks i ≤ count → least ≤ count
+least_right needed marks i least count same marked enough = let e : least ≡ bit_at needed i = eqb→eq least (bit_at needed i) (subst T (sym same) tt) in omega (arith, e, marked i, enough)
+
+-- marks that have all needed bits
+pub needed_marked : (needed marks : ℕ) (rs : List Row) → are_simple needed 0 rs ≡ true → OnTrue (bit_and marks needed == needed) (AreMarkedAsNeeded rs marks)
+needed_marked needed marks rs simple = by (bit_and marks needed == needed) refl
+  where
+    by : (b : Bool) → (bit_and marks needed == needed) ≡ b → OnTrue b (AreMarkedAsNeeded rs marks)
+    by true same =
+        let kept : bit_and marks needed ≡ needed = eqb→eq (bit_and marks needed) needed (subst T (sym same) tt) in
+        let marked : AreNeededMarked needed marks = λ number. (let least : bit_at needed number ≡ min (bit_at marks number) (bit_at needed number) = sym (ap (λ n. bit_at n number) kept) ∙ bit_at_and marks needed number in omega (arith, least)) in
+        (needed, simple, marked)
+    by false other = tt
 
 most_right : (most : Option ℕ) (mark count : ℕ) → allows_one most ≡ true → mark ≤ 1 → (most ≡ None) ⊎ (count ≤ mark) → IsAtMost count most
 most_right None mark count one small each = tt
@@ -128,7 +131,7 @@ most_right (Some k) mark count one small (inl any) = cc
 most_right (Some k) mark count one small (inr few) = let e : k ≡ 1 = eqb→eq k 1 (subst T (sym one) tt) in omega (arith, e, small, few)
 
 -- where no structure is left, rows that are marked as they should be have as many structures as they ask
-pub marked_right : (needed : Option ℕ) (rs : List Row) (marks : ℕ) (left all : Trees) → left ≡ none → are_simple needed 0 rs ≡ true → IsNeededMarked needed marks → AreMarked rs marks left all → AllByRecursion (CountsRight all) rs
+pub marked_right : (needed : ℕ) (rs : List Row) (marks : ℕ) (left all : Trees) → left ≡ none → are_simple needed 0 rs ≡ true → AreNeededMarked needed marks → AreMarked rs marks left all → AllByRecursion (CountsRight all) rs
 marked_right needed rs marks left all is simple needs marked = all_rows (CountsRight all) rs (λ i r stands.
     let at : i ≡ 0 + i = omega arith in
     let row : IsSimple needed i r = subst (λ (k : ℕ). IsSimple needed k r) (sym at) (simple_at needed 0 i rs r simple stands) in
@@ -150,8 +153,8 @@ pub nothing_stands : (start end : ℕ) (t : Trees) → start + trees_count t ≡
 nothing_stands start end t fills past = no_trees t (omega arith)
 
 -- and that is right where no row asks for one
-pub nothing_right : (d : Trees) (c : Context) (t : Trees) → t ≡ none → are_simple None 0 (rows c) ≡ true → AllByRecursion (CountsRight t) (rows c) × AreChecked d c t
-nothing_right d c t is simple = (marked_right None (rows c) 0 t t is simple tt (none_marked (rows c) t), rw is tt)
+pub nothing_right : (d : Trees) (c : Context) (t : Trees) → t ≡ none → are_simple 0 0 (rows c) ≡ true → AllByRecursion (CountsRight t) (rows c) × AreChecked d c t
+nothing_right d c t is simple = (marked_right 0 (rows c) 0 t t is simple (λ number. omega arith) (none_marked (rows c) t), rw is tt)
 
 -- a structure whose row is found, and the rule that stands for the row
 module _ (c : Context) (t : Trees) (s : Structure) (b n : Trees) (is : t ≡ tree s b n) (tag : Bytes) (same : tag ≡ s.tag) (rules : List Rule) (seen : map as_row rules ≡ rows c) (k : ℕ) (within : k < length (rows c)) (found : slice_get (rows c) k ≡ row c tag) (o : Rule) where

@@ -15,7 +15,7 @@ ghost use Rattle.ged_schema.specs.Tables.{rows as rows_of};
 ghost use Rattle.ged_schema.specs.Payloads.{IsOfKind, target};
 ghost use Rattle.ged_schema.specs.Checked.{AreChecked, CountsRight, PointsRight};
 ghost use Rattle.ged_schema.specs.Unlisted.{Unlisted};
-ghost use Rattle.ged_schema.specs.inner.Marks.{are_simple, IsNeededMarked, MarksOneMore};
+ghost use Rattle.ged_schema.specs.inner.Marks.{are_simple, AreMarkedAsNeeded, MarksOneMore};
 
 use crate::context::Context;
 use crate::notices::gives_notice;
@@ -35,11 +35,11 @@ pub(crate) struct Pass {
     pub(crate) pointers: PointerCursor,
 }
 
-/// The number of the one row of a context that asks for a structure, where it has such a row.
+/// The rows of a context that ask for a structure: bit k is set where row k, counted from 0, asks for one. The script
+/// tools/slots.py prints these numbers, and the proof computes each of them from the rows.
 #[tactic(auto, unfolding(crate::specs::Tables::rows))]
-fn needed_number(context: Context) -> Option<usize>
-    ensures small { IfSome result (λ number. number < 64) }
-    ensures simple { are_simple result 0 (rows_of context) ≡ true }
+fn needed_rows(context: Context) -> u64
+    ensures { are_simple result 0 (rows_of context) ≡ true }
 {
     match context {
         Context::File
@@ -51,30 +51,25 @@ fn needed_number(context: Context) -> Option<usize>
         | Context::FamNamed
         | Context::FamAge
         | Context::Chan
-        | Context::Crea => Some(0),
-        Context::Asso => Some(1),
-        _ => None,
+        | Context::Crea => 0b1,
+        Context::Asso => 0b10,
+        _ => 0,
     }
 }
 
-/// Whether the row of a context that asks for a structure is marked, or the context has no such row.
-fn is_needed_marked(context: Context, marks: u64) -> bool
-    ensures { OnTrue result ((needed : Option ℕ) × (are_simple needed 0 (rows_of context) ≡ true) × IsNeededMarked needed marks) }
+/// Whether each row of a context that asks for a structure is marked.
+fn are_needed_marked(context: Context, marks: u64) -> bool
+    ensures { OnTrue result (AreMarkedAsNeeded (rows_of context) marks) }
 {
-    match needed_number(context) {
-        Some(number) => (marks >> number) & 1 != 0,
-        None => true,
-    }
+    let needed = needed_rows(context);
+    marks & needed == needed
 }
 
 /// Whether no row of a context asks for a structure.
 fn needs_nothing(context: Context) -> bool
-    ensures { OnTrue result (are_simple None 0 (rows_of context) ≡ true) }
+    ensures { OnTrue result (are_simple 0 0 (rows_of context) ≡ true) }
 {
-    match needed_number(context) {
-        Some(_) => false,
-        None => true,
-    }
+    needed_rows(context) == 0
 }
 
 /// Marks a row by the bit of its number, and tells whether one more of its structures may stand.
@@ -224,5 +219,5 @@ pub(crate) fn all_pass<F: Forest>(
         }
         place = after;
     }
-    is_needed_marked(context, marks)
+    are_needed_marked(context, marks)
 }

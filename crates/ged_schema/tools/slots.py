@@ -81,25 +81,26 @@ def print_found(weights, seeds, slots):
 
 
 def read_needed():
-    """The numbers of the rows of each context that ask for a structure, where there are such rows."""
-    rows = {}
+    """The rows of each context that ask for a structure, where there are such rows: a number with a bit for each of them."""
+    masks = {}
     for path in sorted((SOURCE / "tables").glob("*.rt")):
         for name, body in re.findall(r"static (\w+): \[Rule; \d+\] = \[(.*?)\];", path.read_text(), re.S):
-            rows[name] = [number for number, macro in enumerate(re.findall(r'(\w+)!\(\s*"', body)) if macro == "one"]
+            masks[name] = sum(1 << number for number, macro in enumerate(re.findall(r'(\w+)!\(\s*"', body)) if macro in ("one", "some"))
     arms = re.findall(r"Context::(\w+) => &(\w+),", (SOURCE / "tables.rt").read_text())
-    return {context: rows[name] for context, name in arms if rows[name]}
+    return {context: masks[name] for context, name in arms if masks[name]}
 
 
 def print_needed(needed):
-    for number in sorted({number for numbers in needed.values() for number in numbers}):
-        contexts = " | ".join(f"Context::{context}" for context in needed if number in needed[context])
-        print(f"        {contexts} => Some({number}),")
+    for mask in sorted(set(needed.values())):
+        contexts = " | ".join(f"Context::{context}" for context in needed if needed[context] == mask)
+        print(f"        {contexts} => {mask:#b},")
+    print("        _ => 0,")
 
 
-def read_arms(text, value):
-    """The contexts of the arms of a match, each with the number that its arm gives in this form."""
-    arms = re.findall(rf"((?:Context::\w+[\s|]*)+)=> {value},", text)
-    return {context: int(number) for left, number in arms for context in re.findall(r"Context::(\w+)", left)}
+def read_arms(text):
+    """The contexts of the arms of a match, each with the number that its arm gives."""
+    arms = re.findall(r"((?:Context::\w+[\s|]*)+)=> (0b[01]+|\d+),", text)
+    return {context: int(number, 0) for left, number in arms for context in re.findall(r"Context::(\w+)", left)}
 
 
 def compare(seeds, slots, needed):
@@ -108,9 +109,8 @@ def compare(seeds, slots, needed):
     array = re.search(r"static SLOTS: \[u8; \d+\] = \[(.*?)\];", code, re.S)[1]
     checks = {
         "the slots": [int(number) for number in re.findall(r"\d+", array)] == [slots.get(slot, 0) for slot in range(SLOTS)],
-        "the seeds": read_arms(code, r"(\d+)") == seeds,
-        "the needed rows": read_arms((SOURCE / "quick_check.rt").read_text(), r"Some\((\d+)\)")
-        == {context: numbers[0] for context, numbers in needed.items()},
+        "the seeds": read_arms(code) == seeds,
+        "the needed rows": read_arms((SOURCE / "quick_check.rt").read_text()) == needed,
     }
     for name, is_same in checks.items():
         print(f"ok: {name} are those of the tables" if is_same else f"FAILED: {name} are not those of the tables")

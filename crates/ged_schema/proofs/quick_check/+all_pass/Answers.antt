@@ -128,7 +128,7 @@ returns g t c =
     let d = g.F.Forest.trees c.args.forest.now in
     let left = trees_between d c.loop-after.place c.args.end in
     let all = trees_between d c.args.start c.args.end in
-    true_on c.is_needed_marked.result c.is_needed_marked.ensures (λ h. (
+    true_on c.are_needed_marked.result c.are_needed_marked.ensures (λ h. (
       marked_right h.0 (rows c.args.context) c.loop-after.marks left all c.in_default.ensures h.1 h.2 c.loop-after.invariant.marked,
       c.loop-after.invariant.checked (subst (λ (x : Trees). AreChecked d c.args.context x) (sym c.in_default.ensures) tt),
       noted_all c.args.context c.loop-after.pass.noted left c.args.pass.now.noted all c.in_default.ensures c.loop-after.invariant.noted,
