@@ -23,7 +23,7 @@ use Rattle.ged_schema.specs.Profiles.{CheckedAs, IsFirstNotice, IsFirstFaultAs}
 use Rattle.ged_schema.specs.CheckedLaws.{CheckedOrFault}
 use Rattle.ged_schema.proofs.FirstUnlisted.{unlisted_within, has_place as unlisted_place}
 use Rattle.ged_schema.proofs.NoticeLaws.{first_link, first_tag, one_way_lines, unlisted_lines, no_one_way, no_unlisted}
-use Rattle.ged_schema.proofs.Decided.{same_or_other, among_or_not, IsDecided, true_decided, both_decided, one_decided, name_decided, lowest_or_none}
+use Rattle.ged_schema.proofs.Decided.{bool_cases, same_or_other, among_or_not, IsDecided, true_decided, both_decided, one_decided, name_decided, lowest_or_none}
 use Rattle.ged_schema.proofs.CheckedOrFaulty.{some_tree_decided, are_checked}
 
 not_decided : {P : Type 0} → IsDecided P → IsDecided (P → ⊥)
@@ -131,41 +131,15 @@ is_unchecked _ = false
 asks : (c : Context) → is_unchecked c ≡ false → c ≢ contexts.Unchecked
 asks c other e = false≢true (sym other ∙ ap is_unchecked e)
 
+unchecked_is : (c : Context) → is_unchecked c ≡ true → c ≡ contexts.Unchecked
+unchecked_is contexts.Unchecked e = refl
+unchecked_is _ e = absurd (false≢true e)
+
 asked_decided : (c : Context) → IsDecided (c ≢ contexts.Unchecked)
-asked_decided contexts.File = inl (asks contexts.File refl)
-asked_decided contexts.Head = inl (asks contexts.Head refl)
-asked_decided contexts.Gedc = inl (asks contexts.Gedc refl)
-asked_decided contexts.Schma = inl (asks contexts.Schma refl)
-asked_decided contexts.HeadSour = inl (asks contexts.HeadSour refl)
-asked_decided contexts.HeadData = inl (asks contexts.HeadData refl)
-asked_decided contexts.HeadPlac = inl (asks contexts.HeadPlac refl)
-asked_decided contexts.DateTime = inl (asks contexts.DateTime refl)
-asked_decided contexts.DateMore = inl (asks contexts.DateMore refl)
-asked_decided contexts.Phrase = inl (asks contexts.Phrase refl)
-asked_decided contexts.Typed = inl (asks contexts.Typed refl)
-asked_decided contexts.Indi = inl (asks contexts.Indi refl)
-asked_decided contexts.IndiFact = inl (asks contexts.IndiFact refl)
-asked_decided contexts.IndiNamed = inl (asks contexts.IndiNamed refl)
-asked_decided contexts.IndiBirth = inl (asks contexts.IndiBirth refl)
-asked_decided contexts.IndiAdop = inl (asks contexts.IndiAdop refl)
-asked_decided contexts.AdopFamc = inl (asks contexts.AdopFamc refl)
-asked_decided contexts.IndiFamc = inl (asks contexts.IndiFamc refl)
-asked_decided contexts.Notes = inl (asks contexts.Notes refl)
-asked_decided contexts.NameMore = inl (asks contexts.NameMore refl)
-asked_decided contexts.NameTran = inl (asks contexts.NameTran refl)
-asked_decided contexts.Fam = inl (asks contexts.Fam refl)
-asked_decided contexts.FamFact = inl (asks contexts.FamFact refl)
-asked_decided contexts.FamNamed = inl (asks contexts.FamNamed refl)
-asked_decided contexts.FamAge = inl (asks contexts.FamAge refl)
-asked_decided contexts.NonEvent = inl (asks contexts.NonEvent refl)
-asked_decided contexts.Chan = inl (asks contexts.Chan refl)
-asked_decided contexts.Crea = inl (asks contexts.Crea refl)
-asked_decided contexts.Asso = inl (asks contexts.Asso refl)
-asked_decided contexts.Cite = inl (asks contexts.Cite refl)
-asked_decided contexts.CiteData = inl (asks contexts.CiteData refl)
-asked_decided contexts.Note = inl (asks contexts.Note refl)
-asked_decided contexts.Leaf = inl (asks contexts.Leaf refl)
-asked_decided contexts.Unchecked = inr (λ h. h refl)
+asked_decided c = elim (bool_cases (is_unchecked c)) [
+  | inl nothing ↦ inr (λ asks. asks (unchecked_is c nothing))
+  | inr other ↦ inl (asks c other)
+]
 
 unlisted_decided : (c : Context) (tag : Bytes) → IsDecided (IsUnlisted c tag)
 unlisted_decided c tag = three_decided (true_decided (is_standard_tag tag)) (asked_decided c) (none_decided (row c tag))
