@@ -1,8 +1,10 @@
 // The canonical spelling of a document, written from the document itself.
+pub(crate) mod answer;
 pub(crate) mod brief;
 pub(crate) mod document;
 pub(crate) mod lines;
 pub(crate) mod numbers;
 pub(crate) mod order;
+pub(crate) mod plan;
 pub(crate) mod siblings;
 pub(crate) mod structures;

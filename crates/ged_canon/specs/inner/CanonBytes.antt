@@ -1,17 +1,20 @@
 -- Nothing here need be believed: only private contracts and proofs cite it.
 -- The canonical spelling of HEAD and the records, as it is written; only private functions cite this.
-use Rattle.std.specs.Prelude.{◌≡◌, ◌↔◌, ℕ, true, List, Option, Some, None}
+use Rattle.std.specs.Prelude.{◌≡◌, ◌↔◌, ℕ, ◌++◌, true, List, Option, Some, None, Result, OnOk}
+use Rattle.std.specs.List.{AllByRecursion}
 use Rattle.ged_line.specs.Bytes.{Bytes}
 use Rattle.ged_line.specs.Spelling.{spelled_lines}
 use Rattle.ged_tree.specs.Trees.{Trees}
+use Rattle.ged_tree.specs.Documents.{is_document, are_at}
 use Rattle.ged_tree.specs.DocumentLines.{lines_of}
 use Rattle.ged_link.specs.Links.{IsAmong}
 use Rattle.ged_schema.specs.declared.context.Context.TheVariants.{File}
 use Rattle.ged_canon.specs.declared.edition.Edition.{Edition}
+use Rattle.ged_canon.specs.declared.writer.plan.Plan.{Plan}
 use Rattle.ged_canon.specs.declared.writer.siblings.Sibling.{Sibling}
 use Rattle.ged_canon.specs.Steps.{renamed}
-use Rattle.ged_canon.specs.inner.Working.{is_named, number_among, number_of}
-use Rattle.ged_canon.specs.inner.Siblings.{sibling_trees}
+use Rattle.ged_canon.specs.inner.Working.{is_named, number_among, number_of, IsNumberingOf}
+use Rattle.ged_canon.specs.inner.Siblings.{StandsIn, sibling_trees}
 
 -- the names are those that some pointer of the document has
 abbrev pub AreNamed : Trees → List Bytes → Type 0
@@ -29,3 +32,14 @@ numbered_siblings edition names d siblings = renamed (number_of 1 names) (siblin
 -- the lines of these
 abbrev pub spelled_siblings : Edition → List Bytes → Trees → List Sibling → Bytes
 spelled_siblings edition names d siblings = spelled_lines (lines_of 0 (numbered_siblings edition names d siblings))
+
+-- HEAD and records can be written
+pub record CanWriteRecords (edition : Edition) (d : Trees) (siblings : List Sibling) : Type 0 where
+  pub document : is_document d ≡ true
+  pub within : AllByRecursion (StandsIn d) siblings
+  pub stand : are_at 0 (sibling_trees (is_named d) edition File d siblings) ≡ true
+
+-- their lines are appended to an answer, by the names to which the plan's numbers belong
+abbrev pub WritesRecords : {T E : Type 0} → Trees → Plan → Result T E → Bytes → Bytes → List Sibling → Type 0
+WritesRecords d plan result old new siblings =
+    (names : List Bytes) → IsNumberingOf d names plan.index.now plan.numbers.now → AreNamed d names → OnOk result (new ≡ old ++ spelled_siblings plan.edition names d siblings)

@@ -33,18 +33,17 @@ numbers_in_order-requires-clause-distinct g c =
     let listed = ap (sibling_trees (is_named d) edition File d) c.as_slice-records.ensures.value ∙ c.in_ok-siblings.ensures.trees edition in
     sorted_distinct edition d (sibling_names d xs) c.requires.index.resolved (names_listed edition d xs listed)
 
-pub write_records-requires-clause-within : goal.write_records-requires-clause-within
-write_records-requires-clause-within g c =
-    let d = g.F.Forest.trees c.args.forest.now in
-    subst (λ (xs : List Sibling). AllByRecursion (StandsIn d) xs) (sym c.as_slice-records.ensures.value) c.in_ok-siblings.ensures.within
-
-pub write_records-requires-clause-stand : goal.write_records-requires-clause-stand
-write_records-requires-clause-stand g c =
+pub write_records-requires : goal.write_records-requires
+write_records-requires g c =
     let d = g.F.Forest.trees c.args.forest.now in
     let edition = c.args.edition in
     let xs = c.as_slice-records.result.now in
     let listed = ap (sibling_trees (is_named d) edition File d) c.as_slice-records.ensures.value ∙ c.in_ok-siblings.ensures.trees edition in
-    siblings_stand edition d xs c.document_siblings.ensures.document c.requires.index.resolved c.requires.checked listed
+    record {
+      document = c.document_siblings.ensures.document;
+      within = subst (λ (xs : List Sibling). AllByRecursion (StandsIn d) xs) (sym c.as_slice-records.ensures.value) c.in_ok-siblings.ensures.within;
+      stand = siblings_stand edition d xs c.document_siblings.ensures.document c.requires.index.resolved c.requires.checked listed;
+    }
 
 pub returns-clause-normal_form : goal.returns-clause-normal_form
 returns-clause-normal_form g c =
@@ -56,7 +55,7 @@ returns-clause-normal_form g c =
     let numbering : IsNumberingOf d names c.args.index.now c.as_slice-numbers.result.now =
     (c.requires.index, subst (λ (ns : List ℕ). AreNumbersOf d names ns) (sym c.as_slice-numbers.ensures.value) c.in_ok-counted.ensures) in
     let named = sorted_named edition d names c.requires.index.resolved (names_listed edition d xs listed) in
-    let told = file_spelled edition d xs c.in_ok-text.text.items c.write_records.new.out.items c.write_parts.new.out.items listed c.in_ok-text.ensures (c.in_ok-write_records.ensures names numbering named) c.in_ok-write_parts.ensures.ok in
+    let told = file_spelled edition d xs c.new-work.result.answer c.write_records.new.work.answer c.into_bytes.result.items listed (c.new-work.ensures ∙ c.in_ok-answer.ensures) (c.in_ok-write_records.ensures names numbering named) (c.into_bytes.ensures ∙ c.in_ok-push_parts.ensures) in
     (canon edition d, canon_is_normal_form edition d c.document_siblings.ensures.document c.requires.index.resolved c.requires.checked, told)
 
 pub returns-clause-only : goal.returns-clause-only
@@ -69,5 +68,5 @@ returns-clause-only g c = λ e form.
     let numbering : IsNumberingOf d names c.args.index.now c.as_slice-numbers.result.now =
     (c.requires.index, subst (λ (ns : List ℕ). AreNumbersOf d names ns) (sym c.as_slice-numbers.ensures.value) c.in_ok-counted.ensures) in
     let named = sorted_named edition d names c.requires.index.resolved (names_listed edition d xs listed) in
-    let told = file_spelled edition d xs c.in_ok-text.text.items c.write_records.new.out.items c.write_parts.new.out.items listed c.in_ok-text.ensures (c.in_ok-write_records.ensures names numbering named) c.in_ok-write_parts.ensures.ok in
-    only_form edition d e c.write_parts.new.out.items told form
+    let told = file_spelled edition d xs c.new-work.result.answer c.write_records.new.work.answer c.into_bytes.result.items listed (c.new-work.ensures ∙ c.in_ok-answer.ensures) (c.in_ok-write_records.ensures names numbering named) (c.into_bytes.ensures ∙ c.in_ok-push_parts.ensures) in
+    only_form edition d e c.into_bytes.result.items told form

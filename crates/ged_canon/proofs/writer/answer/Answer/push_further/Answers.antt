@@ -5,13 +5,13 @@ use Rattle.ged_line.specs.Spelling.{spelled_lines}
 use Rattle.ged_tree.specs.DocumentLines.{continued}
 use Rattle.std.specs.Prelude.{None}
 use Rattle.ged_canon.proofs.writer.OwnLines.{cont_line, plain_at, further_more}
-use Rattle.ged_canon.proofs.writer.structures.write_further.Goals as goal
+use Rattle.ged_canon.proofs.writer.answer.Answer.push_further.Goals as goal
 
 pub loop-number-init : goal.loop-number-init
-loop-number-init c = sym (append-nil c.args.out.now.items)
+loop-number-init c = sym (append-nil c.args.self.now)
 
-pub write_parts-requires : goal.write_parts-requires
-write_parts-requires c =
+pub push_parts-requires : goal.push_parts-requires
+push_parts-requires c =
     let further = c.args.further.now in
     let within : c.loop-number.number < length further = omega (arith, c.loop-number-test.true, c.count-number-end.ensures) in
     let some : 0 < length further = omega (arith, within) in
@@ -22,10 +22,10 @@ pub loop-number-preserved : goal.loop-number-preserved
 loop-number-preserved c =
     let further = c.args.further.now in
     let within : c.loop-number.number < length further = omega (arith, c.loop-number-test.true, c.count-number-end.ensures) in
-    further_more c.args.out.now.items c.loop-number.out.items c.write_parts.new.out.items (c.args.level + 1) further c.loop-number.number c.line.result.now _ within c.line.ensures c.text_value-value.ensures c.loop-number.invariant c.in_ok-write_parts.ensures.ok
+    further_more c.args.self.now c.loop-number.self c.push_parts.new.self (c.args.level + 1) further c.loop-number.number c.line.result.now _ within c.line.ensures c.text_value-value.ensures c.loop-number.invariant c.in_ok-push_parts.ensures
 
 pub returns : goal.returns
 returns c =
     let further = c.args.further.now in
     let most : length further ≤ c.loop-number.number = omega (arith, c.loop-number-test.false, c.count-number-end.ensures) in
-    c.loop-number.invariant ∙ ap (λ xs. c.args.out.now.items ++ spelled_lines (continued (c.args.level + 1) xs)) (take_all c.loop-number.number further most)
+    c.loop-number.invariant ∙ ap (λ xs. c.args.self.now ++ spelled_lines (continued (c.args.level + 1) xs)) (take_all c.loop-number.number further most)

@@ -8,7 +8,7 @@ use Rattle.ged_tree.specs.Runs.{IsRun, trees_between}
 use Rattle.ged_canon.specs.Steps.{renamed}
 use Rattle.ged_canon.specs.inner.Working.{number_of, sorted, each_sorted, IsNumberingOf}
 use Rattle.ged_canon.specs.inner.Siblings.{StandsIn, sibling_trees}
-use Rattle.ged_canon.proofs.writer.structures.+trees.Given as goal
+use Rattle.ged_canon.proofs.writer.plan.Writer.+trees.Given as goal
 
 -- each call below a structure is one level deeper, down to level 100
 abbrev pub decreases-write_tree : goal.decreases-write_tree
@@ -23,15 +23,15 @@ decreases-write_run g l = 3 * (101 - l.level) + 2
 -- what is written, and what is left of a run that is in order, are the whole
 abbrev pub invariant-write_run-loop-after : goal.invariant-write_run-loop-after
 invariant-write_run-loop-after g l =
-    let d = g.F.Forest.trees l.forest in
-    let left = each_sorted l.plan.edition l.fn.context (trees_between d l.place l.end) in
+    let d = g.F.Forest.trees l.self.forest.now in
+    let left = each_sorted l.self.plan.edition l.fn.context (trees_between d l.place l.end) in
     record {
       run : IsRun d l.place l.end;
-      kept : l.scratch.siblings.items ≡ l.fn.scratch.siblings.items;
+      kept : l.work.siblings.items ≡ l.fn.work.siblings.items;
       stand : are_at l.level left ≡ true;
-      told : (names : List Bytes) → IsNumberingOf d names l.plan.index.now l.plan.numbers.now →
-          l.out.items ++ spelled_lines (lines_of l.level (renamed (number_of 1 names) left))
-          ≡ l.fn.out.items ++ spelled_lines (lines_of l.level (renamed (number_of 1 names) (sorted l.plan.edition l.fn.context (trees_between d l.start l.end))));
+      told : (names : List Bytes) → IsNumberingOf d names l.self.plan.index.now l.self.plan.numbers.now →
+          l.work.answer ++ spelled_lines (lines_of l.level (renamed (number_of 1 names) left))
+          ≡ l.fn.work.answer ++ spelled_lines (lines_of l.level (renamed (number_of 1 names) (sorted l.self.plan.edition l.fn.context (trees_between d l.start l.end))));
     }
 
 abbrev pub decreases-write_run-loop-after : goal.decreases-write_run-loop-after
@@ -40,17 +40,17 @@ decreases-write_run-loop-after g l = l.end - l.place
 -- what is written, and what is left of the siblings, are the whole
 abbrev pub invariant-write_sorted-loop-number : goal.invariant-write_sorted-loop-number
 invariant-write_sorted-loop-number g l =
-    let d = g.F.Forest.trees l.forest in
-    let listed = drop l.number l.scratch.siblings.items in
-    let left = sibling_trees (λ name. true) l.plan.edition l.fn.context d listed in
+    let d = g.F.Forest.trees l.self.forest.now in
+    let listed = drop l.number l.work.siblings.items in
+    let left = sibling_trees (λ name. true) l.self.plan.edition l.fn.context d listed in
     record {
-      kept : take l.base l.scratch.siblings.items ≡ l.fn.scratch.siblings.items;
+      kept : take l.base l.work.siblings.items ≡ l.fn.work.siblings.items;
       within : AllByRecursion (StandsIn d) listed;
       stand : are_at l.level left ≡ true;
-      told : (names : List Bytes) → IsNumberingOf d names l.plan.index.now l.plan.numbers.now →
-          l.out.items ++ spelled_lines (lines_of l.level (renamed (number_of 1 names) left))
-          ≡ l.fn.out.items ++ spelled_lines (lines_of l.level (renamed (number_of 1 names) (sorted l.plan.edition l.fn.context (trees_between d l.start l.end))));
+      told : (names : List Bytes) → IsNumberingOf d names l.self.plan.index.now l.self.plan.numbers.now →
+          l.work.answer ++ spelled_lines (lines_of l.level (renamed (number_of 1 names) left))
+          ≡ l.fn.work.answer ++ spelled_lines (lines_of l.level (renamed (number_of 1 names) (sorted l.self.plan.edition l.fn.context (trees_between d l.start l.end))));
     }
 
 abbrev pub decreases-write_sorted-loop-number : goal.decreases-write_sorted-loop-number
-decreases-write_sorted-loop-number g l = length l.scratch.siblings.items - l.number
+decreases-write_sorted-loop-number g l = length l.work.siblings.items - l.number

@@ -8,7 +8,7 @@ use Rattle.ged_canon.specs.inner.Working.{is_named}
 use Rattle.ged_canon.specs.inner.Siblings.{StandsIn, sibling_trees}
 use Rattle.ged_canon.specs.inner.CanonBytes.{spelled_siblings}
 use Rattle.ged_canon.proofs.writer.Records.{first_stands, others_stand, left_split, left_after}
-use Rattle.ged_canon.proofs.writer.document.write_records.Goals as goal
+use Rattle.ged_canon.proofs.writer.plan.Writer.write_records.Goals as goal
 
 abbrev other : Sibling
 other = record { tag = record { ref_ptr = (0, 0); now = [] }; place = 0 }
@@ -16,28 +16,26 @@ other = record { tag = record { ref_ptr = (0, 0); now = [] }; place = 0 }
 pub loop-each-init : goal.loop-each-init
 loop-each-init g c = record { within = c.requires.within; stand = c.requires.stand; told = λ names h named. refl }
 
-pub write_record-requires-clause-within : goal.write_record-requires-clause-within
-write_record-requires-clause-within g c =
-    let d = g.F.Forest.trees c.args.forest.now in
+pub write_record-requires : goal.write_record-requires
+write_record-requires g c =
+    let d = g.F.Forest.trees c.args.self.now.forest.now in
+    let edition = c.args.self.now.plan.edition in
     let xs = c.args.siblings.now in
     let at = c.loop-each.each-index in
+    let split = left_split xs at other c.loop-each-test.true in
     let all : AllByRecursion (StandsIn d) (get_or xs at other ∷ drop (at + 1) xs) =
-    subst (λ (ys : List Sibling). AllByRecursion (StandsIn d) ys) (left_split xs at other c.loop-each-test.true) c.loop-each.invariant.within in
-    all.0
-
-pub write_record-requires-clause-stands : goal.write_record-requires-clause-stands
-write_record-requires-clause-stands g c =
-    let d = g.F.Forest.trees c.args.forest.now in
-    let edition = c.args.plan.now.edition in
-    let xs = c.args.siblings.now in
-    let at = c.loop-each.each-index in
-    first_stands edition d (get_or xs at other) (drop (at + 1) xs)
-    (ap (λ (ys : List Sibling). are_at 0 (sibling_trees (is_named d) edition File d ys)) (sym (left_split xs at other c.loop-each-test.true)) ∙ c.loop-each.invariant.stand)
+    subst (λ (ys : List Sibling). AllByRecursion (StandsIn d) ys) split c.loop-each.invariant.within in
+    record {
+      document = c.requires.document;
+      within = (all.0, tt);
+      stand = first_stands edition d (get_or xs at other) (drop (at + 1) xs)
+          (ap (λ (ys : List Sibling). are_at 0 (sibling_trees (is_named d) edition File d ys)) (sym split) ∙ c.loop-each.invariant.stand);
+    }
 
 pub loop-each-preserved : goal.loop-each-preserved
 loop-each-preserved g c =
-    let d = g.F.Forest.trees c.args.forest.now in
-    let edition = c.args.plan.now.edition in
+    let d = g.F.Forest.trees c.args.self.now.forest.now in
+    let edition = c.args.self.now.plan.edition in
     let xs = c.args.siblings.now in
     let at = c.loop-each.each-index in
     let split = left_split xs at other c.loop-each-test.true in
@@ -47,15 +45,15 @@ loop-each-preserved g c =
       within = all.1;
       stand = others_stand edition d (get_or xs at other) (drop (at + 1) xs)
           (ap (λ (ys : List Sibling). are_at 0 (sibling_trees (is_named d) edition File d ys)) (sym split) ∙ c.loop-each.invariant.stand);
-      told = λ names h named. left_after edition names d xs at (get_or xs at other) c.args.out.now.items c.loop-each.out.items c.write_record.new.out.items (spelled_siblings edition names d xs)
+      told = λ names h named. left_after edition names d xs at (get_or xs at other) c.args.work.now.answer c.loop-each.work.answer c.write_record.new.work.answer (spelled_siblings edition names d xs)
           split (c.loop-each.invariant.told names h named) (c.in_ok-write_record.ensures names h named);
     }
 
 pub returns : goal.returns
 returns g c = λ names h named.
-    let d = g.F.Forest.trees c.args.forest.now in
+    let d = g.F.Forest.trees c.args.self.now.forest.now in
     let xs = c.args.siblings.now in
     let none_left : drop c.loop-each.each-index xs ≡ [] = drop_all c.loop-each.each-index xs (omega arith) in
-    sym (append-nil c.loop-each.out.items)
-    ∙ ap (λ (ys : List Sibling). c.loop-each.out.items ++ spelled_siblings c.args.plan.now.edition names d ys) (sym none_left)
+    sym (append-nil c.loop-each.work.answer)
+    ∙ ap (λ (ys : List Sibling). c.loop-each.work.answer ++ spelled_siblings c.args.self.now.plan.edition names d ys) (sym none_left)
     ∙ c.loop-each.invariant.told names h named

@@ -19,7 +19,7 @@ use Rattle.ged_canon.specs.inner.Siblings.{StandsIn, sibling_trees}
 use Rattle.ged_canon.specs.inner.Writing.{brief_sibling, renamed_sibling}
 use Rattle.ged_canon.proofs.writer.SiblingTrees.{below_step}
 use Rattle.ged_canon.proofs.writer.RunsWritten.{tree_lines, written_below, written_all, first_stands, below_stands, rest_stands, next_told, next_left, all_listed, in_order_sorted, run_first}
-use Rattle.ged_canon.proofs.writer.structures.+trees.Goals as goal
+use Rattle.ged_canon.proofs.writer.plan.Writer.+trees.Goals as goal
 
 -- A structure, and what stands below it.
 
@@ -32,64 +32,60 @@ write_tree-write_run-requires g t c κs within =
       omega (arith, c.decreases, low),
       (
         within,
-        (
-          c.requires.document,
-          (
-            c.requires.run,
-            (
-              omega arith,
-              (λ i. are_at (c.args.level + 1) (sorted c.args.plan.now.edition (c.context_below.ensures i) (c.requires.deeper i))) ∙ c.requires.below,
-            ),
-          ),
-        ),
+        record {
+          document = c.requires.document;
+          run = c.requires.run;
+          deep = omega arith;
+          stand = (λ i. are_at (c.args.level + 1) (sorted c.args.self.now.plan.edition (c.context_below.ensures i) (c.requires.deeper i))) ∙ c.requires.below;
+        },
       ),
     )
 
 pub write_tree-returns-clause-lines : goal.write_tree-returns-clause-lines
 write_tree-returns-clause-lines g t c = λ names h.
-    let d = g.F.Forest.trees c.args.forest.now in
-    let edition = c.args.plan.now.edition in
+    let d = g.F.Forest.trees c.args.self.now.forest.now in
+    let edition = c.args.self.now.plan.edition in
     let new = number_of 1 names in
     let r = option_map as_row (option_copied c.args.rule) in
     let own = structure_lines c.args.level (renamed_sibling new edition r (option_copied c.args.xref) d c.args.sibling) in
-    subst (λ text. OnOk c.write_run.result (c.write_run.new.out.items ≡ text))
-    ((λ i. c.write_structure.new.out.items ++ spelled_lines (lines_of (c.args.level + 1) (renamed new (sorted edition (c.context_below.ensures i) (c.requires.deeper i)))))
-    ∙ written_below c.args.out.now.items c.write_structure.new.out.items own (lines_of (c.args.level + 1) (renamed new (sorted edition (below_row r) (below_at d c.args.sibling.place)))) (c.in_ok-write_structure.ensures names h))
+    subst (λ text. OnOk c.write_run.result (c.write_run.new.work.answer ≡ text))
+    ((λ i. c.write_structure.new.work.answer ++ spelled_lines (lines_of (c.args.level + 1) (renamed new (sorted edition (c.context_below.ensures i) (c.requires.deeper i)))))
+    ∙ written_below c.args.work.now.answer c.write_structure.new.work.answer own (lines_of (c.args.level + 1) (renamed new (sorted edition (below_row r) (below_at d c.args.sibling.place)))) (c.in_ok-write_structure.ensures.lines names h))
     (c.write_run.ensures.lines names h)
 
 -- nothing stands below a leaf
 pub write_tree-returns-then-start-end-clause-lines : goal.write_tree-returns-then-start-end-clause-lines
 write_tree-returns-then-start-end-clause-lines g t c = λ names h.
-    let d = g.F.Forest.trees c.args.forest.now in
+    let d = g.F.Forest.trees c.args.self.now.forest.now in
     let place = c.args.sibling.place in
-    let edition = c.args.plan.now.edition in
+    let edition = c.args.self.now.plan.edition in
     let new = number_of 1 names in
     let r = option_map as_row (option_copied c.args.rule) in
     let leaf : below_at d place ≡ none = sym c.requires.deeper ∙ run_ends d (place + 1) c.args.end (omega arith) in
     let own = structure_lines c.args.level (renamed_sibling new edition r (option_copied c.args.xref) d c.args.sibling) in
-    c.in_ok-write_structure.ensures names h
-    ∙ ap (λ ls. c.args.out.now.items ++ spelled_lines ls) (sym (append-nil own))
-    ∙ ap (λ t. c.args.out.now.items ++ spelled_lines (own ++ lines_of (c.args.level + 1) (renamed new (sorted edition (below_row r) t)))) (sym leaf)
+    c.in_ok-write_structure.ensures.lines names h
+    ∙ ap (λ ls. c.args.work.now.answer ++ spelled_lines ls) (sym (append-nil own))
+    ∙ ap (λ t. c.args.work.now.answer ++ spelled_lines (own ++ lines_of (c.args.level + 1) (renamed new (sorted edition (below_row r) t)))) (sym leaf)
 
 -- A run that is in order.
 
 pub write_run-loop-after-init : goal.write_run-loop-after-init
 write_run-loop-after-init g t c =
-    let d = g.F.Forest.trees c.args.forest.now in
-    let edition = c.args.plan.now.edition in
+    let d = g.F.Forest.trees c.args.self.now.forest.now in
+    let edition = c.args.self.now.plan.edition in
     let run = trees_between d c.args.start c.args.end in
     let same : each_sorted edition c.args.context run ≡ sorted edition c.args.context run = sym (in_order_sorted edition c.args.context run (c.are_in_order.ensures.0 c.if-not-are_in_order.false)) in
     record {
       run = c.requires.run;
       kept = refl;
       stand = ap (are_at c.args.level) same ∙ c.requires.stand;
-      told = λ names h. ap (λ left. c.args.out.now.items ++ spelled_lines (lines_of c.args.level (renamed (number_of 1 names) left))) same;
+      told = λ names h. ap (λ left. c.args.work.now.answer ++ spelled_lines (lines_of c.args.level (renamed (number_of 1 names) left))) same;
     }
 
 pub write_run-write_tree-requires : goal.write_run-write_tree-requires
 write_run-write_tree-requires g t c κs within =
-    let d = g.F.Forest.trees c.args.forest.now in
-    let edition = c.args.plan.now.edition in
+    let d = g.F.Forest.trees c.args.self.now.forest.now in
+    let edition = c.args.self.now.plan.edition in
     let place = c.loop-after.place in
     let sibling : Sibling = record { tag = c.tag.result; place = place } in
     let rule : option_map as_row (option_copied c.row-rule.result) ≡ row c.args.context sibling.tag.now = c.row-rule.ensures ∙ ap (λ k. row k sibling.tag.now) c.of-rows.ensures in
@@ -100,31 +96,23 @@ write_run-write_tree-requires g t c κs within =
       omega (arith, c.decreases),
       (
         within,
-        (
-          c.requires.document,
-          (
-            (c.in-Some.ensures.within, c.tag.ensures),
-            (
-              c.in-Some.ensures.below,
-              (
-                below_step d place c.args.end c.in-Some.after c.loop-after.invariant.run c.in-Some.ensures,
-                (
-                  subst (λ r. HasLinesAt c.args.level (brief_sibling edition r None d sibling)) (sym rule)
-                      (first_stands edition c.args.context d c.args.level sibling x all rest is c.requires.deep c.loop-after.invariant.stand),
-                  ap (λ r. are_at (c.args.level + 1) (sorted edition (below_row r) (below_at d place))) rule
-                      ∙ below_stands edition c.args.context d c.args.level sibling x all rest is c.requires.deep c.loop-after.invariant.stand,
-                ),
-              ),
-            ),
-          ),
-        ),
+        record {
+          document = c.requires.document;
+          within = (c.in-Some.ensures.within, c.tag.ensures);
+          run = c.in-Some.ensures.below;
+          deeper = below_step d place c.args.end c.in-Some.after c.loop-after.invariant.run c.in-Some.ensures;
+          stands = subst (λ r. HasLinesAt c.args.level (brief_sibling edition r None d sibling)) (sym rule)
+              (first_stands edition c.args.context d c.args.level sibling x all rest is c.requires.deep c.loop-after.invariant.stand);
+          below = ap (λ r. are_at (c.args.level + 1) (sorted edition (below_row r) (below_at d place))) rule
+              ∙ below_stands edition c.args.context d c.args.level sibling x all rest is c.requires.deep c.loop-after.invariant.stand;
+        },
       ),
     )
 
 pub write_run-loop-after-preserved : goal.write_run-loop-after-preserved
 write_run-loop-after-preserved g t c =
-    let d = g.F.Forest.trees c.args.forest.now in
-    let edition = c.args.plan.now.edition in
+    let d = g.F.Forest.trees c.args.self.now.forest.now in
+    let edition = c.args.self.now.plan.edition in
     let place = c.loop-after.place in
     let sibling : Sibling = record { tag = c.tag.result; place = place } in
     let rule : option_map as_row (option_copied c.row-rule.result) ≡ row c.args.context sibling.tag.now = c.row-rule.ensures ∙ ap (λ k. row k sibling.tag.now) c.of-rows.ensures in
@@ -137,16 +125,16 @@ write_run-loop-after-preserved g t c =
       kept = c.in_ok-write_tree.ensures.kept ∙ c.loop-after.invariant.kept;
       stand = rest_stands edition c.args.context d c.args.level sibling x all rest is c.requires.deep c.loop-after.invariant.stand;
       told = λ names h. next_told edition c.args.context d c.args.level sibling x all rest is c.requires.deep c.loop-after.invariant.stand (number_of 1 names)
-          (c.args.out.now.items ++ spelled_lines (lines_of c.args.level (renamed (number_of 1 names) (sorted edition c.args.context (trees_between d c.args.start c.args.end)))))
-          c.loop-after.out.items c.write_tree.new.out.items (c.in_ok-write_tree.ensures.lines names h ∙ ap (λ bytes. c.loop-after.out.items ++ bytes) (tree_lines (number_of 1 names) edition None d sibling c.args.level _ (row c.args.context sibling.tag.now) rule)) (c.loop-after.invariant.told names h);
+          (c.args.work.now.answer ++ spelled_lines (lines_of c.args.level (renamed (number_of 1 names) (sorted edition c.args.context (trees_between d c.args.start c.args.end)))))
+          c.loop-after.work.answer c.write_tree.new.work.answer (c.in_ok-write_tree.ensures.lines names h ∙ ap (λ bytes. c.loop-after.work.answer ++ bytes) (tree_lines (number_of 1 names) edition None d sibling c.args.level _ (row c.args.context sibling.tag.now) rule)) (c.loop-after.invariant.told names h);
     }
 
 pub write_run-returns-clause-lines : goal.write_run-returns-clause-lines
 write_run-returns-clause-lines g t c = λ names h.
-    let d = g.F.Forest.trees c.args.forest.now in
-    let edition = c.args.plan.now.edition in
-    written_all (c.args.out.now.items ++ spelled_lines (lines_of c.args.level (renamed (number_of 1 names) (sorted edition c.args.context (trees_between d c.args.start c.args.end)))))
-    c.loop-after.out.items (lines_of c.args.level (renamed (number_of 1 names) (each_sorted edition c.args.context (trees_between d c.loop-after.place c.args.end))))
+    let d = g.F.Forest.trees c.args.self.now.forest.now in
+    let edition = c.args.self.now.plan.edition in
+    written_all (c.args.work.now.answer ++ spelled_lines (lines_of c.args.level (renamed (number_of 1 names) (sorted edition c.args.context (trees_between d c.args.start c.args.end)))))
+    c.loop-after.work.answer (lines_of c.args.level (renamed (number_of 1 names) (each_sorted edition c.args.context (trees_between d c.loop-after.place c.args.end))))
     (ap (λ left. lines_of c.args.level (renamed (number_of 1 names) (each_sorted edition c.args.context left))) c.in_default.ensures)
     (c.loop-after.invariant.told names h)
 
@@ -154,9 +142,9 @@ write_run-returns-clause-lines g t c = λ names h.
 
 pub write_sorted-loop-number-init : goal.write_sorted-loop-number-init
 write_sorted-loop-number-init g t c =
-    let d = g.F.Forest.trees c.args.forest.now in
-    let edition = c.args.plan.now.edition in
-    let old = c.args.scratch.now.siblings.items in
+    let d = g.F.Forest.trees c.args.self.now.forest.now in
+    let edition = c.args.self.now.plan.edition in
+    let old = c.args.work.now.siblings.items in
     let items = c.push_sorted.new.siblings.items in
     let from : length old ≡ c.len-base.result = omega arith in
     let whole : sibling_trees (λ name. true) edition c.args.context d (drop c.len-base.result items) ≡ sorted edition c.args.context (trees_between d c.args.start c.args.end) =
@@ -166,14 +154,14 @@ write_sorted-loop-number-init g t c =
       kept = ap (λ base. take base items) (sym from) ∙ c.in_ok-push_sorted.ensures.kept;
       within = subst (λ base. AllByRecursion (StandsIn d) (drop base items)) from c.in_ok-push_sorted.ensures.within;
       stand = ap (are_at c.args.level) whole ∙ c.requires.stand;
-      told = λ names h. ap (λ left. c.args.out.now.items ++ spelled_lines (lines_of c.args.level (renamed (number_of 1 names) left))) whole;
+      told = λ names h. ap (λ left. c.args.work.now.answer ++ spelled_lines (lines_of c.args.level (renamed (number_of 1 names) left))) whole;
     }
 
 pub write_sorted-write_tree-requires : goal.write_sorted-write_tree-requires
 write_sorted-write_tree-requires g t c κs within =
-    let d = g.F.Forest.trees c.args.forest.now in
-    let edition = c.args.plan.now.edition in
-    let items = c.loop-number.scratch.siblings.items in
+    let d = g.F.Forest.trees c.args.self.now.forest.now in
+    let edition = c.args.self.now.plan.edition in
+    let items = c.loop-number.work.siblings.items in
     let at = c.loop-number.number in
     let sibling = c.index-sibling.result.now in
     let rule : option_map as_row (option_copied c.row-rule.result) ≡ row c.args.context sibling.tag.now = c.row-rule.ensures ∙ ap (λ k. row k sibling.tag.now) c.of-rows.ensures in
@@ -186,33 +174,25 @@ write_sorted-write_tree-requires g t c κs within =
       omega (arith, c.decreases),
       (
         within,
-        (
-          c.requires.document,
-          (
-            here,
-            (
-              subst (λ q. IsRun d (sibling.place + 1) q) (sym c.after-after.ensures) (run_below d sibling.place here.0),
-              (
-                ap (trees_between d (sibling.place + 1)) c.after-after.ensures ∙ below_run d sibling.place here.0,
-                (
-                  subst (λ r. HasLinesAt c.args.level (brief_sibling edition r None d sibling)) (sym rule)
-                      (first_stands edition c.args.context d c.args.level sibling x all rest is c.requires.deep c.loop-number.invariant.stand),
-                  ap (λ r. are_at (c.args.level + 1) (sorted edition (below_row r) (below_at d sibling.place))) rule
-                      ∙ below_stands edition c.args.context d c.args.level sibling x all rest is c.requires.deep c.loop-number.invariant.stand,
-                ),
-              ),
-            ),
-          ),
-        ),
+        record {
+          document = c.requires.document;
+          within = here;
+          run = subst (λ q. IsRun d (sibling.place + 1) q) (sym c.after-after.ensures) (run_below d sibling.place here.0);
+          deeper = ap (trees_between d (sibling.place + 1)) c.after-after.ensures ∙ below_run d sibling.place here.0;
+          stands = subst (λ r. HasLinesAt c.args.level (brief_sibling edition r None d sibling)) (sym rule)
+              (first_stands edition c.args.context d c.args.level sibling x all rest is c.requires.deep c.loop-number.invariant.stand);
+          below = ap (λ r. are_at (c.args.level + 1) (sorted edition (below_row r) (below_at d sibling.place))) rule
+              ∙ below_stands edition c.args.context d c.args.level sibling x all rest is c.requires.deep c.loop-number.invariant.stand;
+        },
       ),
     )
 
 pub write_sorted-loop-number-preserved : goal.write_sorted-loop-number-preserved
 write_sorted-loop-number-preserved g t c =
-    let d = g.F.Forest.trees c.args.forest.now in
-    let edition = c.args.plan.now.edition in
-    let items = c.loop-number.scratch.siblings.items in
-    let now = c.write_tree.new.scratch.siblings.items in
+    let d = g.F.Forest.trees c.args.self.now.forest.now in
+    let edition = c.args.self.now.plan.edition in
+    let items = c.loop-number.work.siblings.items in
+    let now = c.write_tree.new.work.siblings.items in
     let at = c.loop-number.number in
     let sibling = c.index-sibling.result.now in
     let rule : option_map as_row (option_copied c.row-rule.result) ≡ row c.args.context sibling.tag.now = c.row-rule.ensures ∙ ap (λ k. row k sibling.tag.now) c.of-rows.ensures in
@@ -229,20 +209,20 @@ write_sorted-loop-number-preserved g t c =
       stand = ap (λ (xs : List Sibling). are_at c.args.level (sibling_trees (λ name. true) edition c.args.context d (drop (at + 1) xs))) same
           ∙ rest_stands edition c.args.context d c.args.level sibling x all rest is c.requires.deep c.loop-number.invariant.stand;
       told = λ names h.
-          ap (λ (xs : List Sibling). c.write_tree.new.out.items ++ spelled_lines (lines_of c.args.level (renamed (number_of 1 names) (sibling_trees (λ name. true) edition c.args.context d (drop (at + 1) xs))))) same
+          ap (λ (xs : List Sibling). c.write_tree.new.work.answer ++ spelled_lines (lines_of c.args.level (renamed (number_of 1 names) (sibling_trees (λ name. true) edition c.args.context d (drop (at + 1) xs))))) same
           ∙ next_told edition c.args.context d c.args.level sibling x all rest is c.requires.deep c.loop-number.invariant.stand (number_of 1 names)
-          (c.args.out.now.items ++ spelled_lines (lines_of c.args.level (renamed (number_of 1 names) (sorted edition c.args.context (trees_between d c.args.start c.args.end)))))
-          c.loop-number.out.items c.write_tree.new.out.items (c.in_ok-write_tree.ensures.lines names h ∙ ap (λ bytes. c.loop-number.out.items ++ bytes) (tree_lines (number_of 1 names) edition None d sibling c.args.level _ (row c.args.context sibling.tag.now) rule)) (c.loop-number.invariant.told names h);
+          (c.args.work.now.answer ++ spelled_lines (lines_of c.args.level (renamed (number_of 1 names) (sorted edition c.args.context (trees_between d c.args.start c.args.end)))))
+          c.loop-number.work.answer c.write_tree.new.work.answer (c.in_ok-write_tree.ensures.lines names h ∙ ap (λ bytes. c.loop-number.work.answer ++ bytes) (tree_lines (number_of 1 names) edition None d sibling c.args.level _ (row c.args.context sibling.tag.now) rule)) (c.loop-number.invariant.told names h);
     }
 
 pub write_sorted-returns-clause-lines : goal.write_sorted-returns-clause-lines
 write_sorted-returns-clause-lines g t c = λ names h.
-    let d = g.F.Forest.trees c.args.forest.now in
-    let edition = c.args.plan.now.edition in
-    let items = c.loop-number.scratch.siblings.items in
+    let d = g.F.Forest.trees c.args.self.now.forest.now in
+    let edition = c.args.self.now.plan.edition in
+    let items = c.loop-number.work.siblings.items in
     let at = c.loop-number.number in
     let nothing : drop at items ≡ [] = drop_all at items (omega arith) in
-    written_all (c.args.out.now.items ++ spelled_lines (lines_of c.args.level (renamed (number_of 1 names) (sorted edition c.args.context (trees_between d c.args.start c.args.end)))))
-    c.loop-number.out.items (lines_of c.args.level (renamed (number_of 1 names) (sibling_trees (λ name. true) edition c.args.context d (drop at items))))
+    written_all (c.args.work.now.answer ++ spelled_lines (lines_of c.args.level (renamed (number_of 1 names) (sorted edition c.args.context (trees_between d c.args.start c.args.end)))))
+    c.loop-number.work.answer (lines_of c.args.level (renamed (number_of 1 names) (sibling_trees (λ name. true) edition c.args.context d (drop at items))))
     (ap (λ (xs : List Sibling). lines_of c.args.level (renamed (number_of 1 names) (sibling_trees (λ name. true) edition c.args.context d xs))) nothing)
     (c.loop-number.invariant.told names h)

@@ -1,8 +1,8 @@
 use Rattle.std.proofs.Common.{◌≡◌, ◌+◌, ◌++◌, take}
 use Rattle.ged_line.specs.Spelling.{spelled_lines}
 use Rattle.ged_tree.specs.DocumentLines.{continued}
-use Rattle.ged_canon.proofs.writer.structures.write_further.Given as goal
+use Rattle.ged_canon.proofs.writer.answer.Answer.push_further.Given as goal
 
 -- the CONT lines so far are written
 abbrev pub invariant-loop-number : goal.invariant-loop-number
-invariant-loop-number l = l.out.items ≡ l.fn.out.items ++ spelled_lines (continued (l.level + 1) (take l.number l.further))
+invariant-loop-number l = l.self ≡ l.fn.self ++ spelled_lines (continued (l.level + 1) (take l.number l.further))

@@ -1,0 +1,36 @@
+use Rattle.std.proofs.Common.{◌≡◌, ◌++◌, ◌∷◌, [], Some, OnOk, option_map, sym, ap, ◌∙◌, subst}
+use Rattle.std.specs.Option.{option_copied}
+use Rattle.ged_line.specs.Lines.{is_line, line_parts}
+use Rattle.ged_line.specs.Spelling.{spelling}
+use Rattle.ged_tree.specs.DocumentLines.{line_value}
+use Rattle.ged_schema.specs.Rows.{as_row}
+use Rattle.ged_canon.specs.inner.Working.{brief_line}
+use Rattle.ged_canon.proofs.theory.Brief.{brief_same}
+use Rattle.ged_canon.proofs.writer.OwnLines.{line_no_row}
+use Rattle.ged_canon.proofs.writer.plan.Plan.write_text.Goals as goal
+
+pub push_parts-requires : goal.push_parts-requires
+push_parts-requires c =
+    let same : brief_line c.args.self.now.edition (option_map as_row (option_copied c.args.rule)) c.args.line.now ≡ c.args.line.now =
+    ap (λ r. brief_line c.args.self.now.edition (option_map as_row (option_copied r)) c.args.line.now) c.in_default.is ∙ line_no_row c.args.self.now.edition c.args.line.now in
+    ap (λ v. is_line (line_parts c.args.level (option_copied c.args.xref) c.args.tag.now v)) (c.text_value.ensures ∙ ap line_value (sym same)) ∙ c.requires
+
+pub returns-in_default : goal.returns-in_default
+returns-in_default c =
+    let same : brief_line c.args.self.now.edition (option_map as_row (option_copied c.args.rule)) c.args.line.now ≡ c.args.line.now =
+    ap (λ r. brief_line c.args.self.now.edition (option_map as_row (option_copied r)) c.args.line.now) c.in_default.is ∙ line_no_row c.args.self.now.edition c.args.line.now in
+    subst (λ v. OnOk c.push_parts.result (c.push_parts.new.self ≡ c.args.answer.now ++ (spelling (line_parts c.args.level (option_copied c.args.xref) c.args.tag.now v) ++ 10 ∷ [])))
+    (c.text_value.ensures ∙ ap line_value (sym same)) c.push_parts.ensures
+
+pub push_parts-requires-then-is_brief_line : goal.push_parts-requires-then-is_brief_line
+push_parts-requires-then-is_brief_line c =
+    let same : brief_line c.args.self.now.edition (option_map as_row (option_copied c.args.rule)) c.args.line.now ≡ c.args.line.now =
+    ap (λ r. brief_line c.args.self.now.edition (option_map as_row (option_copied r)) c.args.line.now) c.in-Some.is ∙ brief_same c.args.self.now.edition (Some (as_row c.in-Some.rule.now)) c.args.line.now (c.is_brief_line.ensures.0 c.if-is_brief_line.true) in
+    ap (λ v. is_line (line_parts c.args.level (option_copied c.args.xref) c.args.tag.now v)) (c.text_value-then-is_brief_line.ensures ∙ ap line_value (sym same)) ∙ c.requires
+
+pub returns-then-is_brief_line : goal.returns-then-is_brief_line
+returns-then-is_brief_line c =
+    let same : brief_line c.args.self.now.edition (option_map as_row (option_copied c.args.rule)) c.args.line.now ≡ c.args.line.now =
+    ap (λ r. brief_line c.args.self.now.edition (option_map as_row (option_copied r)) c.args.line.now) c.in-Some.is ∙ brief_same c.args.self.now.edition (Some (as_row c.in-Some.rule.now)) c.args.line.now (c.is_brief_line.ensures.0 c.if-is_brief_line.true) in
+    subst (λ v. OnOk c.push_parts-then-is_brief_line.result (c.push_parts-then-is_brief_line.new.self ≡ c.args.answer.now ++ (spelling (line_parts c.args.level (option_copied c.args.xref) c.args.tag.now v) ++ 10 ∷ [])))
+    (c.text_value-then-is_brief_line.ensures ∙ ap line_value (sym same)) c.push_parts-then-is_brief_line.ensures
