@@ -10,7 +10,9 @@ use Rattle.ged_value.specs.inner.WordReading.{around}
 use Rattle.ged_value.specs.Dates.{DateParts, calendar_words, SpellsDate}
 use Rattle.ged_value.specs.inner.DateReading.{date_at}
 use Rattle.ged_value.specs.Values.{PeriodParts, empty, to, from, from_to, ValueParts, span, plain, between, after, before, about, calculated, estimated, Behind, BothBehind, SpellsPeriod, SpellsValue}
-use Rattle.ged_value.specs.inner.ValueReading.{both_dates, dates_at, from_at, period_at, value_at}
+use Rattle.ged_value.specs.inner.ValueReading.{both_dates, dates_at, from_at, period_at, keyword_at, behind, value_behind, value_at}
+use Rattle.ged_value.specs.declared.value.Keyword.{Keyword}
+use Rattle.ged_value.specs.declared.value.Keyword.TheVariants.{After, Before, About, Calculated, Estimated}
 use Rattle.ged_value.proofs.DateLaws.{date_again, date_found, nots}
 use Rattle.ged_value.proofs.Foreign.{Lack, is_foreign, foreign_lacks}
 
@@ -59,12 +61,12 @@ plain_again : (d : DateParts) (ws : List Bytes) → SpellsDate d ws → date_at 
 plain_again d [] h e = absurd (none_some e)
 plain_again d (w ∷ ws) h e =
     rw (
-      other_first (codes "BET") refl refl d w ws h,
       other_first (codes "AFT") refl refl d w ws h,
       other_first (codes "BEF") refl refl d w ws h,
       other_first (codes "ABT") refl refl d w ws h,
       other_first (codes "CAL") refl refl d w ws h,
       other_first (codes "EST") refl refl d w ws h,
+      other_first (codes "BET") refl refl d w ws h,
       other_first [] refl refl d w ws h,
       other_first (codes "TO") refl refl d w ws h,
       other_first (codes "FROM") refl refl d w ws h,
@@ -139,18 +141,47 @@ period_found p (w ∷ ws) h =
     (λ n1 h1. chosen _ _ _ _ P h1 (λ e o. from_found w ws (around (codes "TO") ws) p refl o e)
     (λ n2 h2. chosen _ _ _ _ P h2 (λ e o. empty_found w ws p e o) (λ n3 h3. absurd (none_some h3))))
 
-pub value_found : (v : ValueParts) (ws : List Bytes) → value_at ws ≡ Some v → SpellsValue v ws
-value_found v [] h = absurd (none_some h)
-value_found v (w ∷ ws) h =
+-- the word that a keyword stands for
+abbrev keyword_word : Keyword → Bytes
+keyword_word After = codes "AFT"
+keyword_word Before = codes "BEF"
+keyword_word About = codes "ABT"
+keyword_word Calculated = codes "CAL"
+keyword_word Estimated = codes "EST"
+
+some_keyword : (k l : Keyword) → Some k ≡ Some l → k ≡ l
+some_keyword k l e = cc
+
+-- a keyword is the word that it stands for
+keyword_found : (w : Bytes) (k : Keyword) → keyword_at w ≡ Some k → bytes_eq w (keyword_word k) ≡ true
+keyword_found w k h =
+    let P : Type 0 = bytes_eq w (keyword_word k) ≡ true in
+    let Q : Type 0 = (l : Keyword) → bytes_eq w (keyword_word l) ≡ true → Some l ≡ Some k → P in
+    let is : Q = λ l e o. subst (λ x. bytes_eq w (keyword_word x) ≡ true) (some_keyword l k o) e in
+    chosen _ _ _ _ P h (is After)
+    (λ n1 h1. chosen _ _ _ _ P h1 (is Before)
+    (λ n2 h2. chosen _ _ _ _ P h2 (is About)
+    (λ n3 h3. chosen _ _ _ _ P h3 (is Calculated)
+    (λ n4 h4. chosen _ _ _ _ P h4 (is Estimated) (λ n5 h5. absurd (none_some h5))))))
+
+behind_found : (k : Keyword) (w : Bytes) (ws : List Bytes) (v : ValueParts) → bytes_eq w (keyword_word k) ≡ true → option_map (behind k) (date_at ws) ≡ Some v → SpellsValue v (w ∷ ws)
+behind_found After w ws v e h = date_behind (codes "AFT") after (λ d ws b. b) w ws v e h
+behind_found Before w ws v e h = date_behind (codes "BEF") before (λ d ws b. b) w ws v e h
+behind_found About w ws v e h = date_behind (codes "ABT") about (λ d ws b. b) w ws v e h
+behind_found Calculated w ws v e h = date_behind (codes "CAL") calculated (λ d ws b. b) w ws v e h
+behind_found Estimated w ws v e h = date_behind (codes "EST") estimated (λ d ws b. b) w ws v e h
+
+first_found : (k : Option Keyword) (v : ValueParts) (w : Bytes) (ws : List Bytes) → keyword_at w ≡ k → value_behind k w ws ≡ Some v → SpellsValue v (w ∷ ws)
+first_found (Some k) v w ws e h = behind_found k w ws v (keyword_found w k e) h
+first_found None v w ws n h =
     let P = SpellsValue v (w ∷ ws) in
     chosen _ _ _ _ P h
     (λ e o. let m = map_some (λ dates. between dates.0 dates.1) (dates_at (around (codes "AND") ws)) v o in
     subst (λ x. SpellsValue x (w ∷ ws)) m.2 (dates_found (codes "AND") (codes "BET") w ws (around (codes "AND") ws) m.0 refl m.1 e))
-    (λ n1 h1. chosen _ _ _ _ P h1 (λ e o. date_behind (codes "AFT") after (λ d ws b. b) w ws v e o)
-    (λ n2 h2. chosen _ _ _ _ P h2 (λ e o. date_behind (codes "BEF") before (λ d ws b. b) w ws v e o)
-    (λ n3 h3. chosen _ _ _ _ P h3 (λ e o. date_behind (codes "ABT") about (λ d ws b. b) w ws v e o)
-    (λ n4 h4. chosen _ _ _ _ P h4 (λ e o. date_behind (codes "CAL") calculated (λ d ws b. b) w ws v e o)
-    (λ n5 h5. chosen _ _ _ _ P h5 (λ e o. date_behind (codes "EST") estimated (λ d ws b. b) w ws v e o)
-    (λ n6 h6. chosen _ _ _ _ P h6
+    (λ n1 h1. chosen _ _ _ _ P h1
     (λ e o. let m = map_some span (period_at (w ∷ ws)) v o in subst (λ x. SpellsValue x (w ∷ ws)) m.2 (period_found m.0 (w ∷ ws) m.1))
-    (λ n7 o. let m = map_some plain (date_at (w ∷ ws)) v o in subst (λ x. SpellsValue x (w ∷ ws)) m.2 (date_found m.0 (w ∷ ws) m.1))))))))
+    (λ n2 o. let m = map_some plain (date_at (w ∷ ws)) v o in subst (λ x. SpellsValue x (w ∷ ws)) m.2 (date_found m.0 (w ∷ ws) m.1)))
+
+pub value_found : (v : ValueParts) (ws : List Bytes) → value_at ws ≡ Some v → SpellsValue v ws
+value_found v [] h = absurd (none_some h)
+value_found v (w ∷ ws) h = first_found (keyword_at w) v w ws refl h

@@ -1,11 +1,12 @@
 // Periods and date values.
-ghost use Rattle.std.specs.Prelude.{◌≡◌};
+ghost use Rattle.std.specs.Prelude.{◌≡◌, codes};
 ghost use Rattle.std.specs.Option.{option_map};
 ghost use Rattle.ged_value.specs.inner.Texts.{texts};
 ghost use Rattle.ged_value.specs.inner.WordReading.{around};
 ghost use Rattle.ged_value.specs.Reading.{Reads};
-ghost use Rattle.ged_value.specs.Values.{PeriodText, DateValueText};
-ghost use Rattle.ged_value.specs.inner.ValueReading.{period_from, period_at, value_at, dates_at};
+ghost use Rattle.ged_value.specs.Values.{PeriodText, DateValueText, between};
+ghost use Rattle.ged_value.specs.inner.DateReading.{date_at};
+ghost use Rattle.ged_value.specs.inner.ValueReading.{keyword_at, behind, both_dates, period_from, period_at, value_at, dates_at};
 ghost use Rattle.ged_value.specs.Views.{date_parts};
 ghost use Rattle.ged_value.specs.ValueViews.{period_parts, value_parts};
 
@@ -46,13 +47,58 @@ pub enum DateValue<'a> {
     Estimated(Date<'a>),
 }
 
+/// A keyword that stands before a single date.
+#[derive(Clone, Copy)]
+enum Keyword {
+    After,
+    Before,
+    About,
+    Calculated,
+    Estimated,
+}
+
+/// The keyword that a word is.
+fn keyword_at(word: &str) -> Option<Keyword>
+    ensures { result ≡ keyword_at word.now }
+{
+    match word {
+        "AFT" => Some(Keyword::After),
+        "BEF" => Some(Keyword::Before),
+        "ABT" => Some(Keyword::About),
+        "CAL" => Some(Keyword::Calculated),
+        "EST" => Some(Keyword::Estimated),
+        _ => None,
+    }
+}
+
+/// The date value of a keyword and the date behind it.
+fn behind(keyword: Keyword, date: Date<'_>) -> DateValue<'_>
+    ensures { value_parts result ≡ behind keyword (date_parts date.entry) }
+{
+    match keyword {
+        Keyword::After => DateValue::After(date),
+        Keyword::Before => DateValue::Before(date),
+        Keyword::About => DateValue::About(date),
+        Keyword::Calculated => DateValue::Calculated(date),
+        Keyword::Estimated => DateValue::Estimated(date),
+    }
+}
+
+/// The dates that the words of two sides spell.
+fn both_dates<'a>(before: &[&'a str], after: &[&'a str]) -> Option<(Date<'a>, Date<'a>)>
+    ensures { option_map (λ dates. (date_parts dates.0, date_parts dates.1)) result
+        ≡ both_dates (date_at (texts before.now)) (date_at (texts after.now)) }
+{
+    Some((date_at(before)?, date_at(after)?))
+}
+
 /// The dates before and after a word, if it stands there.
 fn dates_at<'a>(words: &[&'a str], word: &str) -> Option<(Date<'a>, Date<'a>)>
     ensures { option_map (λ dates. (date_parts dates.0, date_parts dates.1)) result
         ≡ dates_at (around word.now (texts words.now)) }
 {
     let (before, after) = around(words, word)?;
-    Some((date_at(before)?, date_at(after)?))
+    both_dates(before, after)
 }
 
 /// The period of the words behind `FROM`.
@@ -60,8 +106,11 @@ fn period_from<'a>(words: &[&'a str]) -> Option<Period<'a>>
     ensures { option_map period_parts result ≡ period_from (texts words.now) }
 {
     match around(words, "TO") {
-        Some((start, end)) => Some(Period::FromTo(date_at(start)?, date_at(end)?)),
-        None => Some(Period::From(date_at(words)?)),
+        Some((before, after)) => {
+            let (start, end) = both_dates(before, after)?;
+            Some(Period::FromTo(start, end))
+        }
+        None => date_at(words).map(Period::From),
     }
 }
 
@@ -71,11 +120,20 @@ fn period_at<'a>(words: &[&'a str]) -> Option<Period<'a>>
 {
     let (first, others) = words.split_first()?;
     match *first {
-        "TO" => Some(Period::To(date_at(others)?)),
+        "TO" => date_at(others).map(Period::To),
         "FROM" => period_from(others),
         "" => others.is_empty().then_some(Period::Empty),
         _ => None,
     }
+}
+
+/// The date value of the words behind `BET`.
+fn between_at<'a>(words: &[&'a str]) -> Option<DateValue<'a>>
+    ensures { option_map value_parts result
+        ≡ option_map (λ dates. between dates.0 dates.1) (dates_at (around (codes "AND") (texts words.now))) }
+{
+    let (first, last) = dates_at(words, "AND")?;
+    Some(DateValue::Between(first, last))
 }
 
 /// The date value that the words spell.
@@ -83,18 +141,13 @@ fn value_at<'a>(words: &[&'a str]) -> Option<DateValue<'a>>
     ensures { option_map value_parts result ≡ value_at (texts words.now) }
 {
     let (first, others) = words.split_first()?;
+    if let Some(keyword) = keyword_at(first) {
+        return Some(behind(keyword, date_at(others)?));
+    }
     match *first {
-        "BET" => {
-            let (first, last) = dates_at(others, "AND")?;
-            Some(DateValue::Between(first, last))
-        }
-        "AFT" => Some(DateValue::After(date_at(others)?)),
-        "BEF" => Some(DateValue::Before(date_at(others)?)),
-        "ABT" => Some(DateValue::About(date_at(others)?)),
-        "CAL" => Some(DateValue::Calculated(date_at(others)?)),
-        "EST" => Some(DateValue::Estimated(date_at(others)?)),
-        "" | "TO" | "FROM" => Some(DateValue::Span(period_at(words)?)),
-        _ => Some(DateValue::Plain(date_at(words)?)),
+        "BET" => between_at(others),
+        "" | "TO" | "FROM" => period_at(words).map(DateValue::Span),
+        _ => date_at(words).map(DateValue::Plain),
     }
 }
 
