@@ -1,5 +1,6 @@
 // The document of lines.
 ghost use Rattle.std.specs.Prelude.{◌≡◌, None, IfOk, IfErr};
+ghost use Rattle.ged_line.specs.Files.{FileText};
 ghost use Rattle.ged_tree.specs.DocumentLines.{HasLines};
 ghost use Rattle.ged_tree.specs.TreeFaults.{FirstFault};
 ghost use Rattle.ged_tree.specs.declared.fault.TreeFault.TheVariants.{Line};
@@ -42,11 +43,20 @@ pub fn build(alloc: Global, lines: &Lines) -> Result<Document, BuildFault>
     ensures whole { IfOk result (λ _. lines.now.stop ≡ None) }
     ensures fault { IfErr result (λ fault. TellsBuild fault lines.now.lines.items lines.now.stop) }
 {
-    let file = match write_lines(alloc, lines.lines.as_slice()) {
-        Ok(file) => file,
-        Err(error) => return Err(BuildFault::Memory(error)),
-    };
-    let flat = match flatten(alloc, file.as_slice()) {
+    match write_lines(alloc, lines.lines.as_slice()) {
+        Ok(file) => document_of_file(alloc, file.as_slice(), lines),
+        Err(error) => Err(BuildFault::Memory(error)),
+    }
+}
+
+/// The same, with the file that the lines are written as.
+fn document_of_file(alloc: Global, file: &[u8], lines: &Lines) -> Result<Document, BuildFault>
+    requires { FileText lines.now.lines.items file.now }
+    ensures document { IfOk result (λ document. HasLines document lines.now.lines.items) }
+    ensures whole { IfOk result (λ _. lines.now.stop ≡ None) }
+    ensures fault { IfErr result (λ fault. TellsBuild fault lines.now.lines.items lines.now.stop) }
+{
+    let flat = match flatten(alloc, file) {
         Ok(flat) => flat,
         Err(BuildFault::At(at)) => return Err(BuildFault::At(first_fault(at, lines))),
         Err(BuildFault::Memory(error)) => return Err(BuildFault::Memory(error)),

@@ -1,19 +1,4 @@
-use Rattle.ged_tree.proofs.theory.Building.{written_fault, written_has, written_stop}
 use Rattle.ged_tree.proofs.owned.building.build.Goals as goal
 
-pub first_fault-requires : goal.first_fault-requires
-first_fault-requires c =
-    let text = rw (c.as_slice.ensures.value, ← c.as_slice-2.ensures.value) at c.in-Ok.ensures.text in
-    let told = rw c.in-Err-At.field-0-is at c.in-Err-At.ensures.fault in
-    rw c.in-Err-At.field-0-is (written_fault c.args.lines.now.lines.items c.as_slice-2.result.now text c.in-Err-At.at told)
-
-pub returns-in-Some-clause-fault : goal.returns-in-Some-clause-fault
-returns-in-Some-clause-fault c =
-    let text = rw (c.as_slice.ensures.value, ← c.as_slice-2.ensures.value) at c.in-Ok.ensures.text in
-    rw c.in-Some.is (written_stop c.args.lines.now.lines.items c.as_slice-2.result.now text c.in-Ok-flatten.flat c.in-Some.stop c.fault_of_stop.result.line c.fault_of_stop.result.fault
-    c.in-Ok-flatten.ensures.document c.fault_of_stop.ensures.line c.fault_of_stop.ensures.fault)
-
-pub returns-in-Ok-document_of-clause-document : goal.returns-in-Ok-document_of-clause-document
-returns-in-Ok-document_of-clause-document c =
-    let text = rw (c.as_slice.ensures.value, ← c.as_slice-2.ensures.value) at c.in-Ok.ensures.text in
-    rw c.in-Ok-document_of.ensures (written_has c.args.lines.now.lines.items c.as_slice-2.result.now text c.in-Ok-flatten.flat c.in-Ok-flatten.ensures.document)
+pub document_of_file-requires : goal.document_of_file-requires
+document_of_file-requires c = rw (c.as_slice.ensures.value, ← c.as_slice-in-Ok.ensures.value) at c.in-Ok.ensures.text
