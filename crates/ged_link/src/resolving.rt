@@ -6,14 +6,17 @@ ghost use Rattle.ged_tree.specs.Runs.{trees_between, IsRun};
 ghost use Rattle.ged_link.specs.Links.{Resolved, identifiers};
 ghost use Rattle.ged_link.specs.LinkFaults.{HasLinkFault, IsRepeated};
 ghost use Rattle.ged_link.specs.Places.{ArePlaces};
-ghost use Rattle.ged_link.specs.Indexes.{IsIndexOf, AreRecords, AreTyped};
+ghost use Rattle.ged_link.specs.Indexes.{IsIndexOf, AreRecords, AreTyped, place_in};
 ghost use Rattle.ged_link.specs.inner.Indexes.{HasKey};
+ghost use Rattle.ged_link.specs.inner.LinkWalks.{one_way_places};
+ghost use Rattle.ged_link.specs.inner.PairSets.{AreLinks};
 ghost use Rattle.ged_link.specs.inner.Keys.{names_key as key_of_names};
 ghost use Rattle.ged_link.specs.declared.fault.LinkFault.TheVariants.{Memory};
 
 use crate::fault::LinkFault;
 use crate::index::{Index, RecordPlace};
 use crate::keys::names_key;
+use crate::link_lists::LinkLists;
 use crate::links::find_one_way;
 use crate::names::Names;
 use crate::pairs::Pairs;
@@ -32,10 +35,7 @@ pub fn resolve<F: Forest>(alloc: Global, forest: &F) -> Result<Index, LinkFault>
 {
     let (records, types, places) = find_records(alloc, forest)?;
     let (followed, lists) = follow_pointers(alloc, forest, &records, types.len())?;
-    let Ok(pairs) = Pairs::of_links(alloc, &lists) else {
-        return Err(LinkFault::Memory(AllocError));
-    };
-    let Ok(one_way) = find_one_way(alloc, forest, &records, &pairs) else {
+    let Ok(one_way) = one_way_of(alloc, forest, &records, &lists) else {
         return Err(LinkFault::Memory(AllocError));
     };
     Ok(Index {
@@ -45,6 +45,21 @@ pub fn resolve<F: Forest>(alloc: Global, forest: &F) -> Result<Index, LinkFault>
         followed,
         one_way,
     })
+}
+
+/// The places of all links in one direction only, in order, where all links are listed.
+fn one_way_of<F: Forest>(
+    alloc: Global,
+    forest: &F,
+    records: &Names,
+    lists: &LinkLists,
+) -> Result<Vec<usize>, AllocError>
+    requires records { AreRecords (F.trees forest.now) records.now }
+    requires links { AreLinks (place_in records.now) (F.trees forest.now) lists.now }
+    ensures { IfOk result (λ places. places.items ≡ one_way_places (place_in records.now) (F.trees forest.now) 0 (F.trees forest.now)) }
+{
+    let pairs = Pairs::of_links(alloc, lists)?;
+    find_one_way(alloc, forest, records, &pairs)
 }
 
 /// The place of the first record. The run of records goes on to the end of all.

@@ -20,5 +20,5 @@ returns-clause-index g c =
       used = c.in_ok-followed.ensures.used;
       targets = c.in_ok-followed.ensures.targets;
       places = c.in_ok-records.ensures.places;
-      one_way = subst (λ (places : List ℕ). AreOneWay w places) (sym c.in-Ok-find_one_way.ensures) (are_one_way w c.in_ok-records.ensures.document (place_in c.in_ok-records.records) are.placed);
+      one_way = subst (λ (places : List ℕ). AreOneWay w places) (sym c.in-Ok.ensures) (are_one_way w c.in_ok-records.ensures.document (place_in c.in_ok-records.records) are.placed);
     }
