@@ -16,7 +16,7 @@ use crate::targets::{PointerCursor, next_number, searched_number};
 use ged_line::Xref;
 
 /// Where a record stands, among the records and among all structures.
-#[derive(Clone, Copy, Debug)]
+#[derive(Clone, Copy)]
 pub(crate) struct RecordPlace {
     pub(crate) number: usize,
     pub(crate) place: usize,

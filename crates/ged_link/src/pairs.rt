@@ -12,7 +12,7 @@ use std::alloc::{AllocError, Global};
 
 /// What a person is in a family that is linked with it (FamilySearch GEDCOM 7.0, "INDIVIDUAL_RECORD" and
 /// "FAMILY_RECORD").
-#[derive(Clone, Copy, Debug, PartialEq, Eq)]
+#[derive(Clone, Copy)]
 pub(crate) enum Role {
     /// FAMS, which HUSB and WIFE answer.
     Partner,
@@ -21,7 +21,7 @@ pub(crate) enum Role {
 }
 
 /// Which of two linked records points to the other: the one at the lower place, the one at the higher place, or both.
-#[derive(Clone, Copy, Debug)]
+#[derive(Clone, Copy)]
 pub(crate) struct Told {
     pub(crate) by_lower: bool,
     pub(crate) by_higher: bool,

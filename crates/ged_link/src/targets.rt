@@ -7,7 +7,7 @@ use std::alloc::AllocError;
 use std::mem::size_of;
 
 /// The record that a pointer names, in 8 bytes.
-#[derive(Clone, Copy, Debug)]
+#[derive(Clone, Copy)]
 pub(crate) struct Target {
     /// The place of the pointer among all structures.
     pub(crate) place: u32,
