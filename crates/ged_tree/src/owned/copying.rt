@@ -71,6 +71,29 @@ fn copy_payload<F: Forest>(alloc: Global, forest: &F, place: usize) -> Result<Pa
     }
 }
 
+/// The node of the structure at a place, with these nodes below it.
+fn copy_node<F: Forest>(
+    alloc: Global,
+    forest: &F,
+    place: usize,
+    children: Vec<Node>,
+) -> Result<Node, AllocError>
+    requires within { place < trees_count (F.trees forest.now) }
+    requires tag { is_tag (structure_at (F.trees forest.now) place).tag ≡ true }
+    requires payload { (level : ℕ) × (is_payload_at level (structure_at (F.trees forest.now) place).payload ≡ true) }
+    ensures tag { IfOk result (λ node. node.tag ≡ (structure_at (F.trees forest.now) place).tag) }
+    ensures payload { IfOk result (λ node. node.payload ≡ (structure_at (F.trees forest.now) place).payload) }
+    ensures children { IfOk result (λ node. node.children ≡ trees_of children.items) }
+{
+    let tag = copy_tag(alloc, forest.tag(place))?;
+    let payload = copy_payload(alloc, forest, place)?;
+    Ok(Node {
+        tag,
+        payload,
+        children,
+    })
+}
+
 /// The nodes of a run of trees, none of which is a record's.
 #[tactic(auto, using(crate::proofs::owned::Copies::copies))]
 fn copy_between<F: Forest>(
@@ -86,14 +109,9 @@ fn copy_between<F: Forest>(
     let mut nodes = Vec::new(alloc);
     let mut place = start;
     while let Some(after) = next_in_run(forest, place, end) {
-        let tag = copy_tag(alloc, forest.tag(place))?;
-        let payload = copy_payload(alloc, forest, place)?;
         let children = copy_between(alloc, forest, place + 1, after)?;
-        nodes.push(Node {
-            tag,
-            payload,
-            children,
-        })?;
+        let node = copy_node(alloc, forest, place, children)?;
+        nodes.push(node)?;
         place = after;
     }
     Ok(nodes)
@@ -124,14 +142,8 @@ fn copy_first<F: Forest>(
     ensures payload { IfOk result (λ node. node.payload ≡ (structure_at (F.trees forest.now) place).payload) }
     ensures children { IfOk result (λ node. node.children ≡ trees_between (F.trees forest.now) (place + 1) after) }
 {
-    let tag = copy_tag(alloc, forest.tag(place))?;
-    let payload = copy_payload(alloc, forest, place)?;
     let children = copy_between(alloc, forest, place + 1, after)?;
-    Ok(Node {
-        tag,
-        payload,
-        children,
-    })
+    copy_node(alloc, forest, place, children)
 }
 
 /// The records of a run of trees at level 0.

@@ -14,9 +14,8 @@ loop-after-preserved g t c =
       ahead = omega (arith, c.loop-after.invariant.ahead, c.in-Some.ensures.forth);
       below = below_rest w place c.args.end c.in-Some.after c.in-Some.ensures c.loop-after.invariant.below;
       told = copied_more w place c.args.end c.in-Some.after c.loop-after.nodes.items c.push.new.self.items
-          (record { tag = c.in_ok-tag.tag; payload = c.in_ok-payload.payload; children = trees_of c.in_ok-children.children.items })
-          (trees_between w c.args.start c.args.end) c.in-Some.ensures c.loop-after.invariant.below
-          (c.in_ok-tag.ensures ∙ c.tag.ensures) c.in_ok-payload.ensures c.in_ok-children.ensures c.loop-after.invariant.told c.in_ok-push.ensures.items;
+          c.in_ok-node.node (trees_between w c.args.start c.args.end) c.in-Some.ensures c.loop-after.invariant.below
+          c.in_ok-node.ensures.tag c.in_ok-node.ensures.payload (c.in_ok-node.ensures.children ∙ c.in_ok-children.ensures) c.loop-after.invariant.told c.in_ok-push.ensures.items;
     }
 
 pub returns : goal.returns
