@@ -1,0 +1,35 @@
+# fish completion for gedtool
+
+function __gedtool_command -d 'Whether the command is one of these'
+    set -l words (commandline -opc)
+    set -q words[2]; and contains -- $words[2] $argv
+end
+
+function __gedtool_takes_file -d 'Whether the command takes a further file'
+    set -l words (commandline -opc)
+    set -l files (string match -v -- '-*' $words[3..])
+    if __gedtool_command lines check show canon
+        test (count $files) -lt 1
+    else
+        __gedtool_command same; and test (count $files) -lt 2
+    end
+end
+
+function __gedtool_takes_command -d 'Whether a command comes next'
+    set -l words (commandline -opc)
+    test (count $words) -eq 1; or __gedtool_command help
+end
+
+complete -c gedtool -f
+complete -c gedtool -n __gedtool_takes_file -F
+
+complete -c gedtool -n __gedtool_takes_command -a lines -d 'Writes the lines of a file in their canonical spelling'
+complete -c gedtool -n __gedtool_takes_command -a check -d 'Tells the notices of a file, and that it is accepted'
+complete -c gedtool -n __gedtool_takes_command -a show -d 'Writes the level, tag and kind of each structure of a file'
+complete -c gedtool -n __gedtool_takes_command -a canon -d 'Writes a file in its canonical form'
+complete -c gedtool -n __gedtool_takes_command -a same -d 'Tells whether two files have one canonical form'
+complete -c gedtool -n __gedtool_takes_command -a help -d 'Print this message or the help of the given subcommand(s)'
+
+complete -c gedtool -n '__gedtool_command check show canon same' -l strict -d 'Refuses a file that has a notice'
+complete -c gedtool -n '__gedtool_command canon same' -l second -d 'Leaves out the leading zeros of dates, ages and counts'
+complete -c gedtool -n 'not __gedtool_command help' -s h -l help -d 'Print help'
