@@ -128,7 +128,6 @@ fn copy_name(alloc: Global, name: Option<&str>) -> Result<Option<Xref>, AllocErr
 }
 
 /// The node of the first tree of a run of trees at level 0.
-#[tactic(auto, using(crate::proofs::owned::Copies::record_copies))]
 fn copy_first<F: Forest>(
     alloc: Global,
     forest: &F,

@@ -2,8 +2,17 @@ use Rattle.std.proofs.Common.{◌∙◌, sym, arith}
 use Rattle.ged_tree.specs.Trees.{trees_of}
 use Rattle.ged_tree.specs.Runs.{trees_between}
 use Rattle.ged_tree.proofs.theory.RowsAtPlaces.{beside_none}
-use Rattle.ged_tree.proofs.owned.Copies.{copied_more, below_rest}
+use Rattle.ged_tree.proofs.owned.Copies.{copied_more, tag_read, payload_read, below_rest}
 use Rattle.ged_tree.proofs.owned.copying.+copy_between.Goals as goal
+
+pub copy_node-requires-clause-tag : goal.copy_node-requires-clause-tag
+copy_node-requires-clause-tag g t c =
+    tag_read (g.F.Forest.trees c.args.forest.now) c.loop-after.place c.args.end c.in-Some.after c.in-Some.ensures c.loop-after.invariant.below
+
+pub copy_node-requires-clause-payload : goal.copy_node-requires-clause-payload
+copy_node-requires-clause-payload g t c =
+    let below = c.loop-after.invariant.below in
+    (below.level, payload_read (g.F.Forest.trees c.args.forest.now) c.loop-after.place c.args.end c.in-Some.after c.in-Some.ensures below)
 
 pub loop-after-preserved : goal.loop-after-preserved
 loop-after-preserved g t c =
