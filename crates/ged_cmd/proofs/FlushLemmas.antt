@@ -12,7 +12,8 @@ use Rattle.ged_tool.specs.declared.faults.Which.TheVariants.{First, Second}
 use Rattle.ged_tool.specs.declared.faults.Fault.TheVariants.{ReadFailed, WriteFailed}
 use Rattle.ged_tool.specs.declared.faults.Outcome.{Outcome}
 use Rattle.ged_tool.specs.declared.faults.Outcome.TheVariants.{Done, Different, Failed}
-use Rattle.ged_cmd.specs.Program.{IsCompared, Reader, limit}
+use Rattle.ged_tool.specs.declared.runs.answer.Command.{Command}
+use Rattle.ged_cmd.specs.Program.{IsAnswered, IsCompared, Reader, limit}
 use Rattle.ged_cmd.specs.inner.Flushes.{IsFlushed}
 
 -- what a writer took stays taken where what it holds is kept
@@ -24,6 +25,63 @@ keeps_appended (Some x) (Some y) None written took kept = absurd kept
 keeps_appended (Some x) (Some y) (Some z) written took kept = kept ∙ took
 
 -- the flush went well, or nothing was to be flushed
+kept_answered : (profile : Profile) (edition : Edition) (command : Command) (reader : Reader) (taken between holds : Option (List ℕ)) (failed_before failed : Bool)
+    (before after : Outcome)
+    → IsAnswered profile edition command reader (record { taken = taken; holds = between; failed = failed_before }) before
+    → Keeps between holds → failed ≡ failed_before → after ≡ before
+    → IsAnswered profile edition command reader (record { taken = taken; holds = holds; failed = failed }) after
+kept_answered profile edition command reader taken between holds failed_before failed before after answered keeps stays same =
+    subst (IsAnswered profile edition command reader (record { taken = taken; holds = holds; failed = failed })) (sym same) (record {
+      bytes = record {
+        came = answered.bytes.came;
+        written = answered.bytes.written;
+        gave = answered.bytes.gave;
+        took = keeps_appended taken between holds answered.bytes.written answered.bytes.took keeps;
+        means = answered.bytes.means;
+      };
+      read_failed = answered.read_failed;
+      write_failed = subst (λ b. IsTrue b ↔ (before ≡ Failed None WriteFailed)) (sym stays) answered.write_failed;
+    })
+
+-- the flush failed: what was written is the whole answer
+unflushed_answered : (profile : Profile) (edition : Edition) (command : Command) (reader : Reader) (taken between holds : Option (List ℕ)) (failed_before failed : Bool)
+    (after : Outcome)
+    → IsAnswered profile edition command reader (record { taken = taken; holds = between; failed = failed_before }) Done
+    → Keeps between holds → failed ≡ true → after ≡ Failed None WriteFailed
+    → IsAnswered profile edition command reader (record { taken = taken; holds = holds; failed = failed }) after
+unflushed_answered profile edition command reader taken between holds failed_before failed after answered keeps fails gave =
+    let (whole, answers) = answered.bytes.means in
+    let written = answered.bytes.written in
+    subst (IsAnswered profile edition command reader (record { taken = taken; holds = holds; failed = failed })) (sym gave) (record {
+      bytes = record {
+        came = answered.bytes.came;
+        written = written;
+        gave = answered.bytes.gave;
+        took = keeps_appended taken between holds written answered.bytes.took keeps;
+        means = (refl, (whole, (written, answers, take-length written)));
+      };
+      read_failed = (λ t. absurd (not_done (answered.read_failed.0 t)), λ e. cc);
+      write_failed = (λ t. refl, λ e. fails);
+    })
+  where
+    not_done : Done ≡ Failed None ReadFailed → ⊥
+    not_done e = cc
+
+-- one file answered, once the answer is flushed
+pub flushed_answered : (profile : Profile) (edition : Edition) (command : Command) (reader : Reader) (taken between holds : Option (List ℕ)) (failed_before failed : Bool)
+    (before after : Outcome)
+    → IsAnswered profile edition command reader (record { taken = taken; holds = between; failed = failed_before }) before
+    → IsFlushed (record { taken = between; holds = holds; failed = failed }) failed_before before after
+    → IsAnswered profile edition command reader (record { taken = taken; holds = holds; failed = failed }) after
+flushed_answered profile edition command reader taken between holds failed_before failed Done after answered (inl (same, (keeps, stays))) =
+    kept_answered profile edition command reader taken between holds failed_before failed Done after answered keeps stays same
+flushed_answered profile edition command reader taken between holds failed_before failed Done after answered (inr (gave, (keeps, fails))) =
+    unflushed_answered profile edition command reader taken between holds failed_before failed after answered keeps fails gave
+flushed_answered profile edition command reader taken between holds failed_before failed Different after answered flushed = absurd answered.bytes.means
+flushed_answered profile edition command reader taken between holds failed_before failed (Failed which fault) after answered (same, (keeps, stays)) =
+    kept_answered profile edition command reader taken between holds failed_before failed (Failed which fault) after answered keeps stays same
+
+-- the same of two files
 kept_compared : (profile : Profile) (edition : Edition) (first second : Reader) (taken between holds : Option (List ℕ)) (failed_before failed : Bool)
     (before after : Outcome)
     → IsCompared profile edition first second (record { taken = taken; holds = between; failed = failed_before }) before

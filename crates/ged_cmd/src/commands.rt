@@ -134,8 +134,8 @@ fn answer<R: Source, W: Write>(
         (reader_of R.to_come R.failed reader.old reader.new)
         (writer_of ⟦<Output<W> as Sink>⟧.taken ⟦<Output<W> as Sink>⟧.failed output.old output.new) result }
 {
-    let outcome = run_as(alloc, settings, LIMIT, command, reader, output);
-    flushed(outcome, output)
+    let answered = run_as(alloc, settings, LIMIT, command, reader, output);
+    flushed(answered, output)
 }
 
 /// Compares what two readers give, and flushes the answer.
@@ -153,8 +153,8 @@ fn compare<R: Source, S: Source, W: Write>(
         (reader_of R.to_come R.failed first.old first.new) (reader_of S.to_come S.failed second.old second.new)
         (writer_of ⟦<Output<W> as Sink>⟧.taken ⟦<Output<W> as Sink>⟧.failed output.old output.new) result }
 {
-    let outcome = run_same_as(alloc, settings, LIMIT, first, second, output);
-    flushed(outcome, output)
+    let compared = run_same_as(alloc, settings, LIMIT, first, second, output);
+    flushed(compared, output)
 }
 
 /// The outcome once the answer is flushed: WriteFailed where it can't be. An outcome without an

@@ -1,5 +1,5 @@
 // What standard error and the program's status tell.
-ghost use Rattle.std.specs.Prelude.{◌≡◌, ◌≢◌, false};
+ghost use Rattle.std.specs.Prelude.{◌≡◌, ◌≢◌, false, if◌then◌else◌};
 ghost use Rattle.std.specs.Io.KnownBytes.{Keeps};
 ghost use Rattle.clap.specs.Words.{kind_of};
 ghost use Rattle.ged_tool.specs.Devices.{failed_after};
@@ -11,6 +11,7 @@ use clap::Error;
 use clap::error::ErrorKind;
 use ged_tool::{Failed, Fault, Outcome, Output, Sink, Which};
 use std::alloc::AllocError;
+use std::fmt::Display;
 use std::io;
 use std::io::{Cursor, Write};
 
@@ -78,9 +79,26 @@ pub(crate) fn refuse<W: Write, E: Write>(
         return finish(&failed(Fault::Memory(AllocError)), errors);
     }
     if error.use_stderr() {
-        let _ = write!(errors, "{error}");
-        return USAGE_STATUS;
+        return tell_mistake(error, errors);
     }
+    tell_help(error, output, errors)
+}
+
+/// Tells a mistake in the words, and gives the status of one.
+fn tell_mistake<D: Display, E: Write>(mistake: &D, errors: &mut E) -> u8
+    ensures { result ≡ 2 }
+{
+    // a text that can't be written changes no status
+    let _ = write!(errors, "{mistake}");
+    USAGE_STATUS
+}
+
+/// Prints help, and gives the status: 0, or that of a fault of the output.
+fn tell_help<W: Write, E: Write>(error: &Error, output: &mut Output<W>, errors: &mut E) -> u8
+    requires { ⟦<Output<W> as Sink>⟧.failed output.old ≡ false }
+    ensures status { result ≡ (if ⟦<Output<W> as Sink>⟧.failed output.new then 3 else 0) }
+    ensures quiet { result ≡ 0 → Keeps (E.contents errors.old) (E.contents errors.new) }
+{
     match print_help(error, output) {
         Ok(()) => 0,
         Err(_) => finish(&failed(Fault::WriteFailed), errors),
@@ -104,6 +122,5 @@ pub(crate) fn refuse_unread<E: Write>(error: &io::Error, errors: &mut E) -> u8
         io::ErrorKind::OutOfMemory => "error: out of memory\n",
         _ => "error: the command line isn't UTF-8 text\n",
     };
-    let _ = errors.write_all(text.as_bytes());
-    USAGE_STATUS
+    tell_mistake(&text, errors)
 }

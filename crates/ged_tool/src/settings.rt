@@ -8,8 +8,8 @@ use ged_schema::Profile;
 /// What a file has to meet to be accepted, and the edition of its canonical form.
 #[derive(Clone, Copy, Debug, PartialEq, Eq)]
 pub struct Settings {
-    profile: Profile,
-    edition: Edition,
+    pub(crate) profile: Profile,
+    pub(crate) edition: Edition,
 }
 
 impl Settings {

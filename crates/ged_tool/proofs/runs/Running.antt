@@ -1,6 +1,7 @@
--- Why a run over two files stops before it has an answer.
-use Rattle.std.proofs.Common.{◌≡◌, ℕ, [], Option, Some, refl, sym, subst, arith}
-use Rattle.std.specs.Io.KnownBytes.{Consumes}
+-- What a run says: why one over two files stops before it has an answer, and how one over one file ends.
+use Rattle.std.proofs.Common.{◌≡◌, ℕ, [], Option, Some, None, refl, sym, subst, arith}
+use Rattle.std.specs.Io.{StartsWith}
+use Rattle.std.specs.Io.KnownBytes.{Consumes, Appends}
 use Rattle.std.proofs.KnownBytes.{Consumes-nil, Appends-nil}
 use Rattle.ged_line.specs.Bytes.{Bytes}
 use Rattle.ged_schema.specs.declared.profile.Profile.{Profile}
@@ -10,8 +11,11 @@ use Rattle.ged_tool.specs.declared.faults.Which.TheVariants.{First, Second}
 use Rattle.ged_tool.specs.declared.faults.Fault.{Fault}
 use Rattle.ged_tool.specs.declared.faults.Fault.TheVariants.{InFile, TooLong, ReadFailed, WriteFailed, Memory}
 use Rattle.ged_tool.specs.declared.faults.Outcome.{Outcome}
-use Rattle.ged_tool.specs.declared.faults.Outcome.TheVariants.{Failed}
-use Rattle.ged_tool.specs.Run.{IsWhole}
+use Rattle.ged_tool.specs.declared.faults.Outcome.TheVariants.{Done, Failed}
+use Rattle.ged_tool.specs.declared.runs.answer.Command.{Command}
+use Rattle.ged_tool.specs.Accepted.{IsRefusal}
+use Rattle.ged_tool.specs.Answers.{Answers, FaultAt}
+use Rattle.ged_tool.specs.Run.{IsWhole, Tells, IsRun}
 use Rattle.ged_tool.specs.inner.Steps.{StopsReading}
 use Rattle.ged_tool.specs.Same.{IsSameRefusal}
 use Rattle.ged_tool.specs.SameRun.{Came, TellsOfFile, SameMeans, IsSameRun}
@@ -89,3 +93,44 @@ judging_stops profile edition limit first_to_come first_left second_to_come seco
     subst (λ (bytes : Bytes). IsSameRefusal profile first bytes which fault) other_same (subst (λ (bytes : Bytes). IsSameRefusal profile bytes other_seen which fault) same refused) in
     stopped profile edition limit first_to_come first_left second_to_come second_left taken first second which fault outcome first_gave second_gave
     (judged_told profile limit first second first_left second_left which fault whole other told) is
+
+-- One file that did not come whole: nothing is written.
+pub run_stops : (profile : Profile) (edition : Edition) (command : Command) (limit : ℕ) (to_come left taken : Option Bytes) (came : Bytes) (fault : Fault)
+    → Consumes to_come left came → StopsReading limit came fault → IsRun profile edition command limit to_come left taken taken (Failed None fault)
+run_stops profile edition command limit to_come left taken came fault gave stops =
+    record { came = came; written = []; gave = gave; took = Appends-nil taken; means = (refl, tells fault stops) }
+  where
+    tells : (fault : Fault) → StopsReading limit came fault → Tells profile edition command limit came left [] fault
+    tells (InFile line kind) h = absurd h
+    tells TooLong h = (h, refl)
+    tells ReadFailed h = (h, refl)
+    tells WriteFailed h = absurd h
+    tells (Memory error) h = (h, refl)
+
+-- one that came whole, and has no answer
+pub run_refused : (profile : Profile) (edition : Edition) (command : Command) (limit : ℕ) (to_come left taken : Option Bytes) (came : Bytes) (fault : Fault)
+    → IsWhole limit came left → Consumes to_come left came → IsRefusal (FaultAt profile command came) fault
+    → IsRun profile edition command limit to_come left taken taken (Failed None fault)
+run_refused profile edition command limit to_come left taken came fault whole gave refused =
+    record { came = came; written = []; gave = gave; took = Appends-nil taken; means = (refl, tells fault refused) }
+  where
+    tells : (fault : Fault) → IsRefusal (FaultAt profile command came) fault → Tells profile edition command limit came left [] fault
+    tells (InFile line kind) h = (whole, h, refl)
+    tells TooLong h = absurd h
+    tells ReadFailed h = absurd h
+    tells WriteFailed h = absurd h
+    tells (Memory error) h = (whole.within, refl)
+
+-- one whose answer was written
+pub run_answered : (profile : Profile) (edition : Edition) (command : Command) (limit : ℕ) (to_come left taken holds : Option Bytes) (came text : Bytes)
+    → IsWhole limit came left → Consumes to_come left came → Answers profile edition command came text → Appends taken holds text
+    → IsRun profile edition command limit to_come left taken holds Done
+run_answered profile edition command limit to_come left taken holds came text whole gave answers took =
+    record { came = came; written = text; gave = gave; took = took; means = (whole, answers) }
+
+-- one of whose answer a front was written
+pub run_unwritten : (profile : Profile) (edition : Edition) (command : Command) (limit : ℕ) (to_come left taken holds : Option Bytes) (came text written : Bytes)
+    → IsWhole limit came left → Consumes to_come left came → Answers profile edition command came text → Appends taken holds written → StartsWith text written
+    → IsRun profile edition command limit to_come left taken holds (Failed None WriteFailed)
+run_unwritten profile edition command limit to_come left taken holds came text written whole gave answers took front =
+    record { came = came; written = written; gave = gave; took = took; means = (refl, (whole, (text, answers, front))) }

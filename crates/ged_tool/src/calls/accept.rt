@@ -99,7 +99,7 @@ pub fn accept_as(alloc: Global, settings: Settings, bytes: &[u8]) -> Result<Acce
         Err(LinkFault::Dangling(line)) => return Err(in_file(line, FileFault::DanglingPointer)),
         Err(LinkFault::Memory(error)) => return Err(Fault::Memory(error)),
     };
-    match check_coverage(settings.profile(), &flat, &index) {
+    match check_coverage(settings.profile, &flat, &index) {
         Ok(coverage) => Ok(Accepted {
             flat,
             index,

@@ -44,7 +44,7 @@ pub fn canonicalise_as(alloc: Global, settings: Settings, bytes: &[u8]) -> Resul
         Ok(accepted) => accepted,
         Err(fault) => return Err(fault),
     };
-    match canonical_bytes_in(alloc, settings.edition(), accepted.flat(), accepted.index()) {
+    match canonical_bytes_in(alloc, settings.edition, accepted.flat(), accepted.index()) {
         Ok(text) => Ok(text),
         Err(error) => Err(Fault::Memory(error)),
     }
