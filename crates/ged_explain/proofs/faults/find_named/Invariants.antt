@@ -1,0 +1,7 @@
+use Rattle.std.proofs.Common.{◌≡◌, map, drop}
+use Rattle.ged_explain.specs.Names.{as_named, with_name}
+use Rattle.ged_explain.proofs.faults.find_named.Given as goal
+
+abbrev pub invariant-loop-meaning : goal.invariant-loop-meaning
+invariant-loop-meaning l =
+    with_name l.name (map as_named (drop l.meaning-index l.among)) ≡ with_name l.name (map as_named l.among)

@@ -1,0 +1,186 @@
+// The lines that explain a fault or a notice.
+ghost use Rattle.std.specs.Prelude.{◌≡◌, ◌++◌, IfOk, OnOk, string_bytes};
+ghost use Rattle.ged_explain.specs.Openings.{Begins, Opens, ShowsLine, file_line as line_of_file, opening, reason_line};
+
+use crate::faults::meaning_of;
+use crate::path::Step;
+use crate::shown::shown_line;
+use crate::site::Site;
+use crate::told::Told;
+use crate::wrong_lines::say_wrong_line;
+use crate::wrong_links::say_wrong_link;
+use crate::wrong_structures::say_wrong_structure;
+use crate::wrong_tables::say_wrong_by_tables;
+use ged_link::{Notice, NoticeKind};
+use ged_tool::{Fault, FileFault};
+use itoa::Buffer;
+use std::alloc::{AllocError, Global};
+
+/// The lines that explain a fault, each with its line feed: the name of the file, which is handed in and told as it is, the line
+/// as it stands, the structures above it, what belongs there, and what usually causes the fault.
+///
+/// `bytes` are those of the file in which the fault was found; of any others the text has no meaning. Of a long line its first
+/// 120 columns are told; a byte that is not UTF-8 is told as `\xNN`, and a character that is not seen as `U+NNNN`. A fault that
+/// is not of the file is told as [`explain_device`] tells it, without a reason. Grows by the answer alone.
+pub fn explain_fault(
+    alloc: Global,
+    bytes: &[u8],
+    fault: &Fault,
+    name: &str,
+) -> Result<String, AllocError>
+    ensures { IfOk result (λ text. Opens name.now bytes.now fault.now (string_bytes text)) }
+{
+    match *fault {
+        Fault::InFile { line, kind } => explain_kind(alloc, bytes, line, kind, name),
+        _ => explain_device(alloc, fault, name, ""),
+    }
+}
+
+/// The lines that explain a notice of an accepted file, as [`explain_fault`] gives those of a fault. Grows by the answer alone.
+pub fn explain_notice(
+    alloc: Global,
+    bytes: &[u8],
+    notice: &Notice,
+    name: &str,
+) -> Result<String, AllocError>
+    ensures { IfOk result (λ text. ShowsLine name.now bytes.now notice.now.line (string_bytes text)) }
+{
+    let kind = match notice.kind {
+        NoticeKind::OneWay => FileFault::OneWayLink,
+        NoticeKind::Unlisted => FileFault::UnlistedTag,
+    };
+    explain_kind(alloc, bytes, notice.line, kind, name)
+}
+
+/// The lines that explain a fault of a device, of the limit or of memory: the name of the file and the reason, which are handed
+/// in and told as they are, and what usually causes the fault. An empty reason is left out. Grows by the answer alone.
+pub fn explain_device(
+    alloc: Global,
+    fault: &Fault,
+    name: &str,
+    reason: &str,
+) -> Result<String, AllocError>
+    ensures { IfOk result (λ text. Begins (line_of_file name.now ++ reason_line reason.now) (string_bytes text)) }
+{
+    let mut text = file_line(alloc, name)?;
+    push_reason(reason, &mut text)?;
+    text.push_str("  cause: ")?;
+    text.push_str(meaning_of(fault).cause)?;
+    text.push_str("\n")?;
+    Ok(text)
+}
+
+/// The line that names the file.
+fn file_line(alloc: Global, name: &str) -> Result<String, AllocError>
+    ensures { IfOk result (λ text. string_bytes text ≡ line_of_file name.now) }
+{
+    let mut text = String::from_str(alloc, "  file: ")?;
+    text.push_str(name)?;
+    text.push_str("\n")?;
+    Ok(text)
+}
+
+/// Appends the line that tells a reason, if there is one.
+fn push_reason(reason: &str, text: &mut String) -> Result<(), AllocError>
+    ensures { OnOk result (string_bytes text.new ≡ string_bytes text.old ++ reason_line reason.now) }
+{
+    if reason.is_empty() {
+        return Ok(());
+    }
+    text.push_str("  reason: ")?;
+    text.push_str(reason)?;
+    text.push_str("\n")
+}
+
+/// What is told of a line and its fault.
+fn explain_kind(
+    alloc: Global,
+    bytes: &[u8],
+    line: u64,
+    kind: FileFault,
+    name: &str,
+) -> Result<String, AllocError>
+    ensures { IfOk result (λ text. ShowsLine name.now bytes.now line (string_bytes text)) }
+{
+    let shown = shown_line(alloc, bytes, line)?;
+    let details = details_of(alloc, bytes, line, kind)?;
+    let mut text = numbered_line(alloc, line, name)?;
+    text.push_str(shown.as_str())?;
+    text.push_str(details.as_str())?;
+    Ok(text)
+}
+
+/// The line that names the file, and the number of a line at the head of the next one.
+fn numbered_line(alloc: Global, line: u64, name: &str) -> Result<String, AllocError>
+    ensures { IfOk result (λ text. string_bytes text ≡ opening name.now line) }
+{
+    let mut text = file_line(alloc, name)?;
+    let mut buffer = Buffer::new();
+    text.push_str("  line ")?;
+    text.push_str(buffer.format(line))?;
+    Ok(text)
+}
+
+/// What is told below the line.
+fn details_of(
+    alloc: Global,
+    bytes: &[u8],
+    line: u64,
+    kind: FileFault,
+) -> Result<String, AllocError> {
+    let mut told = Told::new(alloc);
+    let site = Site::of(bytes, line);
+    say_place(&site, &mut told);
+    told.say("  wrong: ");
+    say_wrong(kind, &site, &mut told);
+    told.say("\n  cause: ");
+    told.say(meaning_of(&Fault::InFile { line, kind }).cause);
+    told.say("\n");
+    told.into_text()
+}
+
+/// Says where the line stands. One that is no line has no level that can be relied on, so that the place of the line before it
+/// is said.
+fn say_place(site: &Site<'_>, told: &mut Told) {
+    let Some(last) = site.path.last() else {
+        return;
+    };
+    told.say(match site.own() {
+        Some(_) => "  place: ",
+        None => "  behind: ",
+    });
+    site.path.say(last.level, told);
+    told.say("\n");
+}
+
+fn say_wrong(kind: FileFault, site: &Site<'_>, told: &mut Told) {
+    match site.own() {
+        Some(own) => say_wrong_here(kind, site, own, told),
+        None => match site.piece {
+            Some(piece) => say_wrong_line(kind, piece, told),
+            None => say_end(kind, told),
+        },
+    }
+}
+
+fn say_end(kind: FileFault, told: &mut Told) {
+    told.say(match kind {
+        FileFault::NoTrailer => "the last line is 0 TRLR",
+        _ => "the first line is 0 HEAD",
+    });
+}
+
+fn say_wrong_here(kind: FileFault, site: &Site<'_>, own: Step<'_>, told: &mut Told) {
+    match kind {
+        FileFault::DuplicateXref
+        | FileFault::DanglingPointer
+        | FileFault::WrongTarget
+        | FileFault::OneWayLink => say_wrong_link(kind, site, own, told),
+        FileFault::WrongVersion
+        | FileFault::BadPayload
+        | FileFault::TooMany
+        | FileFault::Missing
+        | FileFault::UnlistedTag => say_wrong_by_tables(kind, site, own, told),
+        _ => say_wrong_structure(kind, site, own, told),
+    }
+}

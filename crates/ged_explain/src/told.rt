@@ -1,0 +1,124 @@
+// What is told, as a text that grows.
+use std::alloc::{AllocError, Global};
+use std::fmt::Write;
+use std::str;
+
+/// The text so far. It remembers whether memory was wanting, and tells it once, at its end: so whoever writes into it need not.
+#[derive(Drop)]
+pub(crate) struct Told {
+    text: String,
+    lacks_memory: bool,
+}
+
+impl Told {
+    pub(crate) fn new(alloc: Global) -> Told {
+        Told {
+            text: String::new(alloc),
+            lacks_memory: false,
+        }
+    }
+
+    /// The text, where memory was not wanting.
+    pub(crate) fn into_text(self) -> Result<String, AllocError> {
+        if self.lacks_memory {
+            return Err(AllocError);
+        }
+        Ok(self.text)
+    }
+
+    pub(crate) fn say(&mut self, text: &str) {
+        if self.text.push_str(text).is_err() {
+            self.lacks_memory = true;
+        }
+    }
+
+    pub(crate) fn say_number(&mut self, number: u64) {
+        if write!(self.text, "{number}").is_err() {
+            self.lacks_memory = true;
+        }
+    }
+
+    pub(crate) fn say_byte(&mut self, byte: u8) {
+        if write!(self.text, "\\x{byte:02X}").is_err() {
+            self.lacks_memory = true;
+        }
+    }
+
+    pub(crate) fn say_character_number(&mut self, number: u32) {
+        if write!(self.text, "U+{number:04X}").is_err() {
+            self.lacks_memory = true;
+        }
+    }
+
+    /// Says one character, or its number where it has no sign of its own. Gives how many columns that takes.
+    fn say_character(&mut self, character: char, spelled: &str) -> usize {
+        if is_seen(character) {
+            self.say(spelled);
+            return 1;
+        }
+        self.say_character_number(u32::from(character));
+        6
+    }
+
+    /// Says bytes that a file has: a byte that belongs to no character as `\xNN`, and a character that has no sign of its own as
+    /// `U+NNNN`. Behind so many columns three dots stand for the rest, which is not looked at.
+    pub(crate) fn say_clipped(&mut self, bytes: &[u8], columns: usize) {
+        let mut rest = bytes;
+        let mut used = 0usize;
+        for _ in 0..columns {
+            if rest.is_empty() || used >= columns {
+                break;
+            }
+            let (width, behind) = self.say_first(rest);
+            used = used.saturating_add(width);
+            rest = behind;
+        }
+        if !rest.is_empty() {
+            self.say(" ...");
+        }
+    }
+
+    /// Says the first character or byte of some. Gives how many columns that takes, and what stands behind it.
+    fn say_first<'a>(&mut self, bytes: &'a [u8]) -> (usize, &'a [u8]) {
+        if let Some((first, behind)) = first_character(bytes) {
+            if let Some(character) = first.chars().next() {
+                return (self.say_character(character, first), behind);
+            }
+        }
+        match bytes {
+            [first, behind @ ..] => {
+                self.say_byte(*first);
+                (4, behind)
+            }
+            [] => (0, bytes),
+        }
+    }
+}
+
+/// The first character of bytes as a text, and what stands behind it; `None` where they begin with none.
+fn first_character(bytes: &[u8]) -> Option<(&str, &[u8])> {
+    for length in 1..5 {
+        if let Some((first, behind)) = bytes.split_at_checked(length) {
+            if let Ok(text) = str::from_utf8(first) {
+                return Some((text, behind));
+            }
+        }
+    }
+    None
+}
+
+/// Whether a character is seen as it is: no control character, and none that turns the direction of a text or takes no room.
+fn is_seen(character: char) -> bool {
+    !matches!(
+        character,
+        '\0'..='\u{1F}'
+            | '\u{7F}'..='\u{9F}'
+            | '\u{AD}'
+            | '\u{200B}'..='\u{200F}'
+            | '\u{2028}'..='\u{202E}'
+            | '\u{2060}'..='\u{206F}'
+            | '\u{FEFF}'
+            | '\u{FFF9}'..='\u{FFFB}'
+            | '\u{FFFE}'..='\u{FFFF}'
+    )
+}

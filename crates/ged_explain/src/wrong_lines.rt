@@ -1,0 +1,87 @@
+// What is wrong with a line by itself: faults 1 to 8.
+use crate::path::NAME_COLUMNS;
+use crate::told::Told;
+use ged_tool::FileFault;
+use std::str;
+
+pub(crate) fn say_wrong_line(kind: FileFault, piece: &[u8], told: &mut Told) {
+    match kind {
+        FileFault::NotUtf8 => say_wrong_byte(piece, told),
+        FileFault::BannedCharacter => say_banned(piece, told),
+        FileFault::EmptyLine => told.say("every line has a level and a tag"),
+        FileFault::BadLevel => told.say(
+            "a line begins with its level, such as 0 or 1, and one space",
+        ),
+        FileFault::LevelTooLarge => told.say("the greatest level is 99"),
+        FileFault::BadXref => {
+            told.say(
+                "behind the level belongs a tag, or an identifier such as @I7@, a space and a tag",
+            )
+        }
+        FileFault::BadTag => say_wrong_tag(piece, told),
+        _ => told.say(
+            "a value that begins with @ is a pointer such as @F1@, or a text that begins with @@",
+        ),
+    }
+}
+
+fn say_wrong_byte(piece: &[u8], told: &mut Told) {
+    if let Err(error) = str::from_utf8(piece) {
+        let place = error.valid_up_to();
+        if let Some(byte) = piece.get(place) {
+            told.say("the byte ");
+            told.say_byte(*byte);
+            told.say(", number ");
+            told.say_number((place as u64).saturating_add(1));
+            told.say(" of the line, belongs to no UTF-8 character");
+        }
+    }
+}
+
+fn say_banned(piece: &[u8], told: &mut Told) {
+    let text = str::from_utf8(piece).unwrap_or("");
+    if let Some(character) = text.chars().find(|character| is_banned(*character)) {
+        told.say("no line has the character ");
+        told.say_character_number(u32::from(character));
+    }
+}
+
+fn is_banned(character: char) -> bool {
+    matches!(
+        character,
+        '\0'..='\u{8}' | '\u{A}'..='\u{1F}' | '\u{7F}' | '\u{FFFE}'..='\u{FFFF}'
+    )
+}
+
+fn say_wrong_tag(piece: &[u8], told: &mut Told) {
+    told.say("\"");
+    told.say_clipped(
+        tag_of(str::from_utf8(piece).unwrap_or("")).as_bytes(),
+        NAME_COLUMNS,
+    );
+    told.say(
+        "\" is no tag; a tag has capital letters and digits, such as SEX, or begins with _, such as _MILT",
+    );
+}
+
+/// What stands at the tag's place: behind the level, and behind an identifier if there is one, up to the next space.
+fn tag_of(text: &str) -> &str {
+    let behind = behind_space(text);
+    let rest = if behind.starts_with('@') {
+        behind_space(behind)
+    } else {
+        behind
+    };
+    match rest.split_once(' ') {
+        Some((tag, _)) => tag,
+        None => rest,
+    }
+}
+
+/// What stands behind the first space.
+fn behind_space(text: &str) -> &str {
+    match text.split_once(' ') {
+        Some((_, behind)) => behind,
+        None => "",
+    }
+}

@@ -1,0 +1,56 @@
+// What is wrong with a line among its neighbours: faults 9 to 16.
+use crate::path::Step;
+use crate::site::Site;
+use crate::told::Told;
+use ged_tool::FileFault;
+
+pub(crate) fn say_wrong_structure(
+    kind: FileFault,
+    site: &Site<'_>,
+    own: Step<'_>,
+    told: &mut Told,
+) {
+    match kind {
+        FileFault::LevelJump => say_jump(site.path.before(), own.level, told),
+        FileFault::XrefNotAllowed => told.say(
+            "only records have identifiers, and HEAD and TRLR are none",
+        ),
+        FileFault::MisplacedCont => say_misplaced(own, told),
+        FileFault::NoHeader => told.say("the first line is 0 HEAD"),
+        FileFault::SecondHeader => told.say("only the first line is 0 HEAD"),
+        FileFault::TrailerNotEmpty => told.say(
+            "0 TRLR ends the file; it has no value, and nothing stands below it",
+        ),
+        _ => say_trailer(site.path.before(), told),
+    }
+}
+
+fn say_jump(before: Option<Step<'_>>, level: u8, told: &mut Told) {
+    let Some(before) = before else {
+        return told.say("the first line is 0 HEAD");
+    };
+    told.say("level ");
+    told.say_number(u64::from(level));
+    told.say(" follows level ");
+    told.say_number(u64::from(before.level));
+    told.say("; the greatest level here is ");
+    told.say_number(u64::from(before.level).saturating_add(1));
+}
+
+fn say_misplaced(own: Step<'_>, told: &mut Told) {
+    if own.tag != "CONT" {
+        return told.say("nothing stands below a CONT");
+    }
+    told.say(
+        "a CONT comes straight behind the text that it continues, one level deeper, and has a text itself",
+    )
+}
+
+fn say_trailer(before: Option<Step<'_>>, told: &mut Told) {
+    told.say("0 TRLR");
+    if let Some(before) = before {
+        told.say(" of line ");
+        told.say_number(before.line);
+    }
+    told.say(" ends the file");
+}

@@ -1,0 +1,110 @@
+// What the structure tables find wrong: faults 19, 20, 22, 23 and 29.
+use crate::kinds::wanted;
+use crate::path::{NAME_COLUMNS, Step, say_identifier};
+use crate::site::Site;
+use crate::told::Told;
+use ged_line::ValueView;
+use ged_schema::rows;
+use ged_tool::FileFault;
+
+pub(crate) fn say_wrong_by_tables(
+    kind: FileFault,
+    site: &Site<'_>,
+    own: Step<'_>,
+    told: &mut Told,
+) {
+    match kind {
+        FileFault::WrongVersion => say_version(own, told),
+        FileFault::BadPayload => say_payload(site, own, told),
+        FileFault::TooMany => say_too_many(site, own, told),
+        FileFault::Missing => say_missing(site, own, told),
+        _ => say_unlisted(site, own, told),
+    }
+}
+
+fn say_version(own: Step<'_>, told: &mut Told) {
+    told.say("this file says ");
+    match own.value {
+        ValueView::Text(text) => {
+            told.say("version ");
+            told.say_clipped(text.as_bytes(), NAME_COLUMNS);
+        }
+        _ => told.say("no version"),
+    }
+    told.say("; gedtool reads 7.0");
+}
+
+fn say_payload(site: &Site<'_>, own: Step<'_>, told: &mut Told) {
+    if let Some(rule) = site.rule(own) {
+        told.say(wanted(rule.kind));
+        told.say(" belongs here; ");
+    }
+    told.say("found ");
+    if site.is_continued(own) {
+        return told.say("a text of several lines");
+    }
+    say_value(own.value, told);
+}
+
+fn say_value(value: ValueView<'_>, told: &mut Told) {
+    match value {
+        ValueView::Empty => told.say("nothing"),
+        ValueView::Void => told.say("the pointer @VOID@"),
+        ValueView::Pointer(name) => {
+            told.say("the pointer ");
+            say_identifier(name, told);
+        }
+        ValueView::Text(text) => {
+            told.say("\"");
+            told.say_clipped(text.as_bytes(), NAME_COLUMNS);
+            told.say("\"");
+        }
+    }
+}
+
+fn say_tag(own: Step<'_>, told: &mut Told) {
+    told.say_clipped(own.tag.as_bytes(), NAME_COLUMNS);
+}
+
+fn say_too_many(site: &Site<'_>, own: Step<'_>, told: &mut Told) {
+    say_tag(own, told);
+    told.say(" may stand once here; the first one stands at line ");
+    told.say_number(site.first_sibling(own));
+}
+
+/// No context has two rows whose structures must stand, so that the first one is what is missing.
+fn say_missing(site: &Site<'_>, own: Step<'_>, told: &mut Told) {
+    for rule in rows(site.context_below(own)) {
+        if rule.least > 0 {
+            told.say(rule.tag);
+            told.say(" has to stand below ");
+            return say_tag(own, told);
+        }
+    }
+}
+
+fn say_unlisted(site: &Site<'_>, own: Step<'_>, told: &mut Told) {
+    say_tag(own, told);
+    told.say(" is not listed ");
+    match site.path.superstructure(own.level) {
+        Some(above) => {
+            told.say("below ");
+            say_tag(above, told);
+        }
+        None => told.say("at level 0"),
+    }
+    say_listed(site, own, told);
+}
+
+/// Says the tags that the structure tables list at the place of a line.
+fn say_listed(site: &Site<'_>, own: Step<'_>, told: &mut Told) {
+    let listed = rows(site.path.context(own.level));
+    if listed.is_empty() {
+        return told.say("; no tag is listed there");
+    }
+    told.say("; listed there:");
+    for rule in listed {
+        told.say(" ");
+        told.say(rule.tag);
+    }
+}
