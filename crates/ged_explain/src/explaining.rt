@@ -16,12 +16,12 @@ use ged_tool::{Fault, FileFault};
 use itoa::Buffer;
 use std::alloc::{AllocError, Global};
 
-/// The lines that explain a fault, each with its line feed: the name of the file, which is handed in and told as it is, the line
-/// as it stands, the structures above it, what belongs there, and what usually causes the fault.
+/// The lines that explain a fault, each with its line feed: the name of the file, which is handed in and told as it is, the
+/// line as it stands, the structures above it, what belongs there, and what usually causes the fault.
 ///
 /// `bytes` are those of the file in which the fault was found; of any others the text has no meaning. Of a long line its first
-/// 120 columns are told; a byte that is not UTF-8 is told as `\xNN`, and a character that is not seen as `U+NNNN`. A fault that
-/// is not of the file is told as [`explain_device`] tells it, without a reason. Grows by the answer alone.
+/// 120 columns or a few more are told; a byte that is not UTF-8 is told as `\xNN`, and a character that is not seen as `U+NNNN`.
+/// A fault that is not of the file is told as [`explain_device`] tells it, without a reason. Grows by the answer alone.
 pub fn explain_fault(
     alloc: Global,
     bytes: &[u8],

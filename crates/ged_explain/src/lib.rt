@@ -1,7 +1,7 @@
 //! What the faults and notices of `gedtool` mean, in words for people who keep family trees.
 //!
-//! [`meanings`] is the table of what each fault means. [`explain_fault`], [`explain_notice`] and [`explain_device`] make the lines
-//! that say of one file where a fault or a notice stands, what belongs there, and what usually causes it.
+//! [`meanings`] is the table of what each fault means. [`explain_fault`], [`explain_notice`] and [`explain_device`] make the
+//! lines that say of one file where a fault or a notice stands, what belongs there, and what usually causes it.
 #![tactic(auto)]
 
 mod explaining;

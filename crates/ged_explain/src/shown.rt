@@ -33,7 +33,7 @@ fn shown_piece(alloc: Global, piece: &[u8]) -> Result<String, AllocError>
     Ok(text)
 }
 
-/// Appends a line: as it is where it is plain, else so that each byte and character is seen, and no more than so many columns.
+/// Appends a line: as it is where it is plain, else so that each byte and character is seen, and clipped.
 fn push_shown(alloc: Global, piece: &[u8], text: &mut String) -> Result<(), AllocError>
     ensures { OnOk result (IsPlain piece.now → string_bytes text.new ≡ string_bytes text.old ++ piece.now) }
 {

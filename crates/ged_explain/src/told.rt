@@ -60,8 +60,8 @@ impl Told {
         6
     }
 
-    /// Says bytes that a file has: a byte that belongs to no character as `\xNN`, and a character that has no sign of its own as
-    /// `U+NNNN`. Behind so many columns three dots stand for the rest, which is not looked at.
+    /// Says bytes that a file has: a byte that belongs to no character as `\xNN`, and a character that is not seen as `U+NNNN`.
+    /// Behind so many columns, or up to five more, three dots stand for the rest, which is not looked at.
     pub(crate) fn say_clipped(&mut self, bytes: &[u8], columns: usize) {
         let mut rest = bytes;
         let mut used = 0usize;
