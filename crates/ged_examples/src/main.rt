@@ -7,10 +7,12 @@ mod answers;
 mod canon;
 mod devices;
 mod escapes;
+mod explaining;
 mod fakes;
 mod feeding;
 mod forests;
 mod growing;
+mod growing_explained;
 mod growing_feeds;
 mod growing_files;
 mod growing_lines;
@@ -91,4 +93,5 @@ fn answer_call(alloc: Global, call: &str, argument: &[u8], answer: &mut Answer) 
         || canon::answer(alloc, call, argument, answer)
         || whole::answer(alloc, call, argument, answer)
         || devices::answer(alloc, call, argument, answer)
+        || explaining::answer(alloc, call, argument, answer)
 }

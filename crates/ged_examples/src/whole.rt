@@ -215,7 +215,8 @@ fn answer_settings(answer: &mut Answer) {
     say_settings(answer, "second, strict:", new.second().strict());
 }
 
-const KINDS: [FileFault; 25] = [
+/// The faults of a file, by the order of their numbers.
+pub(crate) const KINDS: [FileFault; 25] = [
     FileFault::NotUtf8,
     FileFault::BannedCharacter,
     FileFault::EmptyLine,
