@@ -1,5 +1,5 @@
 -- What the program does, for the words, the files and the streams that it has.
-use Rattle.std.specs.Prelude.{◌≡◌, ◌≢◌, ◌↔◌, ◌⊎◌, ℕ, List, [], Bool, true, false, IsTrue, Option, Some, None, if◌then◌else◌}
+use Rattle.std.specs.Prelude.{◌≡◌, ◌≢◌, ◌↔◌, ◌⊎◌, ℕ, List, [], Bool, false, IsTrue, Option, Some, None, if◌then◌else◌}
 use Rattle.clap.specs.Words.{Text, fault_of}
 use Rattle.clap.specs.Kinds.{IsAmong}
 use Rattle.clap.specs.declared.error.kind.ErrorKind.{ErrorKind}
@@ -14,9 +14,9 @@ use Rattle.ged_tool.specs.declared.faults.Which.{Which}
 use Rattle.ged_tool.specs.declared.faults.Which.TheVariants.{First, Second}
 use Rattle.ged_tool.specs.declared.faults.Fault.TheVariants.{ReadFailed, WriteFailed}
 use Rattle.ged_tool.specs.declared.faults.Outcome.{Outcome}
-use Rattle.ged_tool.specs.declared.faults.Outcome.TheVariants.{Done, Different, Failed}
+use Rattle.ged_tool.specs.declared.faults.Outcome.TheVariants.{Failed}
 use Rattle.ged_cmd.specs.CommandLine.{gedtool}
-use Rattle.ged_cmd.specs.Tasks.{Task, asked, run, same}
+use Rattle.ged_cmd.specs.Tasks.{Task, asked, input_same, run, same}
 
 -- the most bytes that a file may have
 abbrev pub limit : ℕ
@@ -90,6 +90,9 @@ module _ {D : Type 0} where
       ⊎ ((device : D) × opens first device × IsNotOpened (refuses second) (Some Second) writer outcome)
       ⊎ SomeFile (opens first) to_come failed (λ file. SomeFile (opens second) to_come failed (λ other.
       IsCompared profile edition file other writer outcome)))
+  IsDone opens refuses to_come failed (input_same profile edition second) input writer outcome =
+      (IsUnread input × IsNotOpened (refuses second) (Some Second) writer outcome)
+      ⊎ SomeFile (opens second) to_come failed (λ file. IsCompared profile edition input file writer outcome)
 
 -- The status for words that clap refuses: 3 for want of memory, and for help that can't be written, which else is 0; 2 for
 -- a mistake.

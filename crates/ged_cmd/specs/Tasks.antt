@@ -12,10 +12,11 @@ use Rattle.ged_tool.specs.declared.runs.answer.Command.TheVariants.{Lines, Check
 use Rattle.ged_cmd.specs.CommandLine.{gedtool}
 
 -- a command over one file, or over standard input where none is named; or the comparison of a file with another, or with
--- standard input
+-- standard input; or of standard input with a file
 pub data Task : Type 0 where
   run : Profile → Edition → Command → Option Text → Task
   same : Profile → Edition → Text → Option Text → Task
+  input_same : Profile → Edition → Text → Task
 
 -- the flag is set
 abbrev pub is_set : Text → List Row → Bool
@@ -35,13 +36,25 @@ command_of name =
     if bytes_eq name (codes "show") then Some Show else
     if bytes_eq name (codes "canon") then Some Canon else None
 
+-- the file that a word names: none where the word is left out or is `-`, which both stand for standard input
+abbrev pub file_named : Option Text → Option Text
+file_named None = None
+file_named (Some word) = if bytes_eq word (codes "-") then None else Some word
+
 abbrev pub run_asked : Text → List Row → Option Task
 run_asked name rows =
-    option_map (λ command. run (profile_asked rows) (edition_asked rows) command (first_of (codes "FILE") rows)) (command_of name)
+    option_map (λ command. run (profile_asked rows) (edition_asked rows) command (file_named (first_of (codes "FILE") rows)))
+    (command_of name)
+
+-- the comparison of two files, of which one at most may be standard input
+abbrev pub comparison : Profile → Edition → (first second : Option Text) → Option Task
+comparison profile edition (Some first) second = Some (same profile edition first second)
+comparison profile edition None (Some second) = Some (input_same profile edition second)
+comparison profile edition None None = None
 
 abbrev pub same_asked : List Row → Option Task
 same_asked rows =
-    option_map (λ first. same (profile_asked rows) (edition_asked rows) first (first_of (codes "B") rows)) (first_of (codes "A") rows)
+    comparison (profile_asked rows) (edition_asked rows) (file_named (first_of (codes "A") rows)) (file_named (first_of (codes "B") rows))
 
 -- what a subcommand asks for, by its name and what was found for its flags and files
 abbrev pub task_of_match : Text × List Row → Option Task

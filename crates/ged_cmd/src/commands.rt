@@ -3,7 +3,7 @@ ghost use Rattle.std.specs.Prelude.{◌≡◌, None, Some, false, option_map};
 ghost use Rattle.ged_tool.specs.Profiles.{profile_of, edition_of};
 ghost use Rattle.ged_cmd.specs.inner.Flushes.{IsFlushed};
 ghost use Rattle.ged_cmd.specs.Program.{IsAnswered, IsCompared, IsDone, reader as reader_of, writer as writer_of};
-ghost use Rattle.ged_cmd.specs.Tasks.{run as run_task, same as same_task};
+ghost use Rattle.ged_cmd.specs.Tasks.{input_same as input_same_task, run as run_task, same as same_task};
 ghost use Rattle.ged_cmd.specs.inner.Tasks.{task_of};
 
 use crate::shelf::Shelf;
@@ -59,6 +59,9 @@ pub(crate) fn answer_request<S: Shelf, R: Source, W: Write>(
             first,
             second,
         } => compare_files(alloc, shelf, settings, first, second, input, output),
+        Request::SameInput { settings, second } => {
+            compare_input(alloc, shelf, settings, second, input, output)
+        }
     }
 }
 
@@ -117,6 +120,29 @@ fn compare_files<S: Shelf, R: Source, W: Write>(
             Ok(mut second) => compare(alloc, settings, &mut first, &mut second, output),
             Err(_) => not_opened(Which::Second),
         },
+    }
+}
+
+/// Tells whether `input` is the same as a file. A file that can't be opened is ReadFailed, and is
+/// named.
+fn compare_input<S: Shelf, R: Source, W: Write>(
+    alloc: Global,
+    shelf: &S,
+    settings: Settings,
+    second: &str,
+    input: &mut R,
+    output: &mut Output<W>,
+) -> Outcome
+    requires unread { R.reads input.old ≡ 0 }
+    requires no_failure { (R.failed input.old ≡ false) × (⟦<Output<W> as Sink>⟧.failed output.old ≡ false) }
+    ensures { IsDone (S.opens shelf.now) (S.refuses shelf.now) S.Device.to_come S.Device.failed
+        (input_same_task (profile_of settings) (edition_of settings) second.now)
+        (reader_of R.to_come R.failed input.old input.new)
+        (writer_of ⟦<Output<W> as Sink>⟧.taken ⟦<Output<W> as Sink>⟧.failed output.old output.new) result }
+{
+    match shelf.open(second) {
+        Ok(mut second) => compare(alloc, settings, input, &mut second, output),
+        Err(_) => not_opened(Which::Second),
     }
 }
 

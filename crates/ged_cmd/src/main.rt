@@ -18,7 +18,7 @@ use std::alloc::Global;
 use std::io::Write;
 use std::process::ExitCode;
 use std::{env, io};
-use tells::{USAGE_STATUS, finish, refuse, refuse_unread};
+use tells::{finish, refuse, refuse_two_inputs, refuse_unread};
 use words::read_words;
 
 /// The streams of a program.
@@ -79,7 +79,7 @@ fn perform<S: Shelf, R: Source, W: Write, E: Write>(
             let outcome = answer_request(alloc, shelf, request, input, output);
             finish(&outcome, &mut streams.errors)
         }
-        Ok(None) => USAGE_STATUS,
+        Ok(None) => refuse_two_inputs(&mut streams.errors),
         Err(error) => refuse(&error, &mut streams.output, &mut streams.errors),
     }
 }

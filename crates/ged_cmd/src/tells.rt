@@ -16,7 +16,15 @@ use std::io;
 use std::io::{Cursor, Write};
 
 /// The status for a mistake in the words of the command line.
-pub(crate) const USAGE_STATUS: u8 = 2;
+const USAGE_STATUS: u8 = 2;
+
+/// What is told where both files of `same` would be standard input, in clap's form.
+const TWO_INPUTS: &str = "error: only one of <A> and [B] can be standard input
+
+Usage: gedtool same [OPTIONS] <A> [B]
+
+For more information, try '--help'.
+";
 
 /// More bytes than any line that tells a fault has.
 const LINE_ROOM: usize = 80;
@@ -112,6 +120,13 @@ fn print_help<W: Write>(error: &Error, output: &mut Output<W>) -> Result<(), Fai
 {
     output.print(error)?;
     output.flush()
+}
+
+/// Tells that standard input can't be both files, which is a mistake that clap doesn't know.
+pub(crate) fn refuse_two_inputs<E: Write>(errors: &mut E) -> u8
+    ensures { result ≡ 2 }
+{
+    tell_mistake(&TWO_INPUTS, errors)
 }
 
 /// Tells why the words of the command line can't be had.

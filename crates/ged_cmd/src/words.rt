@@ -5,7 +5,8 @@ ghost use Rattle.clap.specs.Kinds.{HasKind};
 ghost use Rattle.ged_cmd.specs.CommandLine as line;
 ghost use Rattle.ged_cmd.specs.inner.CommandLine.{IsArg, IsCommand};
 ghost use Rattle.ged_tool.specs.Profiles.{profile_of, edition_of};
-ghost use Rattle.ged_cmd.specs.Tasks.{asked, command_of, edition_asked, is_set, profile_asked, run_asked, same_asked, task_of_match};
+ghost use Rattle.ged_cmd.specs.Tasks.{asked, command_of, comparison as comparison_of, edition_asked, file_named as file_of, is_set};
+ghost use Rattle.ged_cmd.specs.Tasks.{profile_asked, run_asked, same_asked, task_of_match};
 ghost use Rattle.ged_cmd.specs.inner.Tasks.{task_of};
 
 use clap::{Arg, ArgAction, ArgMatches, Error};
@@ -36,11 +37,17 @@ pub(crate) enum Request<'a> {
         first: &'a str,
         second: Option<&'a str>,
     },
+    /// Whether standard input is the same as a file.
+    SameInput {
+        settings: Settings,
+        second: &'a str,
+    },
 }
 
 /// Reads the words, of which the first is the program's name. The error is clap's: a mistake in
-/// the words, a request for help, or want of memory. Words without a mistake have a subcommand,
-/// since clap requires one, and `same` has its first file, so that `None` isn't met.
+/// the words, a request for help, or want of memory. `None` is a mistake that clap doesn't know:
+/// `same` where both files would be standard input. Words without a mistake have a subcommand,
+/// since clap requires one, so that it is met for nothing else.
 pub(crate) fn read_words<'a>(
     alloc: Global,
     words: &'a [String],
@@ -64,15 +71,35 @@ fn request_of<'a>(matches: &ArgMatches<'a>) -> Option<Request<'a>>
     run_request(name, inner)
 }
 
-/// What `same` asks for.
+/// What `same` asks for, or `None` where both files would be standard input.
 fn same_request<'a>(matches: &ArgMatches<'a>) -> Option<Request<'a>>
     ensures { option_map task_of result ≡ same_asked (rows_of (found_of matches.now)) }
 {
-    Some(Request::Same {
-        settings: settings_of(matches),
-        first: matches.get_str("A")?,
-        second: matches.get_str("B"),
-    })
+    let first = file_named(matches.get_str("A"));
+    let second = file_named(matches.get_str("B"));
+    comparison(settings_of(matches), first, second)
+}
+
+/// The request to compare two files, or `None` where both would be standard input.
+fn comparison<'a>(
+    settings: Settings,
+    first: Option<&'a str>,
+    second: Option<&'a str>,
+) -> Option<Request<'a>>
+    ensures { option_map task_of result ≡ comparison_of (profile_of settings) (edition_of settings)
+        (option_map (λ name. name.now) first.entry) (option_map (λ name. name.now) second.entry) }
+{
+    match first {
+        Some(first) => Some(Request::Same {
+            settings,
+            first,
+            second,
+        }),
+        None => Some(Request::SameInput {
+            settings,
+            second: second?,
+        }),
+    }
 }
 
 /// What any other subcommand asks for.
@@ -82,8 +109,19 @@ fn run_request<'a>(name: &str, matches: &ArgMatches<'a>) -> Option<Request<'a>>
     Some(Request::Run {
         command: command_named(name)?,
         settings: settings_of(matches),
-        file: matches.get_str("FILE"),
+        file: file_named(matches.get_str("FILE")),
     })
+}
+
+/// The file that a word names: `None` where the word is left out or is `-`, which both stand for
+/// standard input.
+fn file_named(word: Option<&str>) -> Option<&str>
+    ensures { option_map (λ name. name.now) result ≡ file_of (option_map (λ word. word.now) word.entry) }
+{
+    match word {
+        Some("-") => None,
+        _ => word,
+    }
 }
 
 /// The command over one file that has this name.
@@ -213,7 +251,7 @@ fn file_command<'a>(
 ) -> Result<clap::Command<'a>, AllocError>
     ensures { IfOk result (IsCommand (line.over_file name.entry.now)) }
 {
-    let help = "The file to read; standard input where it is left out";
+    let help = "The file to read; standard input where it is left out or '-'";
     named_command(alloc, name, about).arg(file_argument(alloc, "FILE", help))
 }
 
@@ -230,14 +268,14 @@ fn first_argument<'a>(alloc: Global) -> Arg<'a>
 {
     Arg::new(alloc, "A")
         .required(true)
-        .help("The first file to read")
+        .help("The first file to read; standard input where it is '-'")
 }
 
 /// The subcommand over two files.
 fn same_command<'a>(alloc: Global) -> Result<clap::Command<'a>, AllocError>
     ensures { IfOk result (IsCommand line.same) }
 {
-    let help = "The second file to read; standard input where it is left out";
+    let help = "The second file to read; standard input where it is left out or '-'";
     named_command(
         alloc,
         "same",

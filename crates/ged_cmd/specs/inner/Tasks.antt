@@ -1,14 +1,13 @@
 -- Nothing here need be believed: only private contracts and proofs cite it.
 use Rattle.std.specs.Prelude.{option_map}
-use Rattle.ged_tool.specs.declared.Profile.TheVariants as profile
-use Rattle.ged_tool.specs.declared.Edition.TheVariants as edition
 use Rattle.ged_tool.specs.Profiles.{profile_of, edition_of}
 use Rattle.ged_cmd.specs.declared.words.Request.{Request}
-use Rattle.ged_cmd.specs.declared.words.Request.TheVariants.{Run, Same}
-use Rattle.ged_cmd.specs.Tasks.{Task, run, same}
+use Rattle.ged_cmd.specs.declared.words.Request.TheVariants.{Run, Same, SameInput}
+use Rattle.ged_cmd.specs.Tasks.{Task, input_same, run, same}
 
 -- a request of the program, as a task
 abbrev pub task_of : Request → Task
 task_of (Run command settings file) = run (profile_of settings) (edition_of settings) command (option_map (λ name. name.now) file)
 task_of (Same settings first second) =
     same (profile_of settings) (edition_of settings) first.now (option_map (λ name. name.now) second)
+task_of (SameInput settings second) = input_same (profile_of settings) (edition_of settings) second.now
