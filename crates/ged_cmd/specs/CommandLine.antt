@@ -38,9 +38,9 @@ first_file = record (new_rule (codes "A")) { required = true }
 abbrev pub same : App
 same = with_rule (with_rule (with_rule (with_rule (new_app (codes "same")) first_file) (new_rule (codes "B"))) strict_flag) second_flag
 
--- the program without its commands, of which it needs one
+-- the program without its commands, of which it needs one; it has a version, and so a flag that asks for it
 abbrev pub bare_program : App
-bare_program = on_top (λ top. record top { subcommand_required = true }) (new_app (codes "gedtool"))
+bare_program = on_top (λ top. record top { subcommand_required = true; has_version = true }) (new_app (codes "gedtool"))
 
 -- one of these five commands
 abbrev pub gedtool : App

@@ -94,8 +94,8 @@ module _ {D : Type 0} where
       (IsUnread input × IsNotOpened (refuses second) (Some Second) writer outcome)
       ⊎ SomeFile (opens second) to_come failed (λ file. IsCompared profile edition input file writer outcome)
 
--- The status for words that clap refuses: 3 for want of memory, and for help that can't be written, which else is 0; 2 for
--- a mistake.
+-- The status for words that clap refuses: 3 for want of memory, and for help or the version that can't be written, which
+-- else is 0; 2 for a mistake.
 abbrev pub refusal_status : ErrorKind → (write_failed : Bool) → ℕ
 refusal_status OutOfMemory failed = 3
 refusal_status DisplayHelp failed = if failed then 3 else 0
@@ -103,7 +103,7 @@ refusal_status DisplayVersion failed = if failed then 3 else 0
 refusal_status kind failed = 2
 
 -- The words are refused: memory is wanting, or they have one of the faults that clap finds in them. Nothing is read, and
--- only help is written.
+-- only help or the version is written.
 pub record IsRefused (words : List Text) (input : Reader) (writer : Writer) (status : ℕ) : Type 0 where
   pub kind : ErrorKind
   pub found : (kind ≡ OutOfMemory) ⊎ IsAmong kind (fault_of gedtool words)
@@ -121,7 +121,8 @@ module _ {D : Type 0} where
     pub done : IsDone opens refuses to_come failed task input writer outcome
     pub told : status ≡ status_of outcome
 
-  -- What the program does for the words of its command line. Words without a fault that ask for nothing would be a mistake.
+  -- What the program does for the words of its command line. Words without a fault that ask for nothing are a mistake:
+  -- those under which both files of `same` would be standard input.
   abbrev pub Performs : (opens : Text → D → Type 0) → (refuses : Text → Type 0) → (to_come : D → Option (List ℕ)) → (failed : D → Bool)
       → (words : List Text) → (input : Reader) → Writer → (status : ℕ) → Type 0
   Performs opens refuses to_come failed words input writer status =

@@ -70,7 +70,7 @@ fn write_line<W: Write>(which: Option<Which>, fault: &Fault, line: &mut W) -> io
     }
 }
 
-/// Prints help on the output, or what is wrong with the words on the errors.
+/// Prints help or the version on the output, or what is wrong with the words on the errors.
 pub(crate) fn refuse<W: Write, E: Write>(
     error: &Error,
     output: &mut Output<W>,
@@ -101,7 +101,7 @@ fn tell_mistake<D: Display, E: Write>(mistake: &D, errors: &mut E) -> u8
     USAGE_STATUS
 }
 
-/// Prints help, and gives the status: 0, or that of a fault of the output.
+/// Prints help or the version, and gives the status: 0, or that of a fault of the output.
 fn tell_help<W: Write, E: Write>(error: &Error, output: &mut Output<W>, errors: &mut E) -> u8
     requires { ⟦<Output<W> as Sink>⟧.failed output.old ≡ false }
     ensures status { result ≡ (if ⟦<Output<W> as Sink>⟧.failed output.new then 3 else 0) }
@@ -113,7 +113,7 @@ fn tell_help<W: Write, E: Write>(error: &Error, output: &mut Output<W>, errors: 
     }
 }
 
-/// Prints help, and flushes it.
+/// Prints help or the version, and flushes it.
 fn print_help<W: Write>(error: &Error, output: &mut Output<W>) -> Result<(), Failed>
     requires { ⟦<Output<W> as Sink>⟧.failed output.old ≡ false }
     ensures { ⟦<Output<W> as Sink>⟧.failed output.new ≡ failed_after false result }

@@ -16,6 +16,9 @@ use std::alloc::{AllocError, Global};
 /// The name that help and usage give the program, whatever file it lies in.
 const NAME: &str = "gedtool";
 
+/// The version that `--version` tells: that of the file VERSION.
+const VERSION: &str = "0.1.0";
+
 /// The flag under which a notice refuses a file.
 const STRICT: &str = "strict";
 
@@ -45,9 +48,9 @@ pub(crate) enum Request<'a> {
 }
 
 /// Reads the words, of which the first is the program's name. The error is clap's: a mistake in
-/// the words, a request for help, or want of memory. `None` is a mistake that clap doesn't know:
-/// `same` where both files would be standard input. Words without a mistake have a subcommand,
-/// since clap requires one, so that it is met for nothing else.
+/// the words, a request for help or the version, or want of memory. `None` is a mistake that clap
+/// doesn't know: `same` where both files would be standard input. Words without a mistake have a
+/// subcommand, since clap requires one, so that it is met for nothing else.
 pub(crate) fn read_words<'a>(
     alloc: Global,
     words: &'a [String],
@@ -175,12 +178,13 @@ fn command_line<'a>(alloc: Global) -> Result<clap::Command<'a>, AllocError>
         .subcommand(same_command(alloc)?)
 }
 
-/// The program without its commands, of which it needs one.
+/// The program without its commands, of which it needs one. It tells its version.
 fn bare_program<'a>(alloc: Global) -> Result<clap::Command<'a>, AllocError>
     ensures { IfOk result (IsCommand line.bare_program) }
 {
     named_command(alloc, NAME, "Reads FamilySearch GEDCOM 7.0 files")
         .subcommand_required(true)
+        .version(VERSION)
         .bin_name(NAME)
 }
 

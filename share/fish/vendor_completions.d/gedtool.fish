@@ -15,9 +15,13 @@ function __gedtool_takes_file -d 'Whether the command takes a further file'
     end
 end
 
-function __gedtool_takes_command -d 'Whether a command comes next'
+function __gedtool_begins -d 'Whether no command is there yet'
     set -l words (commandline -opc)
-    test (count $words) -eq 1; or __gedtool_command help
+    test (count $words) -eq 1
+end
+
+function __gedtool_takes_command -d 'Whether a command comes next'
+    __gedtool_begins; or __gedtool_command help
 end
 
 complete -c gedtool -f
@@ -33,3 +37,4 @@ complete -c gedtool -n __gedtool_takes_command -a help -d 'Print this message or
 complete -c gedtool -n '__gedtool_command check show canon same' -l strict -d 'Refuses a file that has a notice'
 complete -c gedtool -n '__gedtool_command canon same' -l second -d 'Leaves out the leading zeros of dates, ages and counts'
 complete -c gedtool -n 'not __gedtool_command help' -s h -l help -d 'Print help'
+complete -c gedtool -n __gedtool_begins -s V -l version -d 'Print version'
