@@ -6,6 +6,7 @@ pub mod Canon
 pub mod Headline
 pub mod Same
 pub mod SameRun
+pub mod Kept
 pub mod Shown
 pub mod Profiles
 pub mod Accepted

@@ -24,7 +24,8 @@ pub use laws::{
 pub use runs::answer::Command;
 pub use runs::devices::{Failed, Sink, Source};
 pub use runs::input::Input;
-pub use runs::one_file::{run, run_as};
+pub use runs::one_file::{run, run_as, run_told};
 pub use runs::output::Output;
-pub use runs::two_files::{run_same, run_same_as};
+pub use runs::told::Told;
+pub use runs::two_files::{run_same, run_same_as, run_same_told};
 pub use settings::Settings;

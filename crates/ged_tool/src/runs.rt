@@ -4,4 +4,5 @@ pub(crate) mod devices;
 pub(crate) mod input;
 pub(crate) mod one_file;
 pub(crate) mod output;
+pub(crate) mod told;
 pub(crate) mod two_files;

@@ -1,5 +1,5 @@
 -- What a run says: why one over two files stops before it has an answer, and how one over one file ends.
-use Rattle.std.proofs.Common.{◌≡◌, ℕ, [], Option, Some, None, refl, sym, subst, arith}
+use Rattle.std.proofs.Common.{◌≡◌, ℕ, [], Option, Some, None, refl, sym, subst, arith, inl, inr}
 use Rattle.std.specs.Io.{StartsWith}
 use Rattle.std.specs.Io.KnownBytes.{Consumes, Appends}
 use Rattle.std.proofs.KnownBytes.{Consumes-nil, Appends-nil}
@@ -8,6 +8,7 @@ use Rattle.ged_schema.specs.declared.profile.Profile.{Profile}
 use Rattle.ged_canon.specs.declared.edition.Edition.{Edition}
 use Rattle.ged_tool.specs.declared.faults.Which.{Which}
 use Rattle.ged_tool.specs.declared.faults.Which.TheVariants.{First, Second}
+use Rattle.ged_tool.specs.declared.faults.FileFault.{FileFault}
 use Rattle.ged_tool.specs.declared.faults.Fault.{Fault}
 use Rattle.ged_tool.specs.declared.faults.Fault.TheVariants.{InFile, TooLong, ReadFailed, WriteFailed, Memory}
 use Rattle.ged_tool.specs.declared.faults.Outcome.{Outcome}
@@ -15,10 +16,11 @@ use Rattle.ged_tool.specs.declared.faults.Outcome.TheVariants.{Done, Failed}
 use Rattle.ged_tool.specs.declared.runs.answer.Command.{Command}
 use Rattle.ged_tool.specs.Accepted.{IsRefusal}
 use Rattle.ged_tool.specs.Answers.{Answers, FaultAt}
-use Rattle.ged_tool.specs.Run.{IsWhole, Tells, IsRun}
-use Rattle.ged_tool.specs.inner.Steps.{StopsReading}
+use Rattle.ged_tool.specs.Run.{IsWhole, Tells}
+use Rattle.ged_tool.specs.inner.Steps.{StopsReading, of_which}
 use Rattle.ged_tool.specs.Same.{IsSameRefusal}
-use Rattle.ged_tool.specs.SameRun.{Came, TellsOfFile, SameMeans, IsSameRun}
+use Rattle.ged_tool.specs.SameRun.{Came, TellsOfFile}
+use Rattle.ged_tool.specs.Kept.{IsKeptOf, IsKeptRun, IsKeptSameRun, IsKeptWith}
 
 abbrev came_of : Bytes → Option Bytes → Came
 came_of bytes left = record { bytes = bytes; left = left }
@@ -52,53 +54,83 @@ judged_told profile limit first second first_left second_left Second WriteFailed
 judged_told profile limit first second first_left second_left First (Memory error) whole other h = (whole.within, other.within)
 judged_told profile limit first second first_left second_left Second (Memory error) whole other h = (whole, other.within)
 
+-- nothing is kept of a file that did not come whole
+nothing_kept : (limit : ℕ) (came bytes : Bytes) (fault : Fault) → StopsReading limit came fault → bytes ≡ [] → IsKeptWith bytes came fault
+nothing_kept limit came bytes (InFile line kind) h none = absurd h
+nothing_kept limit came bytes TooLong h none = none
+nothing_kept limit came bytes ReadFailed h none = none
+nothing_kept limit came bytes WriteFailed h none = absurd h
+nothing_kept limit came bytes (Memory error) h none = inr none
+
+-- all of one that came whole
+all_kept : (says : ℕ → FileFault → Type 0) (came bytes : Bytes) (fault : Fault) → IsRefusal says fault → bytes ≡ came → IsKeptWith bytes came fault
+all_kept says came bytes (InFile line kind) h same = same
+all_kept says came bytes TooLong h same = absurd h
+all_kept says came bytes ReadFailed h same = absurd h
+all_kept says came bytes WriteFailed h same = absurd h
+all_kept says came bytes (Memory error) h same = inl same
+
 -- nothing is written where a file has the fault
-stopped : (profile : Profile) (edition : Edition) (limit : ℕ) (first_to_come first_left second_to_come second_left taken : Option Bytes) (first second : Bytes) (which : Which) (fault : Fault) (outcome : Outcome)
+stopped : (profile : Profile) (edition : Edition) (limit : ℕ) (first_to_come first_left second_to_come second_left taken : Option Bytes) (first second bytes : Bytes) (which : Which) (fault : Fault) (outcome : Outcome)
     → Consumes first_to_come first_left first → Consumes second_to_come second_left second
-    → TellsOfFile profile limit (came_of first first_left) (came_of second second_left) which fault → outcome ≡ Failed (Some which) fault
-    → IsSameRun profile edition limit first_to_come first_left second_to_come second_left taken taken outcome
-stopped profile edition limit first_to_come first_left second_to_come second_left taken first second which fault outcome first_gave second_gave told is = record {
-  first = first;
-  second = second;
-  written = [];
-  first_gave = first_gave;
-  second_gave = second_gave;
-  took = Appends-nil taken;
-  means = subst (λ (o : Outcome). SameMeans profile edition limit (came_of first first_left) (came_of second second_left) [] o) (sym is) (told, refl);
-}
+    → TellsOfFile profile limit (came_of first first_left) (came_of second second_left) which fault
+    → IsKeptOf bytes first second (Failed (Some which) fault) → outcome ≡ Failed (Some which) fault
+    → IsKeptSameRun profile edition limit first_to_come first_left second_to_come second_left taken taken outcome bytes
+stopped profile edition limit first_to_come first_left second_to_come second_left taken first second bytes which fault outcome first_gave second_gave told kept is =
+    subst (λ (o : Outcome). IsKeptSameRun profile edition limit first_to_come first_left second_to_come second_left taken taken o bytes) (sym is) (record {
+      run = record {
+        first = first;
+        second = second;
+        written = [];
+        first_gave = first_gave;
+        second_gave = second_gave;
+        took = Appends-nil taken;
+        means = (told, refl);
+      };
+      kept = kept;
+    })
 
 -- the first file did not come whole, and the second was not read
-pub first_stops : (profile : Profile) (edition : Edition) (limit : ℕ) (first_to_come first_left second_to_come taken : Option Bytes) (came : Bytes) (fault : Fault) (outcome : Outcome)
-    → Consumes first_to_come first_left came → StopsReading limit came fault → outcome ≡ Failed (Some First) fault
-    → IsSameRun profile edition limit first_to_come first_left second_to_come second_to_come taken taken outcome
-first_stops profile edition limit first_to_come first_left second_to_come taken came fault outcome gave stops is =
-    stopped profile edition limit first_to_come first_left second_to_come second_to_come taken came [] First fault outcome gave (Consumes-nil second_to_come)
-    (first_told profile limit came first_left second_to_come fault stops) is
+pub first_stops : (profile : Profile) (edition : Edition) (limit : ℕ) (first_to_come first_left second_to_come taken : Option Bytes) (came bytes : Bytes) (fault : Fault) (outcome : Outcome)
+    → Consumes first_to_come first_left came → StopsReading limit came fault → bytes ≡ [] → outcome ≡ Failed (Some First) fault
+    → IsKeptSameRun profile edition limit first_to_come first_left second_to_come second_to_come taken taken outcome bytes
+first_stops profile edition limit first_to_come first_left second_to_come taken came bytes fault outcome gave stops none is =
+    stopped profile edition limit first_to_come first_left second_to_come second_to_come taken came [] bytes First fault outcome gave (Consumes-nil second_to_come)
+    (first_told profile limit came first_left second_to_come fault stops) (nothing_kept limit came bytes fault stops none) is
 
 -- the first file came whole, and the second did not
-pub second_stops : (profile : Profile) (edition : Edition) (limit : ℕ) (first_to_come first_left second_to_come second_left taken : Option Bytes) (first came : Bytes) (fault : Fault) (outcome : Outcome)
-    → IsWhole limit first first_left → Consumes first_to_come first_left first → Consumes second_to_come second_left came → StopsReading limit came fault → outcome ≡ Failed (Some Second) fault
-    → IsSameRun profile edition limit first_to_come first_left second_to_come second_left taken taken outcome
-second_stops profile edition limit first_to_come first_left second_to_come second_left taken first came fault outcome whole first_gave gave stops is =
-    stopped profile edition limit first_to_come first_left second_to_come second_left taken first came Second fault outcome first_gave gave
-    (second_told profile limit first came first_left second_left fault whole stops) is
+pub second_stops : (profile : Profile) (edition : Edition) (limit : ℕ) (first_to_come first_left second_to_come second_left taken : Option Bytes) (first came bytes : Bytes) (fault : Fault) (outcome : Outcome)
+    → IsWhole limit first first_left → Consumes first_to_come first_left first → Consumes second_to_come second_left came → StopsReading limit came fault → bytes ≡ [] → outcome ≡ Failed (Some Second) fault
+    → IsKeptSameRun profile edition limit first_to_come first_left second_to_come second_left taken taken outcome bytes
+second_stops profile edition limit first_to_come first_left second_to_come second_left taken first came bytes fault outcome whole first_gave gave stops none is =
+    stopped profile edition limit first_to_come first_left second_to_come second_left taken first came bytes Second fault outcome first_gave gave
+    (second_told profile limit first came first_left second_left fault whole stops) (nothing_kept limit came bytes fault stops none) is
 
 -- both came whole, and one is not accepted, or memory was wanted
-pub judging_stops : (profile : Profile) (edition : Edition) (limit : ℕ) (first_to_come first_left second_to_come second_left taken : Option Bytes) (first second seen other_seen : Bytes) (which : Which) (fault : Fault) (outcome : Outcome)
+pub judging_stops : (profile : Profile) (edition : Edition) (limit : ℕ) (first_to_come first_left second_to_come second_left taken : Option Bytes) (first second seen other_seen bytes : Bytes) (which : Which) (fault : Fault) (outcome : Outcome)
     → IsWhole limit first first_left → Consumes first_to_come first_left first → IsWhole limit second second_left → Consumes second_to_come second_left second → seen ≡ first → other_seen ≡ second
-    → IsSameRefusal profile seen other_seen which fault → outcome ≡ Failed (Some which) fault
-    → IsSameRun profile edition limit first_to_come first_left second_to_come second_left taken taken outcome
-judging_stops profile edition limit first_to_come first_left second_to_come second_left taken first second seen other_seen which fault outcome whole first_gave other second_gave same other_same refused is =
+    → IsSameRefusal profile seen other_seen which fault → bytes ≡ of_which which first second → outcome ≡ Failed (Some which) fault
+    → IsKeptSameRun profile edition limit first_to_come first_left second_to_come second_left taken taken outcome bytes
+judging_stops profile edition limit first_to_come first_left second_to_come second_left taken first second seen other_seen bytes which fault outcome whole first_gave other second_gave same other_same refused of is =
     let told : IsSameRefusal profile first second which fault =
     subst (λ (bytes : Bytes). IsSameRefusal profile first bytes which fault) other_same (subst (λ (bytes : Bytes). IsSameRefusal profile bytes other_seen which fault) same refused) in
-    stopped profile edition limit first_to_come first_left second_to_come second_left taken first second which fault outcome first_gave second_gave
-    (judged_told profile limit first second first_left second_left which fault whole other told) is
+    stopped profile edition limit first_to_come first_left second_to_come second_left taken first second bytes which fault outcome first_gave second_gave
+    (judged_told profile limit first second first_left second_left which fault whole other told) (keeps which told of) is
+  where
+    keeps : (which : Which) → IsSameRefusal profile first second which fault → bytes ≡ of_which which first second
+        → IsKeptOf bytes first second (Failed (Some which) fault)
+    keeps First h of = all_kept _ first bytes fault h of
+    keeps Second h of = all_kept _ second bytes fault h.1 of
 
 -- One file that did not come whole: nothing is written.
-pub run_stops : (profile : Profile) (edition : Edition) (command : Command) (limit : ℕ) (to_come left taken : Option Bytes) (came : Bytes) (fault : Fault)
-    → Consumes to_come left came → StopsReading limit came fault → IsRun profile edition command limit to_come left taken taken (Failed None fault)
-run_stops profile edition command limit to_come left taken came fault gave stops =
-    record { came = came; written = []; gave = gave; took = Appends-nil taken; means = (refl, tells fault stops) }
+pub run_stops : (profile : Profile) (edition : Edition) (command : Command) (limit : ℕ) (to_come left taken : Option Bytes) (came bytes : Bytes) (fault : Fault) (outcome : Outcome)
+    → Consumes to_come left came → StopsReading limit came fault → bytes ≡ [] → outcome ≡ Failed None fault
+    → IsKeptRun profile edition command limit to_come left taken taken outcome bytes
+run_stops profile edition command limit to_come left taken came bytes fault outcome gave stops none is =
+    subst (λ (o : Outcome). IsKeptRun profile edition command limit to_come left taken taken o bytes) (sym is) (record {
+      run = record { came = came; written = []; gave = gave; took = Appends-nil taken; means = (refl, tells fault stops) };
+      kept = nothing_kept limit came bytes fault stops none;
+    })
   where
     tells : (fault : Fault) → StopsReading limit came fault → Tells profile edition command limit came left [] fault
     tells (InFile line kind) h = absurd h
@@ -108,11 +140,14 @@ run_stops profile edition command limit to_come left taken came fault gave stops
     tells (Memory error) h = (h, refl)
 
 -- one that came whole, and has no answer
-pub run_refused : (profile : Profile) (edition : Edition) (command : Command) (limit : ℕ) (to_come left taken : Option Bytes) (came : Bytes) (fault : Fault)
-    → IsWhole limit came left → Consumes to_come left came → IsRefusal (FaultAt profile command came) fault
-    → IsRun profile edition command limit to_come left taken taken (Failed None fault)
-run_refused profile edition command limit to_come left taken came fault whole gave refused =
-    record { came = came; written = []; gave = gave; took = Appends-nil taken; means = (refl, tells fault refused) }
+pub run_refused : (profile : Profile) (edition : Edition) (command : Command) (limit : ℕ) (to_come left taken : Option Bytes) (came bytes : Bytes) (fault : Fault) (outcome : Outcome)
+    → IsWhole limit came left → Consumes to_come left came → IsRefusal (FaultAt profile command came) fault → bytes ≡ came → outcome ≡ Failed None fault
+    → IsKeptRun profile edition command limit to_come left taken taken outcome bytes
+run_refused profile edition command limit to_come left taken came bytes fault outcome whole gave refused same is =
+    subst (λ (o : Outcome). IsKeptRun profile edition command limit to_come left taken taken o bytes) (sym is) (record {
+      run = record { came = came; written = []; gave = gave; took = Appends-nil taken; means = (refl, tells fault refused) };
+      kept = all_kept _ came bytes fault refused same;
+    })
   where
     tells : (fault : Fault) → IsRefusal (FaultAt profile command came) fault → Tells profile edition command limit came left [] fault
     tells (InFile line kind) h = (whole, h, refl)
@@ -124,13 +159,17 @@ run_refused profile edition command limit to_come left taken came fault whole ga
 -- one whose answer was written
 pub run_answered : (profile : Profile) (edition : Edition) (command : Command) (limit : ℕ) (to_come left taken holds : Option Bytes) (came text : Bytes)
     → IsWhole limit came left → Consumes to_come left came → Answers profile edition command came text → Appends taken holds text
-    → IsRun profile edition command limit to_come left taken holds Done
+    → IsKeptRun profile edition command limit to_come left taken holds Done came
 run_answered profile edition command limit to_come left taken holds came text whole gave answers took =
-    record { came = came; written = text; gave = gave; took = took; means = (whole, answers) }
+    record { run = record { came = came; written = text; gave = gave; took = took; means = (whole, answers) }; kept = refl }
 
 -- one of whose answer a front was written
-pub run_unwritten : (profile : Profile) (edition : Edition) (command : Command) (limit : ℕ) (to_come left taken holds : Option Bytes) (came text written : Bytes)
+pub run_unwritten : (profile : Profile) (edition : Edition) (command : Command) (limit : ℕ) (to_come left taken holds : Option Bytes) (came text written bytes : Bytes) (outcome : Outcome)
     → IsWhole limit came left → Consumes to_come left came → Answers profile edition command came text → Appends taken holds written → StartsWith text written
-    → IsRun profile edition command limit to_come left taken holds (Failed None WriteFailed)
-run_unwritten profile edition command limit to_come left taken holds came text written whole gave answers took front =
-    record { came = came; written = written; gave = gave; took = took; means = (refl, (whole, (text, answers, front))) }
+    → bytes ≡ came → outcome ≡ Failed None WriteFailed
+    → IsKeptRun profile edition command limit to_come left taken holds outcome bytes
+run_unwritten profile edition command limit to_come left taken holds came text written bytes outcome whole gave answers took front same is =
+    subst (λ (o : Outcome). IsKeptRun profile edition command limit to_come left taken holds o bytes) (sym is) (record {
+      run = record { came = came; written = written; gave = gave; took = took; means = (refl, (whole, (text, answers, front))) };
+      kept = same;
+    })

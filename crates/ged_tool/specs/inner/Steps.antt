@@ -2,6 +2,8 @@
 -- What the steps of a run answer. Private functions alone cite these.
 use Rattle.std.specs.Prelude.{ℕ, ◌≤◌, ◌<◌, length}
 use Rattle.ged_line.specs.Bytes.{Bytes}
+use Rattle.ged_tool.specs.declared.faults.Which.{Which}
+use Rattle.ged_tool.specs.declared.faults.Which.TheVariants.{First, Second}
 use Rattle.ged_tool.specs.declared.faults.Fault.{Fault}
 use Rattle.ged_tool.specs.declared.faults.Fault.TheVariants.{InFile, TooLong, ReadFailed, WriteFailed, Memory}
 
@@ -12,3 +14,8 @@ StopsReading limit came ReadFailed = length came ≤ limit
 StopsReading limit came (Memory error) = length came ≤ limit
 StopsReading limit came WriteFailed = ⊥
 StopsReading limit came (InFile line kind) = ⊥
+
+-- the one of two files
+abbrev pub of_which : Which → (first second : Bytes) → Bytes
+of_which First first second = first
+of_which Second first second = second

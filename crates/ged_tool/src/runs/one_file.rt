@@ -5,11 +5,13 @@ ghost use Rattle.std.specs.Io.{StartsWith};
 ghost use Rattle.ged_line.specs.Bytes.{Bytes};
 ghost use Rattle.ged_tool.specs.Profiles.{profile_of, edition_of};
 ghost use Rattle.ged_tool.specs.Run.{IsWhole, IsRun};
+ghost use Rattle.ged_tool.specs.Kept.{IsKeptRun};
 ghost use Rattle.ged_tool.specs.inner.Steps.{StopsReading};
 
 use crate::faults::{Fault, Outcome};
 use crate::runs::answer::{Command, answer};
 use crate::runs::devices::{Failed, Sink, Source};
+use crate::runs::told::{Told, told_without};
 use crate::settings::Settings;
 use ged_canon::Edition;
 use ged_schema::Profile;
@@ -71,20 +73,55 @@ pub fn run_as<R: Source, W: Sink>(
     ensures bytes { IsRun (profile_of settings) (edition_of settings) command limit (R.to_come reader.old) (R.to_come reader.new)
         (W.taken writer.old) (W.taken writer.new) result }
 {
+    let told = run_told(alloc, settings, limit, command, reader, writer);
+    told.outcome
+}
+
+/// What [`run_as`] does, and the file's bytes: they are kept where the file came whole, and none are where it did not. Where
+/// memory was wanting they may be kept or not. Nothing is copied for that, and no memory taken.
+pub fn run_told<R: Source, W: Sink>(
+    alloc: Global,
+    settings: Settings,
+    limit: u64,
+    command: Command,
+    reader: &mut R,
+    writer: &mut W,
+) -> Told
+    requires limit { limit ≤ 1073741824 }
+    requires unread { R.reads reader.old ≡ 0 }
+    requires no_failure { (R.failed reader.old ≡ false) × (W.failed writer.old ≡ false) }
+    ensures calls { R.reads reader.new ≤ limit + 1 }
+    ensures read_failed { IsTrue (R.failed reader.new)
+        ↔ (result.outcome ≡ Outcome.Failed None Fault.ReadFailed) }
+    ensures write_failed { IsTrue (W.failed writer.new)
+        ↔ (result.outcome ≡ Outcome.Failed None Fault.WriteFailed) }
+    ensures bytes { IsKeptRun (profile_of settings) (edition_of settings) command limit (R.to_come reader.old) (R.to_come reader.new)
+        (W.taken writer.old) (W.taken writer.new) result.outcome result.bytes.items }
+{
     let bytes = match read_whole(alloc, limit, reader) {
         Ok(bytes) => bytes,
-        Err(fault) => return Outcome::Failed { which: None, fault },
+        Err(fault) => return told_without(alloc, Outcome::Failed { which: None, fault }),
     };
     let text = match answer(alloc, settings, command, &bytes) {
         Ok(text) => text,
-        Err(fault) => return Outcome::Failed { which: None, fault },
+        Err(fault) => return told_with(fault, bytes),
     };
     match write_whole(writer, &text) {
-        Ok(()) => Outcome::Done,
-        Err(Failed) => Outcome::Failed {
-            which: None,
-            fault: Fault::WriteFailed,
+        Ok(()) => Told {
+            outcome: Outcome::Done,
+            bytes,
         },
+        Err(Failed) => told_with(Fault::WriteFailed, bytes),
+    }
+}
+
+fn told_with(fault: Fault, bytes: Vec<u8>) -> Told
+    ensures outcome { result.outcome ≡ Outcome.Failed None fault }
+    ensures bytes { result.bytes.items ≡ bytes.items }
+{
+    Told {
+        outcome: Outcome::Failed { which: None, fault },
+        bytes,
     }
 }
 

@@ -2,11 +2,14 @@
 ghost use Rattle.std.specs.Prelude.{◌≡◌, ◌+◌, ◌≤◌, ◌↔◌, None, Some, false, IsTrue};
 ghost use Rattle.ged_tool.specs.Profiles.{profile_of, edition_of};
 ghost use Rattle.ged_tool.specs.SameRun.{IsSameRun, same_line as line_of_same};
+ghost use Rattle.ged_tool.specs.Kept.{IsKeptSameRun};
+ghost use Rattle.ged_tool.specs.inner.Steps.{of_which};
 
-use crate::calls::same::same_as;
+use crate::calls::same::{SameFault, same_as};
 use crate::faults::{Fault, Outcome, Which};
 use crate::runs::devices::{Failed, Sink, Source};
 use crate::runs::one_file::{read_whole, write_whole};
+use crate::runs::told::{Told, told_without};
 use crate::settings::Settings;
 use ged_canon::Edition;
 use ged_schema::Profile;
@@ -73,24 +76,69 @@ pub fn run_same_as<R: Source, S: Source, W: Sink>(
     ensures bytes { IsSameRun (profile_of settings) (edition_of settings) limit (R.to_come first.old) (R.to_come first.new)
         (S.to_come second.old) (S.to_come second.new) (W.taken writer.old) (W.taken writer.new) result }
 {
+    let told = run_same_told(alloc, settings, limit, first, second, writer);
+    told.outcome
+}
+
+/// What [`run_same_as`] does, and the bytes of the file with the fault: they are kept where that file came whole, and none are
+/// where it did not, or where neither file has a fault. Where memory was wanting they may be kept or not. Nothing is copied
+/// for that, and no memory taken.
+pub fn run_same_told<R: Source, S: Source, W: Sink>(
+    alloc: Global,
+    settings: Settings,
+    limit: u64,
+    first: &mut R,
+    second: &mut S,
+    writer: &mut W,
+) -> Told
+    requires limit { limit ≤ 1073741824 }
+    requires unread { (R.reads first.old ≡ 0) × (S.reads second.old ≡ 0) }
+    requires no_failure { (R.failed first.old ≡ false) × (S.failed second.old ≡ false) × (W.failed writer.old ≡ false) }
+    ensures calls { (R.reads first.new ≤ limit + 1) × (S.reads second.new ≤ limit + 1) }
+    ensures first_failed { IsTrue (R.failed first.new)
+        ↔ (result.outcome ≡ Outcome.Failed (Some Which.First) Fault.ReadFailed) }
+    ensures second_failed { IsTrue (S.failed second.new)
+        ↔ (result.outcome ≡ Outcome.Failed (Some Which.Second) Fault.ReadFailed) }
+    ensures write_failed { IsTrue (W.failed writer.new)
+        ↔ (result.outcome ≡ Outcome.Failed None Fault.WriteFailed) }
+    ensures bytes { IsKeptSameRun (profile_of settings) (edition_of settings) limit (R.to_come first.old) (R.to_come first.new)
+        (S.to_come second.old) (S.to_come second.new) (W.taken writer.old) (W.taken writer.new) result.outcome result.bytes.items }
+{
     let first_bytes = match read_whole(alloc, limit, first) {
         Ok(bytes) => bytes,
-        Err(fault) => return failed_at(Which::First, fault),
+        Err(fault) => return told_without(alloc, failed_at(Which::First, fault)),
     };
     let second_bytes = match read_whole(alloc, limit, second) {
         Ok(bytes) => bytes,
-        Err(fault) => return failed_at(Which::Second, fault),
+        Err(fault) => return told_without(alloc, failed_at(Which::Second, fault)),
     };
     let same = match same_as(alloc, settings, &first_bytes, &second_bytes) {
         Ok(same) => same,
-        Err(at) => return failed_at(at.which, at.fault),
+        Err(at) => return told_of(at, first_bytes, second_bytes),
     };
     match write_whole(writer, same_line(same)) {
-        Ok(()) if same => Outcome::Done,
-        Ok(()) => Outcome::Different,
-        Err(Failed) => Outcome::Failed {
-            which: None,
-            fault: Fault::WriteFailed,
+        Ok(()) if same => told_without(alloc, Outcome::Done),
+        Ok(()) => told_without(alloc, Outcome::Different),
+        Err(Failed) => told_without(
+            alloc,
+            Outcome::Failed {
+                which: None,
+                fault: Fault::WriteFailed,
+            },
+        ),
+    }
+}
+
+/// A fault of one of two files, and the bytes of that one.
+fn told_of(at: SameFault, first: Vec<u8>, second: Vec<u8>) -> Told
+    ensures outcome { result.outcome ≡ Outcome.Failed (Some at.which) at.fault }
+    ensures bytes { result.bytes.items ≡ of_which at.which first.items second.items }
+{
+    Told {
+        outcome: failed_at(at.which, at.fault),
+        bytes: match at.which {
+            Which::First => first,
+            Which::Second => second,
         },
     }
 }

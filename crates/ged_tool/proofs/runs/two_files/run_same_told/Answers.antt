@@ -1,0 +1,20 @@
+use Rattle.std.proofs.Common.{◌∙◌}
+use Rattle.ged_tool.proofs.runs.Running.{first_stops, second_stops, judging_stops}
+use Rattle.ged_tool.proofs.runs.two_files.run_same_told.Goals as goal
+
+pub returns-in-Err-clause-bytes : goal.returns-in-Err-clause-bytes
+returns-in-Err-clause-bytes g c =
+    let (came, gave, stops) = c.in-Err.ensures.stopped in
+    first_stops _ _ _ _ _ _ _ came _ c.in-Err.fault _ gave stops c.told_without.ensures.bytes (c.told_without.ensures.outcome ∙ c.failed_at.ensures)
+
+pub returns-in-Err-read_whole-clause-bytes : goal.returns-in-Err-read_whole-clause-bytes
+returns-in-Err-read_whole-clause-bytes g c =
+    let (came, gave, stops) = c.in-Err-read_whole.ensures.stopped in
+    second_stops _ _ _ _ _ _ _ _ c.in-Ok.bytes.items came _ c.in-Err-read_whole.fault _ c.in-Ok.ensures.whole.0 c.in-Ok.ensures.whole.1 gave stops
+    c.told_without-in-Err-read_whole.ensures.bytes (c.told_without-in-Err-read_whole.ensures.outcome ∙ c.failed_at-in-Err-read_whole.ensures)
+
+pub returns-in-Err-same_as-clause-bytes : goal.returns-in-Err-same_as-clause-bytes
+returns-in-Err-same_as-clause-bytes g c =
+    judging_stops _ _ _ _ _ _ _ _ c.in-Ok.bytes.items c.in-Ok-read_whole.bytes.items c.deref.result.now c.deref-2.result.now _ c.in-Err-same_as.at.which c.in-Err-same_as.at.fault _
+    c.in-Ok.ensures.whole.0 c.in-Ok.ensures.whole.1 c.in-Ok-read_whole.ensures.whole.0 c.in-Ok-read_whole.ensures.whole.1 c.deref.ensures.value c.deref-2.ensures.value
+    c.in-Err-same_as.ensures.refused c.told_of.ensures.bytes c.told_of.ensures.outcome
