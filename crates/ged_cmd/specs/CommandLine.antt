@@ -14,29 +14,35 @@ strict_flag = flag (codes "strict")
 abbrev pub second_flag : Rule
 second_flag = flag (codes "second")
 
+abbrev pub explain_flag : Rule
+explain_flag = flag (codes "explain")
+
 -- a command over one file, which may be left out
 abbrev pub over_file : Text → App
 over_file name = with_rule (new_app name) (new_rule (codes "FILE"))
 
 abbrev pub lines : App
-lines = over_file (codes "lines")
+lines = with_rule (over_file (codes "lines")) explain_flag
 
 abbrev pub check : App
-check = with_rule (over_file (codes "check")) strict_flag
+check = with_rule (with_rule (over_file (codes "check")) strict_flag) explain_flag
 
 abbrev pub show : App
-show = with_rule (over_file (codes "show")) strict_flag
+show = with_rule (with_rule (over_file (codes "show")) strict_flag) explain_flag
 
 abbrev pub canon : App
-canon = with_rule (with_rule (over_file (codes "canon")) strict_flag) second_flag
+canon = with_rule (with_rule (with_rule (over_file (codes "canon")) strict_flag) second_flag) explain_flag
 
 -- the first of two files, which may not be left out
 abbrev pub first_file : Rule
 first_file = record (new_rule (codes "A")) { required = true }
 
 -- over two files, of which the second may be left out
+abbrev pub over_two_files : App
+over_two_files = with_rule (with_rule (new_app (codes "same")) first_file) (new_rule (codes "B"))
+
 abbrev pub same : App
-same = with_rule (with_rule (with_rule (with_rule (new_app (codes "same")) first_file) (new_rule (codes "B"))) strict_flag) second_flag
+same = with_rule (with_rule (with_rule over_two_files strict_flag) second_flag) explain_flag
 
 -- the program without its commands, of which it needs one; it has a version, and so a flag that asks for it
 abbrev pub bare_program : App

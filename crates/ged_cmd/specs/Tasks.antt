@@ -63,3 +63,7 @@ task_of_match (name, rows) = if bytes_eq name (codes "same") then same_asked row
 -- what the words ask for, the first of which is the program's name
 abbrev pub asked : List Text → Option Task
 asked words = option_and_then task_of_match (subcommand_of gedtool words)
+
+-- whether the words ask for explanations, which change nothing of what is done
+abbrev pub explains : List Text → Bool
+explains words = option_map_or (λ (match : Text × List Row). is_set (codes "explain") match.1) (subcommand_of gedtool words) false

@@ -9,7 +9,7 @@ ghost use Rattle.ged_cmd.specs.inner.Tasks.{task_of};
 use crate::shelf::Shelf;
 use crate::words::Request;
 use ged_tool::{
-    Command, Fault, Outcome, Output, Settings, Sink, Source, Which, run_as, run_same_as,
+    Command, Fault, Outcome, Output, Settings, Sink, Source, Told, Which, run_same_told, run_told,
 };
 use std::alloc::Global;
 use std::io::Write;
@@ -24,29 +24,32 @@ pub(crate) fn failed(fault: Fault) -> Outcome
     Outcome::Failed { which: None, fault }
 }
 
-/// The outcome where one of two files can't be opened.
-fn not_opened(which: Which) -> Outcome
-    ensures { result ≡ Outcome.Failed (Some which) Fault.ReadFailed }
+/// What is told where a file can't be opened.
+fn not_opened(alloc: Global, which: Option<Which>) -> Told
+    ensures { result.outcome ≡ Outcome.Failed which Fault.ReadFailed }
 {
-    Outcome::Failed {
-        which: Some(which),
-        fault: Fault::ReadFailed,
+    Told {
+        outcome: Outcome::Failed {
+            which,
+            fault: Fault::ReadFailed,
+        },
+        bytes: Vec::new(alloc),
     }
 }
 
-/// Does what a request asks for, and gives the outcome.
+/// Does what a request asks for, and gives the outcome with the bytes of the file of which it tells.
 pub(crate) fn answer_request<S: Shelf, R: Source, W: Write>(
     alloc: Global,
     shelf: &S,
     request: Request<'_>,
     input: &mut R,
     output: &mut Output<W>,
-) -> Outcome
+) -> Told
     requires unread { R.reads input.old ≡ 0 }
     requires no_failure { (R.failed input.old ≡ false) × (⟦<Output<W> as Sink>⟧.failed output.old ≡ false) }
     ensures { IsDone (S.opens shelf.now) (S.refuses shelf.now) S.Device.to_come S.Device.failed (task_of request.entry)
         (reader_of R.to_come R.failed input.old input.new)
-        (writer_of ⟦<Output<W> as Sink>⟧.taken ⟦<Output<W> as Sink>⟧.failed output.old output.new) result }
+        (writer_of ⟦<Output<W> as Sink>⟧.taken ⟦<Output<W> as Sink>⟧.failed output.old output.new) result.outcome }
 {
     match request {
         Request::Run {
@@ -75,19 +78,19 @@ fn answer_file<S: Shelf, R: Source, W: Write>(
     file: Option<&str>,
     input: &mut R,
     output: &mut Output<W>,
-) -> Outcome
+) -> Told
     requires unread { R.reads input.old ≡ 0 }
     requires no_failure { (R.failed input.old ≡ false) × (⟦<Output<W> as Sink>⟧.failed output.old ≡ false) }
     ensures { IsDone (S.opens shelf.now) (S.refuses shelf.now) S.Device.to_come S.Device.failed
         (run_task (profile_of settings) (edition_of settings) command (option_map (λ name. name.now) file.entry))
         (reader_of R.to_come R.failed input.old input.new)
-        (writer_of ⟦<Output<W> as Sink>⟧.taken ⟦<Output<W> as Sink>⟧.failed output.old output.new) result }
+        (writer_of ⟦<Output<W> as Sink>⟧.taken ⟦<Output<W> as Sink>⟧.failed output.old output.new) result.outcome }
 {
     match file {
         None => answer(alloc, settings, command, input, output),
         Some(name) => match shelf.open(name) {
             Ok(mut device) => answer(alloc, settings, command, &mut device, output),
-            Err(_) => failed(Fault::ReadFailed),
+            Err(_) => not_opened(alloc, None),
         },
     }
 }
@@ -102,23 +105,23 @@ fn compare_files<S: Shelf, R: Source, W: Write>(
     second: Option<&str>,
     input: &mut R,
     output: &mut Output<W>,
-) -> Outcome
+) -> Told
     requires unread { R.reads input.old ≡ 0 }
     requires no_failure { (R.failed input.old ≡ false) × (⟦<Output<W> as Sink>⟧.failed output.old ≡ false) }
     ensures { IsDone (S.opens shelf.now) (S.refuses shelf.now) S.Device.to_come S.Device.failed
         (same_task (profile_of settings) (edition_of settings) first.now (option_map (λ name. name.now) second.entry))
         (reader_of R.to_come R.failed input.old input.new)
-        (writer_of ⟦<Output<W> as Sink>⟧.taken ⟦<Output<W> as Sink>⟧.failed output.old output.new) result }
+        (writer_of ⟦<Output<W> as Sink>⟧.taken ⟦<Output<W> as Sink>⟧.failed output.old output.new) result.outcome }
 {
     let mut first = match shelf.open(first) {
         Ok(device) => device,
-        Err(_) => return not_opened(Which::First),
+        Err(_) => return not_opened(alloc, Some(Which::First)),
     };
     match second {
         None => compare(alloc, settings, &mut first, input, output),
         Some(name) => match shelf.open(name) {
             Ok(mut second) => compare(alloc, settings, &mut first, &mut second, output),
-            Err(_) => not_opened(Which::Second),
+            Err(_) => not_opened(alloc, Some(Which::Second)),
         },
     }
 }
@@ -132,17 +135,17 @@ fn compare_input<S: Shelf, R: Source, W: Write>(
     second: &str,
     input: &mut R,
     output: &mut Output<W>,
-) -> Outcome
+) -> Told
     requires unread { R.reads input.old ≡ 0 }
     requires no_failure { (R.failed input.old ≡ false) × (⟦<Output<W> as Sink>⟧.failed output.old ≡ false) }
     ensures { IsDone (S.opens shelf.now) (S.refuses shelf.now) S.Device.to_come S.Device.failed
         (input_same_task (profile_of settings) (edition_of settings) second.now)
         (reader_of R.to_come R.failed input.old input.new)
-        (writer_of ⟦<Output<W> as Sink>⟧.taken ⟦<Output<W> as Sink>⟧.failed output.old output.new) result }
+        (writer_of ⟦<Output<W> as Sink>⟧.taken ⟦<Output<W> as Sink>⟧.failed output.old output.new) result.outcome }
 {
     match shelf.open(second) {
         Ok(mut second) => compare(alloc, settings, input, &mut second, output),
-        Err(_) => not_opened(Which::Second),
+        Err(_) => not_opened(alloc, Some(Which::Second)),
     }
 }
 
@@ -153,15 +156,18 @@ fn answer<R: Source, W: Write>(
     command: Command,
     reader: &mut R,
     output: &mut Output<W>,
-) -> Outcome
+) -> Told
     requires unread { R.reads reader.old ≡ 0 }
     requires no_failure { (R.failed reader.old ≡ false) × (⟦<Output<W> as Sink>⟧.failed output.old ≡ false) }
     ensures { IsAnswered (profile_of settings) (edition_of settings) command
         (reader_of R.to_come R.failed reader.old reader.new)
-        (writer_of ⟦<Output<W> as Sink>⟧.taken ⟦<Output<W> as Sink>⟧.failed output.old output.new) result }
+        (writer_of ⟦<Output<W> as Sink>⟧.taken ⟦<Output<W> as Sink>⟧.failed output.old output.new) result.outcome }
 {
-    let answered = run_as(alloc, settings, LIMIT, command, reader, output);
-    flushed(answered, output)
+    let told = run_told(alloc, settings, LIMIT, command, reader, output);
+    Told {
+        outcome: flushed(told.outcome, output),
+        bytes: told.bytes,
+    }
 }
 
 /// Compares what two readers give, and flushes the answer.
@@ -171,16 +177,19 @@ fn compare<R: Source, S: Source, W: Write>(
     first: &mut R,
     second: &mut S,
     output: &mut Output<W>,
-) -> Outcome
+) -> Told
     requires unread { (R.reads first.old ≡ 0) × (S.reads second.old ≡ 0) }
     requires no_failure { (R.failed first.old ≡ false) × (S.failed second.old ≡ false)
         × (⟦<Output<W> as Sink>⟧.failed output.old ≡ false) }
     ensures { IsCompared (profile_of settings) (edition_of settings)
         (reader_of R.to_come R.failed first.old first.new) (reader_of S.to_come S.failed second.old second.new)
-        (writer_of ⟦<Output<W> as Sink>⟧.taken ⟦<Output<W> as Sink>⟧.failed output.old output.new) result }
+        (writer_of ⟦<Output<W> as Sink>⟧.taken ⟦<Output<W> as Sink>⟧.failed output.old output.new) result.outcome }
 {
-    let compared = run_same_as(alloc, settings, LIMIT, first, second, output);
-    flushed(compared, output)
+    let told = run_same_told(alloc, settings, LIMIT, first, second, output);
+    Told {
+        outcome: flushed(told.outcome, output),
+        bytes: told.bytes,
+    }
 }
 
 /// The outcome once the answer is flushed: WriteFailed where it can't be. An outcome without an

@@ -4,22 +4,25 @@
 
 ghost use Rattle.std.specs.Prelude.{◌≡◌, ◌≤◌, false, IfOk, IsErr, map, string_bytes};
 ghost use Rattle.std.specs.Io.KnownBytes.{Keeps};
+ghost use Rattle.ged_cmd.specs.Tasks.{explains};
 ghost use Rattle.ged_cmd.specs.Program.{IsUnread, Performs, reader as reader_of, writer as writer_of};
 
 mod commands;
+mod explanations;
 mod shelf;
 mod tells;
 mod words;
 
 use commands::answer_request;
+use explanations::finish_told;
 use ged_tool::{Input, Output, Sink, Source};
 use shelf::{Disk, Shelf};
 use std::alloc::Global;
 use std::io::Write;
 use std::process::ExitCode;
 use std::{env, io};
-use tells::{finish, refuse, refuse_two_inputs, refuse_unread};
-use words::read_words;
+use tells::{refuse, refuse_two_inputs, refuse_unread};
+use words::{Asked, read_words};
 
 /// The streams of a program.
 #[derive(Drop)]
@@ -65,7 +68,7 @@ fn perform<S: Shelf, R: Source, W: Write, E: Write>(
     ensures range { result ≤ 3 }
     ensures unread { IsErr words → (result ≡ 2)
         × IsUnread (reader_of R.to_come R.failed streams.old.input streams.new.input) }
-    ensures quiet { result ≡ 0 → Keeps (E.contents streams.old.errors) (E.contents streams.new.errors) }
+    ensures quiet { result ≡ 0 → IfOk words (λ words. explains (map string_bytes words.items) ≡ false) → Keeps (E.contents streams.old.errors) (E.contents streams.new.errors) }
     ensures usage { result ≡ 2 → Keeps (⟦<Output<W> as Sink>⟧.taken streams.old.output)
         (⟦<Output<W> as Sink>⟧.taken streams.new.output) }
 {
@@ -74,12 +77,15 @@ fn perform<S: Shelf, R: Source, W: Write, E: Write>(
         Err(error) => return refuse_unread(&error, &mut streams.errors),
     };
     match read_words(alloc, words.as_slice()) {
-        Ok(Some(request)) => {
+        Ok(Asked {
+            request: Some(request),
+            explains,
+        }) => {
             let (input, output) = (&mut streams.input, &mut streams.output);
-            let outcome = answer_request(alloc, shelf, request, input, output);
-            finish(&outcome, &mut streams.errors)
+            let told = answer_request(alloc, shelf, request, input, output);
+            finish_told(alloc, request, explains, &told, &mut streams.errors)
         }
-        Ok(None) => refuse_two_inputs(&mut streams.errors),
+        Ok(_) => refuse_two_inputs(&mut streams.errors),
         Err(error) => refuse(&error, &mut streams.output, &mut streams.errors),
     }
 }

@@ -1,11 +1,12 @@
 // What the words of the command line ask for.
-ghost use Rattle.std.specs.Prelude.{◌≡◌, [], IfOk, IfErr, map, option_and_then, option_map, string_bytes, if◌then◌else◌};
-ghost use Rattle.clap.specs.Words.{rows_of, found_of, subcommand_rows_of, fault_of, new_app, new_rule};
+ghost use Rattle.std.specs.Prelude.{◌≡◌, [], IfOk, IfErr, map, false, codes, List, option_and_then, option_map, string_bytes, if◌then◌else◌};
+ghost use Rattle.std.specs.Option.{option_map_or};
+ghost use Rattle.clap.specs.Words.{Row, Text, rows_of, found_of, subcommand_rows_of, fault_of, new_app, new_rule};
 ghost use Rattle.clap.specs.Kinds.{HasKind};
 ghost use Rattle.ged_cmd.specs.CommandLine as line;
 ghost use Rattle.ged_cmd.specs.inner.CommandLine.{IsArg, IsCommand};
 ghost use Rattle.ged_tool.specs.Profiles.{profile_of, edition_of};
-ghost use Rattle.ged_cmd.specs.Tasks.{asked, command_of, comparison as comparison_of, edition_asked, file_named as file_of, is_set};
+ghost use Rattle.ged_cmd.specs.Tasks.{asked, command_of, comparison as comparison_of, edition_asked, explains, file_named as file_of, is_set};
 ghost use Rattle.ged_cmd.specs.Tasks.{profile_asked, run_asked, same_asked, task_of_match};
 ghost use Rattle.ged_cmd.specs.inner.Tasks.{task_of};
 
@@ -24,6 +25,18 @@ const STRICT: &str = "strict";
 
 /// The flag for the second edition of the canonical form.
 const SECOND: &str = "second";
+
+/// The flag under which faults and notices are explained.
+const EXPLAIN: &str = "explain";
+
+/// What the words say.
+#[derive(Clone, Copy)]
+pub(crate) struct Asked<'a> {
+    /// What the program is asked for; `None` where that is a mistake that clap doesn't know.
+    pub(crate) request: Option<Request<'a>>,
+    /// Whether faults and notices are explained.
+    pub(crate) explains: bool,
+}
 
 /// What the program is asked for.
 #[derive(Clone, Copy)]
@@ -48,19 +61,31 @@ pub(crate) enum Request<'a> {
 }
 
 /// Reads the words, of which the first is the program's name. The error is clap's: a mistake in
-/// the words, a request for help or the version, or want of memory. `None` is a mistake that clap
-/// doesn't know: `same` where both files would be standard input. Words without a mistake have a
-/// subcommand, since clap requires one, so that it is met for nothing else.
-pub(crate) fn read_words<'a>(
-    alloc: Global,
-    words: &'a [String],
-) -> Result<Option<Request<'a>>, Error>
+/// the words, a request for help or the version, or want of memory. No request is a mistake that
+/// clap doesn't know: `same` where both files would be standard input. Words without a mistake have
+/// a subcommand, since clap requires one, so that there is a request for all others.
+pub(crate) fn read_words<'a>(alloc: Global, words: &'a [String]) -> Result<Asked<'a>, Error>
     ensures no_mistake { IfOk result (λ _. fault_of line.gedtool (map string_bytes words.entry.now) ≡ []) }
-    ensures asked { IfOk result (λ request. option_map task_of request ≡ asked (map string_bytes words.entry.now)) }
+    ensures asked { IfOk result (λ said. option_map task_of said.request ≡ asked (map string_bytes words.entry.now)) }
+    ensures explained { IfOk result (λ said. said.explains ≡ explains (map string_bytes words.entry.now)) }
     ensures refused { IfErr result (HasKind (fault_of line.gedtool (map string_bytes words.entry.now))) }
 {
     let matches = command_line(alloc)?.try_get_matches_from(words)?;
-    Ok(request_of(&matches))
+    Ok(Asked {
+        request: request_of(&matches),
+        explains: is_explained(&matches),
+    })
+}
+
+/// Whether the subcommand is asked for explanations.
+fn is_explained(matches: &ArgMatches<'_>) -> bool
+    ensures { result ≡ option_map_or (λ (found : Text × List Row). is_set (codes "explain") found.1)
+        (subcommand_rows_of matches.now) false }
+{
+    match matches.subcommand() {
+        Some((_, inner)) => is_flagged(inner, EXPLAIN),
+        None => false,
+    }
 }
 
 /// What the matches of the words ask for.
@@ -198,25 +223,26 @@ fn named_command<'a>(alloc: Global, name: &'a str, about: &'a str) -> clap::Comm
 fn lines_command<'a>(alloc: Global) -> Result<clap::Command<'a>, AllocError>
     ensures { IfOk result (IsCommand line.lines) }
 {
-    file_command(
-        alloc,
-        "lines",
-        "Writes the lines of a file in their canonical spelling",
-    )
+    let about = "Writes the lines of a file in their canonical spelling";
+    file_command(alloc, "lines", about)?.arg(explain_flag(alloc))
 }
 
 fn check_command<'a>(alloc: Global) -> Result<clap::Command<'a>, AllocError>
     ensures { IfOk result (IsCommand line.check) }
 {
     let about = "Tells the notices of a file, and that it is accepted";
-    file_command(alloc, "check", about)?.arg(strict_flag(alloc))
+    file_command(alloc, "check", about)?
+        .arg(strict_flag(alloc))?
+        .arg(explain_flag(alloc))
 }
 
 fn show_command<'a>(alloc: Global) -> Result<clap::Command<'a>, AllocError>
     ensures { IfOk result (IsCommand line.show) }
 {
     let about = "Writes the level, tag and kind of each structure of a file";
-    file_command(alloc, "show", about)?.arg(strict_flag(alloc))
+    file_command(alloc, "show", about)?
+        .arg(strict_flag(alloc))?
+        .arg(explain_flag(alloc))
 }
 
 fn canon_command<'a>(alloc: Global) -> Result<clap::Command<'a>, AllocError>
@@ -224,7 +250,8 @@ fn canon_command<'a>(alloc: Global) -> Result<clap::Command<'a>, AllocError>
 {
     file_command(alloc, "canon", "Writes a file in its canonical form")?
         .arg(strict_flag(alloc))?
-        .arg(second_flag(alloc))
+        .arg(second_flag(alloc))?
+        .arg(explain_flag(alloc))
 }
 
 /// The flag under which files are judged by the strict profile.
@@ -245,6 +272,16 @@ fn second_flag<'a>(alloc: Global) -> Arg<'a>
         .long(SECOND)
         .action(ArgAction::SetTrue)
         .help("Leaves out the leading zeros of dates, ages and counts")
+}
+
+/// The flag under which faults and notices are explained.
+fn explain_flag<'a>(alloc: Global) -> Arg<'a>
+    ensures { IsArg line.explain_flag result }
+{
+    Arg::new(alloc, EXPLAIN)
+        .long(EXPLAIN)
+        .action(ArgAction::SetTrue)
+        .help("Explains faults and notices on standard error")
 }
 
 /// A subcommand over one file.
@@ -279,14 +316,19 @@ fn first_argument<'a>(alloc: Global) -> Arg<'a>
 fn same_command<'a>(alloc: Global) -> Result<clap::Command<'a>, AllocError>
     ensures { IfOk result (IsCommand line.same) }
 {
+    two_files_command(alloc)?
+        .arg(strict_flag(alloc))?
+        .arg(second_flag(alloc))?
+        .arg(explain_flag(alloc))
+}
+
+/// The subcommand over two files, without its flags.
+fn two_files_command<'a>(alloc: Global) -> Result<clap::Command<'a>, AllocError>
+    ensures { IfOk result (IsCommand line.over_two_files) }
+{
+    let about = "Tells whether two files have one canonical form";
     let help = "The second file to read; standard input where it is left out or '-'";
-    named_command(
-        alloc,
-        "same",
-        "Tells whether two files have one canonical form",
-    )
-    .arg(first_argument(alloc))?
-    .arg(file_argument(alloc, "B", help))?
-    .arg(strict_flag(alloc))?
-    .arg(second_flag(alloc))
+    named_command(alloc, "same", about)
+        .arg(first_argument(alloc))?
+        .arg(file_argument(alloc, "B", help))
 }

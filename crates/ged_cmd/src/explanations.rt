@@ -1,0 +1,116 @@
+// Faults and notices in words, behind the line of a fault and the answer of check.
+ghost use Rattle.std.specs.Prelude.{◌≡◌, false};
+ghost use Rattle.std.specs.Io.KnownBytes.{Keeps};
+ghost use Rattle.ged_tool.specs.Faults.{status_of};
+
+use crate::tells::finish;
+use crate::words::Request;
+use ged_explain::{explain_fault, explain_notice};
+use ged_tool::{Command, Fault, Outcome, Settings, Told, Which, accept_as, notices};
+use std::alloc::{AllocError, Global};
+use std::io::Write;
+
+/// The most notices that are explained: each of them takes time by the length of the file.
+const MOST: usize = 100;
+
+/// Tells the outcome's fault, if it has one, and explains it, or the notices of `check`, where that is asked for; gives the
+/// outcome's status. An explanation for which no memory is found, or that can't be written, is left out.
+pub(crate) fn finish_told<E: Write>(
+    alloc: Global,
+    request: Request<'_>,
+    explains: bool,
+    told: &Told,
+    errors: &mut E,
+) -> u8
+    ensures status { result ≡ status_of told.now.outcome }
+    ensures quiet { result ≡ 0 → explains ≡ false → Keeps (E.contents errors.old) (E.contents errors.new) }
+{
+    let status = finish(&told.outcome, errors);
+    if explains {
+        explain(alloc, request, told, errors);
+    }
+    status
+}
+
+fn explain<E: Write>(alloc: Global, request: Request<'_>, told: &Told, errors: &mut E) {
+    match told.outcome {
+        Outcome::Failed { which, fault } => {
+            let name = name_of(request, which, fault);
+            write_text(explain_fault(alloc, &told.bytes, &fault, name), errors);
+        }
+        Outcome::Done => explain_done(alloc, request, &told.bytes, errors),
+        Outcome::Different => {}
+    }
+}
+
+/// The name of the file of which a fault is told, or of the stream.
+fn name_of<'a>(request: Request<'a>, which: Option<Which>, fault: Fault) -> &'a str {
+    if fault == Fault::WriteFailed {
+        return "standard output";
+    }
+    file_of(request, which).unwrap_or("standard input")
+}
+
+/// The name of the file with the fault, which is the first of two if none is named.
+fn file_of<'a>(request: Request<'a>, which: Option<Which>) -> Option<&'a str> {
+    match request {
+        Request::Run {
+            command: _,
+            settings: _,
+            file,
+        } => file,
+        Request::Same {
+            settings: _,
+            first,
+            second,
+        } => match which {
+            Some(Which::Second) => second,
+            _ => Some(first),
+        },
+        Request::SameInput {
+            settings: _,
+            second,
+        } => match which {
+            Some(Which::Second) => Some(second),
+            _ => None,
+        },
+    }
+}
+
+/// Explains the notices of a file that `check` has accepted.
+fn explain_done<E: Write>(alloc: Global, request: Request<'_>, bytes: &[u8], errors: &mut E) {
+    if let Request::Run {
+        command: Command::Check,
+        settings,
+        file,
+    } = request
+    {
+        let name = file.unwrap_or("standard input");
+        explain_notices(alloc, settings, bytes, name, errors);
+    }
+}
+
+fn explain_notices<E: Write>(
+    alloc: Global,
+    settings: Settings,
+    bytes: &[u8],
+    name: &str,
+    errors: &mut E,
+) {
+    let Ok(accepted) = accept_as(alloc, settings, bytes) else {
+        return;
+    };
+    let Ok(found) = notices(alloc, &accepted) else {
+        return;
+    };
+    for notice in found.as_slice().iter().take(MOST) {
+        write_text(explain_notice(alloc, bytes, notice, name), errors);
+    }
+}
+
+/// Writes a text, if there is one. One that can't be written changes no status.
+fn write_text<E: Write>(text: Result<String, AllocError>, errors: &mut E) {
+    if let Ok(text) = text {
+        let _ = errors.write_all(text.as_bytes());
+    }
+}
