@@ -36,5 +36,6 @@ complete -c gedtool -n __gedtool_takes_command -a help -d 'Print this message or
 
 complete -c gedtool -n '__gedtool_command check show canon same' -l strict -d 'Refuses a file that has a notice'
 complete -c gedtool -n '__gedtool_command canon same' -l second -d 'Leaves out the leading zeros of dates, ages and counts'
+complete -c gedtool -n '__gedtool_command lines check show canon same' -l explain -d 'Explains faults and notices on standard error'
 complete -c gedtool -n 'not __gedtool_command help' -s h -l help -d 'Print help'
 complete -c gedtool -n __gedtool_begins -s V -l version -d 'Print version'
