@@ -48,7 +48,11 @@ same = with_rule (with_rule (with_rule over_two_files strict_flag) second_flag) 
 abbrev pub bare_program : App
 bare_program = on_top (λ top. record top { subcommand_required = true; has_version = true }) (new_app (codes "gedtool"))
 
--- one of these five commands
+-- about a fault, or about all where none is named
+abbrev pub explain : App
+explain = with_rule (new_app (codes "explain")) (new_rule (codes "FAULT"))
+
+-- one of these six commands
 abbrev pub gedtool : App
-gedtool = with_subcommand (with_subcommand (with_subcommand (with_subcommand (with_subcommand bare_program
-    lines.top) check.top) show.top) canon.top) same.top
+gedtool = with_subcommand (with_subcommand (with_subcommand (with_subcommand (with_subcommand (with_subcommand bare_program
+    lines.top) check.top) show.top) canon.top) same.top) explain.top

@@ -14,9 +14,9 @@ use Rattle.ged_tool.specs.declared.faults.Which.{Which}
 use Rattle.ged_tool.specs.declared.faults.Which.TheVariants.{First, Second}
 use Rattle.ged_tool.specs.declared.faults.Fault.TheVariants.{ReadFailed, WriteFailed}
 use Rattle.ged_tool.specs.declared.faults.Outcome.{Outcome}
-use Rattle.ged_tool.specs.declared.faults.Outcome.TheVariants.{Failed}
+use Rattle.ged_tool.specs.declared.faults.Outcome.TheVariants.{Done, Failed}
 use Rattle.ged_cmd.specs.CommandLine.{gedtool}
-use Rattle.ged_cmd.specs.Tasks.{Task, asked, input_same, run, same}
+use Rattle.ged_cmd.specs.Tasks.{Task, asked, explain, input_same, run, same}
 
 -- the most bytes that a file may have
 abbrev pub limit : ℕ
@@ -63,6 +63,10 @@ pub record IsCompared (profile : Profile) (edition : Edition) (first second : Re
   pub second_failed : IsTrue second.failed ↔ (outcome ≡ Failed (Some Second) ReadFailed)
   pub write_failed : IsTrue writer.failed ↔ (outcome ≡ Failed None WriteFailed)
 
+-- meanings of faults are told, and nothing is read
+abbrev pub IsExplained : Reader → Writer → Outcome → Type 0
+IsExplained input writer outcome = IsUnread input × (outcome ≡ (if writer.failed then Failed None WriteFailed else Done))
+
 module _ {D : Type 0} where
   -- A file that was opened, and what was then done with it. `opens` says which devices the name of a file opens.
   abbrev pub SomeFile : (opens : D → Type 0) → (to_come : D → Option (List ℕ)) → (failed : D → Bool) → (Reader → Type 0) → Type 0
@@ -93,6 +97,7 @@ module _ {D : Type 0} where
   IsDone opens refuses to_come failed (input_same profile edition second) input writer outcome =
       (IsUnread input × IsNotOpened (refuses second) (Some Second) writer outcome)
       ⊎ SomeFile (opens second) to_come failed (λ file. IsCompared profile edition input file writer outcome)
+  IsDone opens refuses to_come failed (explain named) input writer outcome = IsExplained input writer outcome
 
 -- The status for words that clap refuses: 3 for want of memory, and for help or the version that can't be written, which
 -- else is 0; 2 for a mistake.
@@ -122,7 +127,8 @@ module _ {D : Type 0} where
     pub told : status ≡ status_of outcome
 
   -- What the program does for the words of its command line. Words without a fault that ask for nothing are a mistake:
-  -- those under which both files of `same` would be standard input.
+  -- those under which both files of `same` would be standard input, and a word
+  -- of `explain` that is of no fault.
   abbrev pub Performs : (opens : Text → D → Type 0) → (refuses : Text → Type 0) → (to_come : D → Option (List ℕ)) → (failed : D → Bool)
       → (words : List Text) → (input : Reader) → Writer → (status : ℕ) → Type 0
   Performs opens refuses to_come failed words input writer status =

@@ -1,5 +1,5 @@
 -- What the words of the command line ask for.
-use Rattle.std.specs.Prelude.{Bool, false, Option, Some, None, List, codes, if◌then◌else◌, option_and_then, option_map}
+use Rattle.std.specs.Prelude.{Bool, false, Option, Some, None, List, [], ◌∷◌, codes, decimal, if◌then◌else◌, option_and_then, option_map}
 use Rattle.std.specs.Option.{option_map_or}
 use Rattle.std.specs.Str.{bytes_eq}
 use Rattle.clap.specs.Words.{Row, Text, first_of, one_of, subcommand_of}
@@ -9,14 +9,16 @@ use Rattle.ged_tool.specs.declared.Edition.{Edition}
 use Rattle.ged_tool.specs.declared.Edition.TheVariants as edition
 use Rattle.ged_tool.specs.declared.runs.answer.Command.{Command}
 use Rattle.ged_tool.specs.declared.runs.answer.Command.TheVariants.{Lines, Check, Show, Canon}
+use Rattle.ged_explain.specs.Names.{Named, named_faults}
 use Rattle.ged_cmd.specs.CommandLine.{gedtool}
 
 -- a command over one file, or over standard input where none is named; or the comparison of a file with another, or with
--- standard input; or of standard input with a file
+-- standard input; or of standard input with a file; or what a fault means, or what all mean
 pub data Task : Type 0 where
   run : Profile → Edition → Command → Option Text → Task
   same : Profile → Edition → Text → Option Text → Task
   input_same : Profile → Edition → Text → Task
+  explain : Option Named → Task
 
 -- the flag is set
 abbrev pub is_set : Text → List Row → Bool
@@ -56,9 +58,26 @@ abbrev pub same_asked : List Row → Option Task
 same_asked rows =
     comparison (profile_asked rows) (edition_asked rows) (file_named (first_of (codes "A") rows)) (file_named (first_of (codes "B") rows))
 
+-- the first of some faults that a word is the name or the number of
+abbrev pub called : Text → List Named → Option Named
+called word [] = None
+called word (named ∷ others) =
+    if bytes_eq named.name word then Some named else
+    if bytes_eq (decimal named.number) word then Some named else called word others
+
+-- what is explained for a word; nothing where it is of no fault
+abbrev pub explanation : Option Text → Option Task
+explanation None = Some (explain None)
+explanation (Some word) = option_map (λ named. explain (Some named)) (called word named_faults)
+
+abbrev pub explain_asked : List Row → Option Task
+explain_asked rows = explanation (first_of (codes "FAULT") rows)
+
 -- what a subcommand asks for, by its name and what was found for its flags and files
 abbrev pub task_of_match : Text × List Row → Option Task
-task_of_match (name, rows) = if bytes_eq name (codes "same") then same_asked rows else run_asked name rows
+task_of_match (name, rows) =
+    if bytes_eq name (codes "same") then same_asked rows else
+    if bytes_eq name (codes "explain") then explain_asked rows else run_asked name rows
 
 -- what the words ask for, the first of which is the program's name
 abbrev pub asked : List Text → Option Task

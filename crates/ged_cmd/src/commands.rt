@@ -6,6 +6,7 @@ ghost use Rattle.ged_cmd.specs.Program.{IsAnswered, IsCompared, IsDone, reader a
 ghost use Rattle.ged_cmd.specs.Tasks.{input_same as input_same_task, run as run_task, same as same_task};
 ghost use Rattle.ged_cmd.specs.inner.Tasks.{task_of};
 
+use crate::meanings::tell_meanings;
 use crate::shelf::Shelf;
 use crate::words::Request;
 use ged_tool::{
@@ -65,6 +66,10 @@ pub(crate) fn answer_request<S: Shelf, R: Source, W: Write>(
         Request::SameInput { settings, second } => {
             compare_input(alloc, shelf, settings, second, input, output)
         }
+        Request::Explain { meaning } => Told {
+            outcome: tell_meanings(meaning, output),
+            bytes: Vec::new(alloc),
+        },
     }
 }
 

@@ -74,6 +74,7 @@ fn file_of<'a>(request: Request<'a>, which: Option<Which>) -> Option<&'a str> {
             Some(Which::Second) => Some(second),
             _ => None,
         },
+        Request::Explain { meaning: _ } => None,
     }
 }
 

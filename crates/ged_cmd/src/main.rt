@@ -9,6 +9,7 @@ ghost use Rattle.ged_cmd.specs.Program.{IsUnread, Performs, reader as reader_of,
 
 mod commands;
 mod explanations;
+mod meanings;
 mod shelf;
 mod tells;
 mod words;
@@ -21,7 +22,7 @@ use std::alloc::Global;
 use std::io::Write;
 use std::process::ExitCode;
 use std::{env, io};
-use tells::{refuse, refuse_two_inputs, refuse_unread};
+use tells::{refuse, refuse_words, refuse_unread};
 use words::{Asked, read_words};
 
 /// The streams of a program.
@@ -80,12 +81,17 @@ fn perform<S: Shelf, R: Source, W: Write, E: Write>(
         Ok(Asked {
             request: Some(request),
             explains,
+            mistake: _,
         }) => {
             let (input, output) = (&mut streams.input, &mut streams.output);
             let told = answer_request(alloc, shelf, request, input, output);
             finish_told(alloc, request, explains, &told, &mut streams.errors)
         }
-        Ok(_) => refuse_two_inputs(&mut streams.errors),
+        Ok(Asked {
+            request: None,
+            explains: _,
+            mistake,
+        }) => refuse_words(mistake, &mut streams.errors),
         Err(error) => refuse(&error, &mut streams.output, &mut streams.errors),
     }
 }

@@ -7,6 +7,7 @@ ghost use Rattle.ged_tool.specs.Faults.{status_of};
 ghost use Rattle.ged_cmd.specs.Program.{IsUnwritten, refusal_status, writer as writer_of};
 
 use crate::commands::failed;
+use crate::words::Mistake;
 use clap::Error;
 use clap::error::ErrorKind;
 use ged_tool::{Failed, Fault, Outcome, Output, Sink, Which};
@@ -22,6 +23,14 @@ const USAGE_STATUS: u8 = 2;
 const TWO_INPUTS: &str = "error: only one of <A> and [B] can be standard input
 
 Usage: gedtool same [OPTIONS] <A> [B]
+
+For more information, try '--help'.
+";
+
+/// What is told where the word of `explain` is of no fault, in clap's form.
+const NO_FAULT: &str = "error: no fault has the number or the name that is given for '[FAULT]'
+
+Usage: gedtool explain [FAULT]
 
 For more information, try '--help'.
 ";
@@ -107,26 +116,33 @@ fn tell_help<W: Write, E: Write>(error: &Error, output: &mut Output<W>, errors: 
     ensures status { result ≡ (if ⟦<Output<W> as Sink>⟧.failed output.new then 3 else 0) }
     ensures quiet { result ≡ 0 → Keeps (E.contents errors.old) (E.contents errors.new) }
 {
-    match print_help(error, output) {
+    match print_all(error, output) {
         Ok(()) => 0,
         Err(_) => finish(&failed(Fault::WriteFailed), errors),
     }
 }
 
-/// Prints help or the version, and flushes it.
-fn print_help<W: Write>(error: &Error, output: &mut Output<W>) -> Result<(), Failed>
+/// Prints a text, and flushes it.
+pub(crate) fn print_all<D: Display + Drop, W: Write>(
+    text: D,
+    output: &mut Output<W>,
+) -> Result<(), Failed>
     requires { ⟦<Output<W> as Sink>⟧.failed output.old ≡ false }
     ensures { ⟦<Output<W> as Sink>⟧.failed output.new ≡ failed_after false result }
 {
-    output.print(error)?;
+    output.print(text)?;
     output.flush()
 }
 
-/// Tells that standard input can't be both files, which is a mistake that clap doesn't know.
-pub(crate) fn refuse_two_inputs<E: Write>(errors: &mut E) -> u8
+/// Tells a mistake that clap doesn't know.
+pub(crate) fn refuse_words<E: Write>(mistake: Mistake, errors: &mut E) -> u8
     ensures { result ≡ 2 }
 {
-    tell_mistake(&TWO_INPUTS, errors)
+    let text = match mistake {
+        Mistake::TwoInputs => TWO_INPUTS,
+        Mistake::NoFault => NO_FAULT,
+    };
+    tell_mistake(&text, errors)
 }
 
 /// Tells why the words of the command line can't be had.

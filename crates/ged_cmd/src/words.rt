@@ -1,17 +1,21 @@
 // What the words of the command line ask for.
 ghost use Rattle.std.specs.Prelude.{◌≡◌, [], IfOk, IfErr, map, false, codes, List, option_and_then, option_map, string_bytes, if◌then◌else◌};
-ghost use Rattle.std.specs.Option.{option_map_or};
+ghost use Rattle.std.specs.Option.{option_copied, option_map_or};
+ghost use Rattle.ged_explain.specs.Names.{as_named};
 ghost use Rattle.clap.specs.Words.{Row, Text, rows_of, found_of, subcommand_rows_of, fault_of, new_app, new_rule};
 ghost use Rattle.clap.specs.Kinds.{HasKind};
 ghost use Rattle.ged_cmd.specs.CommandLine as line;
 ghost use Rattle.ged_cmd.specs.inner.CommandLine.{IsArg, IsCommand};
 ghost use Rattle.ged_tool.specs.Profiles.{profile_of, edition_of};
+ghost use Rattle.ged_cmd.specs.Tasks.{called, explain_asked, explanation as explanation_of};
 ghost use Rattle.ged_cmd.specs.Tasks.{asked, command_of, comparison as comparison_of, edition_asked, explains, file_named as file_of, is_set};
 ghost use Rattle.ged_cmd.specs.Tasks.{profile_asked, run_asked, same_asked, task_of_match};
 ghost use Rattle.ged_cmd.specs.inner.Tasks.{task_of};
 
 use clap::{Arg, ArgAction, ArgMatches, Error};
+use ged_explain::{Meaning, meanings};
 use ged_tool::{Command, Edition, Profile, Settings};
+use itoa::Buffer;
 use std::alloc::{AllocError, Global};
 
 /// The name that help and usage give the program, whatever file it lies in.
@@ -36,6 +40,17 @@ pub(crate) struct Asked<'a> {
     pub(crate) request: Option<Request<'a>>,
     /// Whether faults and notices are explained.
     pub(crate) explains: bool,
+    /// What is wrong with the words where there is no request.
+    pub(crate) mistake: Mistake,
+}
+
+/// What is wrong with words that clap takes.
+#[derive(Clone, Copy)]
+pub(crate) enum Mistake {
+    /// Both files of `same` would be standard input.
+    TwoInputs,
+    /// The word of `explain` is of no fault.
+    NoFault,
 }
 
 /// What the program is asked for.
@@ -58,12 +73,14 @@ pub(crate) enum Request<'a> {
         settings: Settings,
         second: &'a str,
     },
+    /// What a fault means, or what all mean where none is named.
+    Explain { meaning: Option<&'static Meaning> },
 }
 
 /// Reads the words, of which the first is the program's name. The error is clap's: a mistake in
 /// the words, a request for help or the version, or want of memory. No request is a mistake that
-/// clap doesn't know: `same` where both files would be standard input. Words without a mistake have
-/// a subcommand, since clap requires one, so that there is a request for all others.
+/// clap doesn't know: `same` where both files would be standard input, or `explain` where the word
+/// is of no fault. Words without a mistake have a subcommand, since clap requires one, so that there is a request for all others.
 pub(crate) fn read_words<'a>(alloc: Global, words: &'a [String]) -> Result<Asked<'a>, Error>
     ensures no_mistake { IfOk result (λ _. fault_of line.gedtool (map string_bytes words.entry.now) ≡ []) }
     ensures asked { IfOk result (λ said. option_map task_of said.request ≡ asked (map string_bytes words.entry.now)) }
@@ -74,7 +91,16 @@ pub(crate) fn read_words<'a>(alloc: Global, words: &'a [String]) -> Result<Asked
     Ok(Asked {
         request: request_of(&matches),
         explains: is_explained(&matches),
+        mistake: mistake_of(&matches),
     })
+}
+
+/// What is wrong with words that ask for nothing.
+fn mistake_of(matches: &ArgMatches<'_>) -> Mistake {
+    match matches.subcommand() {
+        Some((name, _)) if name == "explain" => Mistake::NoFault,
+        _ => Mistake::TwoInputs,
+    }
 }
 
 /// Whether the subcommand is asked for explanations.
@@ -95,6 +121,9 @@ fn request_of<'a>(matches: &ArgMatches<'a>) -> Option<Request<'a>>
     let (name, inner) = matches.subcommand()?;
     if name == "same" {
         return same_request(inner);
+    }
+    if name == "explain" {
+        return explain_request(inner);
     }
     run_request(name, inner)
 }
@@ -128,6 +157,41 @@ fn comparison<'a>(
             second: second?,
         }),
     }
+}
+
+/// What `explain` asks for, or `None` where its word is of no fault.
+fn explain_request<'a>(matches: &ArgMatches<'a>) -> Option<Request<'a>>
+    ensures { option_map task_of result ≡ explain_asked (rows_of (found_of matches.now)) }
+{
+    explanation(matches.get_str("FAULT"))
+}
+
+/// The request to explain what a word is of, or `None` where it is of no fault.
+fn explanation<'a>(word: Option<&str>) -> Option<Request<'a>>
+    ensures { option_map task_of result ≡ explanation_of (option_map (λ word. word.now) word.entry) }
+{
+    match word {
+        None => Some(Request::Explain { meaning: None }),
+        Some(word) => Some(Request::Explain {
+            meaning: Some(meaning_called(meanings(), word)?),
+        }),
+    }
+}
+
+/// What the fault means whose name or number is a word.
+fn meaning_called(among: &'static [Meaning], word: &str) -> Option<&'static Meaning>
+    ensures { option_map as_named (option_copied result) ≡ called word.now (map as_named among.now) }
+{
+    for meaning in among {
+        if meaning.name == word {
+            return Some(meaning);
+        }
+        let mut buffer = Buffer::new();
+        if buffer.format(meaning.number) == word {
+            return Some(meaning);
+        }
+    }
+    None
 }
 
 /// What any other subcommand asks for.
@@ -200,7 +264,8 @@ fn command_line<'a>(alloc: Global) -> Result<clap::Command<'a>, AllocError>
         .subcommand(check_command(alloc)?)?
         .subcommand(show_command(alloc)?)?
         .subcommand(canon_command(alloc)?)?
-        .subcommand(same_command(alloc)?)
+        .subcommand(same_command(alloc)?)?
+        .subcommand(explain_command(alloc)?)
 }
 
 /// The program without its commands, of which it needs one. It tells its version.
@@ -296,7 +361,7 @@ fn file_command<'a>(
     named_command(alloc, name, about).arg(file_argument(alloc, "FILE", help))
 }
 
-/// A file that may be left out.
+/// An argument that may be left out.
 fn file_argument<'a>(alloc: Global, name: &'a str, help: &'a str) -> Arg<'a>
     ensures { IsArg (new_rule name.entry.now) result }
 {
@@ -310,6 +375,15 @@ fn first_argument<'a>(alloc: Global) -> Arg<'a>
     Arg::new(alloc, "A")
         .required(true)
         .help("The first file to read; standard input where it is '-'")
+}
+
+/// The subcommand about faults.
+fn explain_command<'a>(alloc: Global) -> Result<clap::Command<'a>, AllocError>
+    ensures { IfOk result (IsCommand line.explain) }
+{
+    let about = "Explains a fault, by its number or its name";
+    let help = "The number or the name of a fault; all faults where it is left out";
+    named_command(alloc, "explain", about).arg(file_argument(alloc, "FAULT", help))
 }
 
 /// The subcommand over two files.

@@ -8,4 +8,5 @@ returns c =
     let check = with_one _ _ _ _ _ lines c.in_ok-check_command.ensures c.in_ok-subcommand-2.ensures in
     let show = with_one _ _ _ _ _ check c.in_ok-show_command.ensures c.in_ok-subcommand-3.ensures in
     let canon = with_one _ _ _ _ _ show c.in_ok-canon_command.ensures c.in_ok-subcommand-4.ensures in
-    IfOk-weaker c.subcommand-5.result _ _ (λ command added. with_one _ _ _ _ _ canon c.in_ok-same_command.ensures added) c.subcommand-5.ensures
+    let same = with_one _ _ _ _ _ canon c.in_ok-same_command.ensures c.in_ok-subcommand-5.ensures in
+    IfOk-weaker c.subcommand-6.result _ _ (λ command added. with_one _ _ _ _ _ same c.in_ok-explain_command.ensures added) c.subcommand-6.ensures
