@@ -32,6 +32,7 @@ complete -c gedtool -n __gedtool_takes_command -a check -d 'Tells the notices of
 complete -c gedtool -n __gedtool_takes_command -a show -d 'Writes the level, tag and kind of each structure of a file'
 complete -c gedtool -n __gedtool_takes_command -a canon -d 'Writes a file in its canonical form'
 complete -c gedtool -n __gedtool_takes_command -a same -d 'Tells whether two files have one canonical form'
+complete -c gedtool -n __gedtool_takes_command -a explain -d 'Explains a fault, by its number or its name'
 complete -c gedtool -n __gedtool_takes_command -a help -d 'Print this message or the help of the given subcommand(s)'
 
 complete -c gedtool -n '__gedtool_command check show canon same' -l strict -d 'Refuses a file that has a notice'
