@@ -22,8 +22,8 @@ use std::alloc::Global;
 use std::io::Write;
 use std::process::ExitCode;
 use std::{env, io};
-use tells::{refuse, refuse_words, refuse_unread};
-use words::{Asked, read_words};
+use tells::{refuse, refuse_unread, refuse_words};
+use words::read_words;
 
 /// The streams of a program.
 #[derive(Drop)]
@@ -69,7 +69,8 @@ fn perform<S: Shelf, R: Source, W: Write, E: Write>(
     ensures range { result ≤ 3 }
     ensures unread { IsErr words → (result ≡ 2)
         × IsUnread (reader_of R.to_come R.failed streams.old.input streams.new.input) }
-    ensures quiet { result ≡ 0 → IfOk words (λ words. explains (map string_bytes words.items) ≡ false) → Keeps (E.contents streams.old.errors) (E.contents streams.new.errors) }
+    ensures quiet { result ≡ 0 → IfOk words (λ words. explains (map string_bytes words.items) ≡ false)
+        → Keeps (E.contents streams.old.errors) (E.contents streams.new.errors) }
     ensures usage { result ≡ 2 → Keeps (⟦<Output<W> as Sink>⟧.taken streams.old.output)
         (⟦<Output<W> as Sink>⟧.taken streams.new.output) }
 {
@@ -78,20 +79,14 @@ fn perform<S: Shelf, R: Source, W: Write, E: Write>(
         Err(error) => return refuse_unread(&error, &mut streams.errors),
     };
     match read_words(alloc, words.as_slice()) {
-        Ok(Asked {
-            request: Some(request),
-            explains,
-            mistake: _,
-        }) => {
-            let (input, output) = (&mut streams.input, &mut streams.output);
-            let told = answer_request(alloc, shelf, request, input, output);
-            finish_told(alloc, request, explains, &told, &mut streams.errors)
-        }
-        Ok(Asked {
-            request: None,
-            explains: _,
-            mistake,
-        }) => refuse_words(mistake, &mut streams.errors),
+        Ok(asked) => match asked.request {
+            Some(request) => {
+                let (input, output) = (&mut streams.input, &mut streams.output);
+                let told = answer_request(alloc, shelf, request, input, output);
+                finish_told(alloc, request, asked.explains, &told, &mut streams.errors)
+            }
+            None => refuse_words(asked.mistake, &mut streams.errors),
+        },
         Err(error) => refuse(&error, &mut streams.output, &mut streams.errors),
     }
 }

@@ -1,21 +1,21 @@
 // What the words of the command line ask for.
-ghost use Rattle.std.specs.Prelude.{◌≡◌, [], IfOk, IfErr, map, false, codes, List, option_and_then, option_map, string_bytes, if◌then◌else◌};
-ghost use Rattle.std.specs.Option.{option_copied, option_map_or};
-ghost use Rattle.ged_explain.specs.Names.{as_named};
+ghost use Rattle.std.specs.Prelude.{◌≡◌, [], List, IfOk, IfErr, false, codes, map, option_and_then, option_map, string_bytes};
+ghost use Rattle.std.specs.Prelude.{if◌then◌else◌};
+ghost use Rattle.std.specs.Option.{option_map_or};
 ghost use Rattle.clap.specs.Words.{Row, Text, rows_of, found_of, subcommand_rows_of, fault_of, new_app, new_rule};
 ghost use Rattle.clap.specs.Kinds.{HasKind};
 ghost use Rattle.ged_cmd.specs.CommandLine as line;
 ghost use Rattle.ged_cmd.specs.inner.CommandLine.{IsArg, IsCommand};
 ghost use Rattle.ged_tool.specs.Profiles.{profile_of, edition_of};
-ghost use Rattle.ged_cmd.specs.Tasks.{called, explain_asked, explanation as explanation_of};
-ghost use Rattle.ged_cmd.specs.Tasks.{asked, command_of, comparison as comparison_of, edition_asked, explains, file_named as file_of, is_set};
+ghost use Rattle.ged_cmd.specs.Tasks.{explain_asked, explains, explanation as explanation_of};
+ghost use Rattle.ged_cmd.specs.Tasks.{asked, command_of, comparison as comparison_of, edition_asked, file_named as file_of, is_set};
 ghost use Rattle.ged_cmd.specs.Tasks.{profile_asked, run_asked, same_asked, task_of_match};
 ghost use Rattle.ged_cmd.specs.inner.Tasks.{task_of};
 
+use crate::meanings::meaning_called;
 use clap::{Arg, ArgAction, ArgMatches, Error};
 use ged_explain::{Meaning, meanings};
 use ged_tool::{Command, Edition, Profile, Settings};
-use itoa::Buffer;
 use std::alloc::{AllocError, Global};
 
 /// The name that help and usage give the program, whatever file it lies in.
@@ -74,7 +74,9 @@ pub(crate) enum Request<'a> {
         second: &'a str,
     },
     /// What a fault means, or what all mean where none is named.
-    Explain { meaning: Option<&'static Meaning> },
+    Explain {
+        meaning: Option<&'static Meaning>,
+    },
 }
 
 /// Reads the words, of which the first is the program's name. The error is clap's: a mistake in
@@ -176,22 +178,6 @@ fn explanation<'a>(word: Option<&str>) -> Option<Request<'a>>
             meaning: Some(meaning_called(meanings(), word)?),
         }),
     }
-}
-
-/// What the fault means whose name or number is a word.
-fn meaning_called(among: &'static [Meaning], word: &str) -> Option<&'static Meaning>
-    ensures { option_map as_named (option_copied result) ≡ called word.now (map as_named among.now) }
-{
-    for meaning in among {
-        if meaning.name == word {
-            return Some(meaning);
-        }
-        let mut buffer = Buffer::new();
-        if buffer.format(meaning.number) == word {
-            return Some(meaning);
-        }
-    }
-    None
 }
 
 /// What any other subcommand asks for.
