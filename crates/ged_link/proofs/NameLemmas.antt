@@ -1,5 +1,5 @@
 -- No two short names have one number, so a record that is added by its number is added by its name.
-use Rattle.std.proofs.Common.{◌≡◌, ℕ, ◌+◌, ◌*◌, ◌<◌, ◌≤◌, Bool, true, false, cond, nat_eq, nat_lt, [], ◌∷◌, Option, Some, None, refl, sym, ap, ◌∙◌, arith, rules}
+use Rattle.std.proofs.Common.{◌≡◌, ℕ, ◌+◌, ◌*◌, ◌<◌, ◌≤◌, Bool, true, false, cond, nat_eq, nat_lt, ◌&&◌, [], ◌∷◌, Option, Some, None, refl, sym, ap, ◌∙◌, arith, rules, List, length}
 use Rattle.std.specs.Bool.{if◌then◌else◌, Decides}
 use Rattle.std.specs.List.{list_all}
 use Rattle.std.specs.Str.{bytes_eq}
@@ -10,7 +10,11 @@ use Rattle.ged_line.specs.Bytes.{Bytes}
 use Rattle.ged_link.specs.declared.index.RecordPlace.{RecordPlace}
 use Rattle.ged_link.specs.declared.names.Names.{Names}
 use Rattle.ged_link.specs.NameNumbers.{name_number, is_up_to, short_number}
-use Rattle.ged_link.specs.Indexes.{found_by}
+use Rattle.ged_link.specs.declared.slots.Slots.{Slots}
+use Rattle.ged_link.specs.Indexes.{found_in, found_by, found_short, first_of}
+use Rattle.ged_link.specs.inner.Indexes.{HasNoOthers}
+use Rattle.ged_link.specs.Slots.{kept_in, slot_in}
+use Rattle.ged_link.specs.inner.Slots.{KeepsIn}
 use Rattle.ged_link.specs.inner.Resolving.{AddsName}
 use Rattle.ged_link.proofs.LinkLemmas.{both}
 
@@ -59,6 +63,16 @@ one_number a b m n h k e = some_same m n (sym h ∙ ap short_number e ∙ k)
     some_same : (m n : ℕ) → Some m ≡ Some n → m ≡ n
     some_same m n e = cc
 
+-- a name's number is not zero, which tells that a slot is free
+pub above : (name : Bytes) (number : ℕ) → short_number name ≡ Some number → 0 < number
+above name number e = let p = positive name in omega (arith, p, (numbered name number e).1)
+
+equal_numbers : (m n : ℕ) → nat_eq m n ≡ true → m ≡ n
+equal_numbers m n e = grind (arith, nat_tests)
+
+same_slot : (m n : ℕ) → m ≡ n → nat_eq m n ≡ true
+same_slot m n e = grind (arith, nat_tests)
+
 -- the test of two numbers is the test of their names
 same_tests : (m n : ℕ) (a b : Bytes) → (m ≡ n → a ≡ b) → (a ≡ b → m ≡ n) → nat_eq m n ≡ bytes_eq a b
 same_tests m n a b there back = go (nat_eq m n) (bytes_eq a b) refl (bytes_eq-Decides a b)
@@ -75,14 +89,35 @@ same_tests m n a b there back = go (nat_eq m n) (bytes_eq a b) refl (bytes_eq-De
     go true false e d = absurd (let f = there (equal e) in search rules)
     go false true e d = let f : a ≡ b = search rules in absurd (apart e (back f))
 
+nothing : {X : Type 0} (xs : List X) → length xs ≡ 0 → xs ≡ []
+nothing [] e = refl
+nothing (x ∷ xs) e = absurd (omega (arith, e))
+
+-- empty maps hold no name
+pub none_short : (records : Names) → HasNoOthers records → (n : ℕ) → get nat_eq records.short n ≡ None
+none_short records e n = let f = nothing records.short.entries e.0 in search rules
+
+pub none_long : (records : Names) → HasNoOthers records → (name : Bytes) → get_by_text records.long name ≡ None
+none_long records e name = let f = nothing records.long.entries e.1 in search rules
+
+-- so maps that are empty may be replaced by others that are
+pub same_names : (old new : Names) → HasNoOthers old → HasNoOthers new → new.slots ≡ old.slots → (name : Bytes) → found_in new name ≡ found_in old name
+same_names old new h k same name = go (short_number name)
+  where
+    go : (o : Option ℕ) → found_by new name o ≡ found_by old name o
+    go (Some n) =
+        ap (first_of (kept_in new.slots name n)) (none_short new k n) ∙ ap (λ (slots : Slots). first_of (kept_in slots name n) None) same ∙ ap (first_of (kept_in old.slots name n)) (sym (none_short old h n))
+    go None = none_long new k name ∙ sym (none_long old h name)
+
 module _ (old new : Names) (name : Bytes) (found : RecordPlace) where
   -- by its number
-  pub added_short : (number : ℕ) → short_number name ≡ Some number → ((n : ℕ) → get nat_eq new.short n ≡ cond (nat_eq number n) (Some found) (get nat_eq old.short n)) → new.long ≡ old.long → AddsName old new name found
+  pub added_short : (number : ℕ) → short_number name ≡ Some number
+      → ((other : Bytes) (n : ℕ) → short_number other ≡ Some n → found_short new other n ≡ cond (nat_eq number n) (Some found) (found_short old other n)) → new.long ≡ old.long → AddsName old new name found
   added_short number is updates kept other = go (short_number other) refl
     where
       go : (o : Option ℕ) → short_number other ≡ o → found_by new other o ≡ (if bytes_eq name other then Some found else found_by old other o)
       go (Some n) other_is =
-          updates n ∙ ap (λ (same : Bool). cond same (Some found) (get nat_eq old.short n)) (same_tests number n name other (one_name name other number n is other_is) (one_number name other number n is other_is))
+          updates other n other_is ∙ ap (λ (same : Bool). cond same (Some found) (found_short old other n)) (same_tests number n name other (one_name name other number n is other_is) (one_number name other number n is other_is))
       go None other_is = not_here (bytes_eq name other) (bytes_eq-Decides name other)
         where
           none_some : (o : Option ℕ) → o ≡ Some number → o ≡ None → ⊥
@@ -93,8 +128,8 @@ module _ (old new : Names) (name : Bytes) (found : RecordPlace) where
           not_here true d = let f : name ≡ other = search rules in absurd (none_some (short_number other) (sym (ap short_number f) ∙ is) other_is)
 
   -- as a text
-  pub added_long : short_number name ≡ None → ((n : Bytes) → get_by_text new.long n ≡ (if bytes_eq name n then Some found else get_by_text old.long n)) → new.short ≡ old.short → AddsName old new name found
-  added_long is updates kept other = go (short_number other) refl
+  pub added_long : short_number name ≡ None → ((n : Bytes) → get_by_text new.long n ≡ (if bytes_eq name n then Some found else get_by_text old.long n)) → new.short ≡ old.short → new.slots ≡ old.slots → AddsName old new name found
+  added_long is updates kept slots_kept other = go (short_number other) refl
     where
       go : (o : Option ℕ) → short_number other ≡ o → found_by new other o ≡ (if bytes_eq name other then Some found else found_by old other o)
       go None other_is = updates other
@@ -103,6 +138,39 @@ module _ (old new : Names) (name : Bytes) (found : RecordPlace) where
           none_some : (o : Option ℕ) → o ≡ None → o ≡ Some n → ⊥
           none_some o h k = absurd (let f : None ≡ Some n = sym h ∙ k in cc)
 
-          not_here : (same : Bool) → Decides same (name ≡ other) → get nat_eq new.short n ≡ (if same then Some found else get nat_eq old.short n)
-          not_here false d = ap (λ records. get nat_eq records n) kept
+          not_here : (same : Bool) → Decides same (name ≡ other) → found_short new other n ≡ (if same then Some found else found_short old other n)
+          not_here false d = ap (λ (slots : Slots). first_of (kept_in slots other n) (get nat_eq new.short n)) slots_kept ∙ ap (λ records. first_of (kept_in old.slots other n) (get nat_eq records n)) kept
           not_here true d = let f : name ≡ other = search rules in absurd (none_some (short_number other) (sym (ap short_number f) ∙ is) other_is)
+
+  module _ (number : ℕ) (is : short_number name ≡ Some number) where
+    -- in its slot
+    pub kept_short : KeepsIn old.slots new.slots name number found → new.short ≡ old.short → (other : Bytes) (n : ℕ) → short_number other ≡ Some n → found_short new other n ≡ cond (nat_eq number n) (Some found) (found_short old other n)
+    kept_short keeps kept other n other_is =
+        ap (λ o. first_of o (get nat_eq new.short n)) (keeps other n (above other n other_is))
+        ∙ ap (λ records. first_of (cond (nat_eq number n && nat_eq (slot_in old.slots.starts.items name) (slot_in old.slots.starts.items other)) (Some found) (kept_in old.slots other n)) (get nat_eq records n)) kept
+        ∙ go (nat_eq number n) refl
+      where
+        its_slot : nat_eq number n ≡ true → nat_eq (slot_in old.slots.starts.items name) (slot_in old.slots.starts.items other) ≡ true
+        its_slot e = same_slot _ _ (ap (slot_in old.slots.starts.items) (one_name name other number n is other_is (equal_numbers number n e)))
+
+        go : (b : Bool) → nat_eq number n ≡ b → first_of (cond (b && nat_eq (slot_in old.slots.starts.items name) (slot_in old.slots.starts.items other)) (Some found) (kept_in old.slots other n)) (get nat_eq old.short n) ≡ cond b (Some found) (found_short old other n)
+        go true e = ap (λ b. first_of (cond b (Some found) (kept_in old.slots other n)) (get nat_eq old.short n)) (its_slot e)
+        go false e = refl
+
+    -- by the number, where it has no slot
+    pub missed_short : kept_in old.slots name number ≡ None → new.slots ≡ old.slots → ((n : ℕ) → get nat_eq new.short n ≡ cond (nat_eq number n) (Some found) (get nat_eq old.short n))
+        → (other : Bytes) (n : ℕ) → short_number other ≡ Some n → found_short new other n ≡ cond (nat_eq number n) (Some found) (found_short old other n)
+    missed_short missed same_slots updates other n other_is =
+        ap (λ (slots : Slots). first_of (kept_in slots other n) (get nat_eq new.short n)) same_slots
+        ∙ ap (first_of (kept_in old.slots other n)) (updates n)
+        ∙ go (nat_eq number n) refl
+      where
+        none_there : nat_eq number n ≡ true → kept_in old.slots other n ≡ None
+        none_there e =
+            let numbers = equal_numbers number n e in
+            let names = one_name name other number n is other_is numbers in
+            ap (λ m. kept_in old.slots other m) (sym numbers) ∙ ap (λ m. kept_in old.slots m number) (sym names) ∙ missed
+
+        go : (b : Bool) → nat_eq number n ≡ b → first_of (kept_in old.slots other n) (cond b (Some found) (get nat_eq old.short n)) ≡ cond b (Some found) (found_short old other n)
+        go true e = ap (λ o. first_of o (Some found)) (none_there e)
+        go false e = refl

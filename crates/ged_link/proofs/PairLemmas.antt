@@ -1,20 +1,24 @@
--- The pairs of linked records, kept by their places in order; where each is told by both, no link goes in one direction only.
-use Rattle.std.proofs.Common.{◌≡◌, ℕ, ◌+◌, ◌≤◌, Bool, true, false, ◌&&◌, ◌||◌, nat_eq, nat_le, [], ◌∷◌, ◌++◌, List, Option, Some, None, length, slice_get, unwrap_or, inl, inr, refl, sym, ap, ◌∙◌, arith}
-use Rattle.std.specs.HashMap.{get}
+-- The links of a document as pairs of places; where each is answered, no link goes in one direction only.
+use Rattle.std.proofs.Common.{◌≡◌, ℕ, ◌+◌, ◌≤◌, Bool, true, false, ◌&&◌, ◌||◌, nat_eq, [], ◌∷◌, ◌++◌, List, Option, Some, None, length, slice_get, inl, inr, refl, sym, ap, ◌∙◌, arith, zero, suc, get_or, Result, Ok, Err, ◌<◌, take, drop}
 use Rattle.std.specs.Str.{bytes_eq}
+use Rattle.std.proofs.lemmas.List.{drop_all, take_all, append-nil}
 use Rattle.std.proofs.lemmas.Bool.{cases_lt}
 use Rattle.std.proofs.lemmas.Bool.Decides.{nat_tests}
-use Rattle.std.proofs.lemmas.Map.Entries.{place_from_lookup}
-use Rattle.std.proofs.lemmas.Option.{slice_get_within}
+use Rattle.std.proofs.lemmas.Option.{slice_get_within, slice_get-get_or, get_or_from_slice_get}
+use Rattle.std.proofs.lemmas.Cmp.{nat_cmp_total, on_total, then_total, tied_itself}
+use Rattle.std.proofs.lemmas.List.Sorted.{searchable_from_sorted}
+use Rattle.std.specs.Cmp.{IsTotalOrder}
+use Rattle.std.specs.Result.{is_ok}
+use Rattle.std.specs.List.Sorted.{IsBinarySearchResult, IsSearchInRange, IsPartitionPoint}
+use Rattle.std.specs.declared.cmp.Ordering.TheVariants.{Less, Equal, Greater}
 use Rattle.ged_line.specs.Bytes.{Bytes}
 use Rattle.ged_tree.specs.Trees.{Structure, Trees, none, tree, trees_count}
 use Rattle.ged_tree.specs.Places.{structure_at}
 use Rattle.ged_link.specs.declared.pairs.Role.{Role}
 use Rattle.ged_link.specs.declared.pairs.Role.TheVariants.{Partner, Child}
-use Rattle.ged_link.specs.declared.pairs.Told.{Told}
-use Rattle.ged_link.specs.declared.pairs.Pairs.{Pairs}
+use Rattle.ged_link.specs.declared.link_lists.LinkLists.{LinkLists}
 use Rattle.ged_link.specs.inner.LinkWalks.{pair_eq, role_under, target, has_link_to, has_pair, other_tag, is_unanswered, is_one_way_for, is_one_way, one_way_below, one_way_places}
-use Rattle.ged_link.specs.inner.PairSets.{PairMap, is_listed, in_order, tells, told_more, links_to, AreBothBefore, ArePairs, AreAnswered}
+use Rattle.ged_link.specs.inner.PairSets.{is_listed, pair_cmp, IsInOrder, AreAnsweredBefore, AreLinks, AreAnswered}
 
 or_true : (b : Bool) → b || true ≡ true
 or_true true = refl
@@ -27,13 +31,6 @@ and_false false = refl
 same_number : (n : ℕ) → nat_eq n n ≡ true
 same_number n = grind (arith, nat_tests)
 
--- ---- one more link
-
--- what is told of a new pair is told on top of nothing
-pub told_of_new : (old : Option Told) (told : Told) (rising : Bool) → told ≡ unwrap_or old (record { by_lower = false; by_higher = false }) → told_more (Some told) rising ≡ told_more old rising
-told_of_new None told rising e = rw e refl
-told_of_new (Some other) told rising e = rw e refl
-
 -- ---- links in a list
 
 pub listed_more : (links : List (ℕ × ℕ)) (link pair : ℕ × ℕ) → is_listed (links ++ link ∷ []) pair ≡ (pair_eq pair link || is_listed links pair)
@@ -45,53 +42,79 @@ listed_more (other ∷ links) link pair = rw (listed_more links link pair) (go (
     go true false c = refl
     go false b c = refl
 
--- one more of them is told as a pair
-pub told_next : (here old rest : Bool) → (old || (here || rest)) ≡ ((here || old) || rest)
-told_next true true rest = refl
-told_next true false rest = refl
-told_next false old rest = refl
+same_pair : (x y : ℕ) → pair_eq (x, y) (x, y) ≡ true
+same_pair x y = rw (same_number x, same_number y) refl
 
-pub told_last : (old : Bool) → old || false ≡ old
-told_last true = refl
-told_last false = refl
+pub listed_at : (links : List (ℕ × ℕ)) (i : ℕ) (x y : ℕ) → slice_get links i ≡ Some (x, y) → is_listed links (x, y) ≡ true
+listed_at [] i x y e = cc
+listed_at (link ∷ links) zero x y e = let f : link ≡ (x, y) = cc in rw (f, same_pair x y) refl
+listed_at (link ∷ links) (suc i) x y e = rw (listed_at links i x y e) (or_true (pair_eq (x, y) link))
 
--- ---- pairs that are told by both
+parts_same : (x y : ℕ) (link : ℕ × ℕ) → pair_eq (x, y) link ≡ true → link ≡ (x, y)
+parts_same x y (p, q) e =
+    let f : p ≡ x = grind (arith, nat_tests, e) in
+    let g : q ≡ y = grind (arith, nat_tests, e) in
+    rw (f, g) refl
 
-one_key : (x y : ℕ) → in_order (x, y) ≡ in_order (y, x)
-one_key x y = elim (cases_lt x y) [
-  | inl below ↦ (let h : nat_le x y ≡ true = grind (arith, nat_tests) in let k : nat_le y x ≡ false = grind (arith, nat_tests) in rw (h, k) refl)
-  | inr above ↦ elim (cases_lt y x) [
-    | inl past ↦ (let h : nat_le x y ≡ false = grind (arith, nat_tests) in let k : nat_le y x ≡ true = grind (arith, nat_tests) in rw (h, k) refl)
-    | inr same ↦ (let e : x ≡ y = omega arith in rw e refl)
-  ]
-]
+found_here : (links : List (ℕ × ℕ)) (x y : ℕ) (link : ℕ × ℕ) (b : Bool) → pair_eq (x, y) link ≡ b → (b ≡ false → (i : ℕ) × (slice_get links i ≡ Some (x, y))) → (i : ℕ) × (slice_get (link ∷ links) i ≡ Some (x, y))
+found_here links x y link true e rest = (0, ap (λ (pair : ℕ × ℕ). Some pair) (parts_same x y link e))
+found_here links x y link false e rest = let k = rest refl in (suc k.0, k.1)
 
-found_told : (o : Option Told) (rising : Bool) → tells o rising ≡ true → (told : Told) × (o ≡ Some told)
-found_told None rising e = cc
-found_told (Some told) rising e = (told, refl)
+pub place_of_listed : (links : List (ℕ × ℕ)) (x y : ℕ) → is_listed links (x, y) ≡ true → (i : ℕ) × (slice_get links i ≡ Some (x, y))
+place_of_listed [] x y e = cc
+place_of_listed (link ∷ links) x y e = found_here links x y link (pair_eq (x, y) link) refl (λ no. place_of_listed links x y (ap (λ b. b || is_listed links (x, y)) (sym no) ∙ e))
 
-both_tell : (told : Told) (rising : Bool) → (told.by_lower ≡ true) × (told.by_higher ≡ true) → tells (Some told) rising ≡ true
-both_tell told true h = h.0
-both_tell told false h = h.1
+-- ---- links in order
 
-same_value : (a b : ℕ × ℕ) (x y : Told) → ◌≡◌ {A = Option ((ℕ × ℕ) × Told)} (Some (a, x)) (Some (b, y)) → x ≡ y
-same_value a b x y e = let f : ◌≡◌ {A = (ℕ × ℕ) × Told} (a, x) (b, y) = cc in ap (λ (pair : (ℕ × ℕ) × Told). pair.1) f
+-- a vector whose items were changed as a slice holds the slice
+pub put_back : (xs ys : List (ℕ × ℕ)) (n : ℕ) → length ys ≡ length xs → n ≡ length xs → take n (ys ++ drop (length ys) xs) ≡ ys
+put_back xs ys n same all =
+    let nothing : drop (length ys) xs ≡ [] = drop_all (length ys) xs (omega (arith, same)) in
+    ap (λ rest. take n (ys ++ rest)) nothing ∙ ap (take n) (append-nil ys) ∙ take_all n ys (omega (arith, same, all))
 
-pub both_before : (map : PairMap) (index : ℕ) (pair : ℕ × ℕ) (told : Told) → AreBothBefore map index → slice_get map.entries index ≡ Some (pair, told) → told.by_lower ≡ true → told.by_higher ≡ true → AreBothBefore map (index + 1)
-both_before map index pair told before here lower higher i other more h e = elim (cases_lt i index) [
-  | inl earlier ↦ before i other more earlier e
+pair_total : IsTotalOrder pair_cmp
+pair_total = then_total (on_total (λ (z : ℕ × ℕ). z.0) nat_cmp_total) (on_total (λ (z : ℕ × ℕ). z.1) nat_cmp_total)
+
+tied_pair : (a b : ℕ × ℕ) → pair_cmp a b ≡ Equal → a ≡ b
+tied_pair (p, q) (x, y) e =
+    let f : p ≡ x = grind (arith, nat_tests, e) in
+    let g : q ≡ y = grind (arith, nat_tests, e) in
+    rw (f, g) refl
+
+not_listed : (links : List (ℕ × ℕ)) (x y at : ℕ) → IsPartitionPoint (λ z. pair_cmp z (x, y) ≡ Less) (λ z. pair_cmp z (x, y) ≡ Greater) links at → (b : Bool) → is_listed links (x, y) ≡ b → b ≡ false
+not_listed links x y at parted false e = refl
+not_listed links x y at parted true e =
+    let k = place_of_listed links x y e in
+    let within : k.0 < length links = slice_get_within links k.0 (x, y) k.1 in
+    let here : get_or links k.0 (x, y) ≡ (x, y) = get_or_from_slice_get links k.0 (x, y) (x, y) k.1 in
+    let tied : pair_cmp (get_or links k.0 (x, y)) (x, y) ≡ Equal = ap (λ z. pair_cmp z (x, y)) here ∙ tied_itself pair_total (x, y) in
+    absurd (elim (cases_lt k.0 at) [
+      | inl below ↦ (let h = parted.0 k.0 (x, y) (omega arith) below in let c : Equal ≡ Less = sym tied ∙ h in cc)
+      | inr past ↦ (let h = parted.1 k.0 (x, y) (omega (arith, past)) within in let c : Equal ≡ Greater = sym tied ∙ h in cc)
+    ])
+
+pub searched_pair : (links : List (ℕ × ℕ)) (x y : ℕ) (r : Result ℕ ℕ) → IsInOrder links → IsSearchInRange r (length links) → IsBinarySearchResult (λ z. pair_cmp z (x, y)) links r → is_ok r ≡ is_listed links (x, y)
+searched_pair links x y (Ok at) ordered within found =
+    sym (listed_at links at x y (slice_get-get_or links at (x, y) within ∙ ap (λ (pair : ℕ × ℕ). Some pair) (tied_pair (get_or links at (x, y)) (x, y) (found (x, y)))))
+searched_pair links x y (Err at) ordered within parted =
+    sym (not_listed links x y at (parted (searchable_from_sorted pair_total (λ z. z) links (x, y) ordered)) (is_listed links (x, y)) refl)
+
+-- ---- links that are answered
+
+pub answered_more : (links : List (ℕ × ℕ)) (index x y : ℕ) → AreAnsweredBefore links index → slice_get links index ≡ Some (x, y) → is_listed links (y, x) ≡ true → AreAnsweredBefore links (index + 1)
+answered_more links index x y before here answered i p q h e = elim (cases_lt i index) [
+  | inl earlier ↦ before i p q earlier e
   | inr past ↦ (
       let same : i ≡ index = omega (arith, h) in
-      let told_is = same_value other pair more told (sym e ∙ rw same here) in
-      rw told_is (lower, higher))
+      let f : ◌≡◌ {A = Option (ℕ × ℕ)} (Some (p, q)) (Some (x, y)) = sym e ∙ rw same here in
+      let both : ◌≡◌ {A = ℕ × ℕ} (p, q) (x, y) = cc in
+      ap (λ (pair : ℕ × ℕ). is_listed links (pair.1, pair.0)) both ∙ answered)
 ]
 
-pub all_both : (map : PairMap) (index : ℕ) → length map.entries ≤ index → AreBothBefore map index → (x y : ℕ) → links_to map (x, y) ≡ true → links_to map (y, x) ≡ true
-all_both map index all before x y e =
-    let found = found_told (get pair_eq map (in_order (x, y))) (nat_le x y) e in
-    let at = place_from_lookup (pair_eq (in_order (x, y))) map.entries found.0 found.1 in
-    let both = before at.0 at.1 found.0 (omega (arith, all, slice_get_within map.entries at.0 (at.1, found.0) at.2)) at.2 in
-    ap (λ key. tells (get pair_eq map key) (nat_le y x)) (sym (one_key x y)) ∙ ap (λ o. tells o (nat_le y x)) found.1 ∙ both_tell found.0 (nat_le y x) both
+pub all_listed : (links : List (ℕ × ℕ)) (index : ℕ) → length links ≤ index → AreAnsweredBefore links index → (x y : ℕ) → is_listed links (x, y) ≡ true → is_listed links (y, x) ≡ true
+all_listed links index all before x y e =
+    let at = place_of_listed links x y e in
+    before at.0 x y (omega (arith, all, slice_get_within links at.0 (x, y) at.1)) at.1
 
 -- ---- no link in one direction only
 
@@ -133,6 +156,6 @@ module _ (find : Bytes → Option ℕ) (d : Trees) (answered : (role : Role) (x 
       let rest = none_of_records (place + 1 + trees_count b) n (λ role pair e. links role pair (pair_next find role place pair s b n e)) in
       rw (here, rest) refl
 
-pub no_one_way : (find : Bytes → Option ℕ) (d : Trees) (pairs : Pairs) → ArePairs find d pairs → AreAnswered pairs → one_way_places find d 0 d ≡ []
-no_one_way find d pairs are answered =
+pub no_one_way : (find : Bytes → Option ℕ) (d : Trees) (lists : LinkLists) → AreLinks find d lists → AreAnswered lists → one_way_places find d 0 d ≡ []
+no_one_way find d lists are answered =
     none_of_records find d (λ role x y e. sym (are role (y, x)) ∙ answered role x y (are role (x, y) ∙ e)) 0 d (λ role pair e. e)

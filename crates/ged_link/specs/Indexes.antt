@@ -8,6 +8,7 @@ use Rattle.ged_link.specs.declared.index.Index.{Index}
 use Rattle.ged_link.specs.declared.index.RecordPlace.{RecordPlace}
 use Rattle.ged_link.specs.declared.names.Names.{Names}
 use Rattle.ged_link.specs.NameNumbers.{short_number}
+use Rattle.ged_link.specs.Slots.{kept_in}
 use Rattle.ged_link.specs.Links.{Resolved, IsRecordNumber, IsUsed}
 use Rattle.ged_link.specs.LinkFaults.{HasXref}
 use Rattle.ged_link.specs.declared.record_type.RecordType.{RecordType}
@@ -16,9 +17,17 @@ use Rattle.ged_link.specs.Targets.{AreTargets}
 use Rattle.ged_link.specs.Places.{ArePlaces}
 use Rattle.ged_link.specs.Notices.{AreOneWay}
 
+abbrev pub first_of : Option RecordPlace → Option RecordPlace → Option RecordPlace
+first_of (Some found) other = Some found
+first_of None other = other
+
+-- the record that has a name with a number: that in the name's slot, or else by the number
+abbrev pub found_short : Names → Bytes → ℕ → Option RecordPlace
+found_short records name number = first_of (kept_in records.slots name number) (get nat_eq records.short number)
+
 -- the record that has a name: by the name's number, where it has one
 abbrev pub found_by : Names → Bytes → Option ℕ → Option RecordPlace
-found_by records name (Some number) = get nat_eq records.short number
+found_by records name (Some number) = found_short records name number
 found_by records name None = get_by_text records.long name
 
 abbrev pub found_in : Names → Bytes → Option RecordPlace

@@ -7,5 +7,6 @@ pub mod Notices
 pub mod NameNumbers
 pub mod Targets
 pub mod Places
+pub mod Slots
 pub mod Indexes
 pub mod inner

@@ -2,13 +2,14 @@
 ghost use Rattle.std.specs.Prelude.{◌≡◌, Some, fold};
 ghost use Rattle.ged_tree.specs.Runs.{trees_between, IsRun};
 ghost use Rattle.ged_link.specs.Links.{identifiers};
-ghost use Rattle.ged_link.specs.inner.Keys.{fed_name, names_key as key_of_names, links_key as key_of_links};
+ghost use Rattle.ged_link.specs.inner.Keys.{fed_name, names_key as key_of_names};
 
 use crate::names::number_of;
 use ged_tree::{Forest, next_in_run};
 use std::hash::{BuildHasher, DefaultHasher, FoldHasher, Hasher};
 
-/// Makes the hashers of a map of texts: SipHash, each begun with the map's key, a hash of all that the map is to hold.
+/// Makes the hashers of a map of texts: SipHash, each begun with the map's key, a hash of names among which are all that the map is
+/// to hold.
 ///
 /// Who writes a file knows this code and can compute the file's keys, but not choose them: what he makes to collide under a
 /// key has another key once it stands in the file, so he can but try file after file. `FoldHasher` would not do for texts,
@@ -36,8 +37,6 @@ impl BuildHasher for Keyed {
 
 /// The same for a map of numbers, by `FoldHasher`, which is faster. A number is multiplied by a constant there, so none
 /// brings a factor that would take others to one state, and whether two numbers collide hangs on the key.
-///
-/// Links have a key of their own: one made of names alone would be known before the links are chosen.
 #[derive(Clone, Copy)]
 pub(crate) struct KeyedNumbers {
     pub(crate) key: u64,
@@ -85,17 +84,6 @@ pub(crate) fn names_key<F: Forest>(forest: &F, start: usize, end: usize) -> u64
             feed_name(&mut hasher, name);
         }
         place = after;
-    }
-    hasher.finish()
-}
-
-/// The key for links, each the places of the record that points and of the one that it points to.
-pub(crate) fn links_key(links: &[(usize, usize)]) -> u64
-    ensures { result ≡ key_of_links links.now }
-{
-    let mut hasher = DefaultHasher::new();
-    for (from, to) in links {
-        hasher.write_u128(*from as u128 * 0x1_0000_0000_0000_0000 + *to as u128);
     }
     hasher.finish()
 }

@@ -2,9 +2,11 @@
 #![tactic(auto)]
 
 mod fault;
+mod groups;
 mod index;
 mod keys;
 mod laws;
+mod layout;
 mod link_lists;
 mod links;
 mod names;
@@ -14,6 +16,7 @@ mod places;
 mod pointers;
 mod record_type;
 mod resolving;
+mod slots;
 mod targets;
 
 pub use fault::LinkFault;

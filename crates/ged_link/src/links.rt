@@ -1,16 +1,18 @@
 // Links between persons and families: those that the other record answers, and those in one direction only.
-ghost use Rattle.std.specs.Prelude.{◌≡◌, ◌<◌, ◌+◌, IfOk, OnOk, ◌++◌};
+ghost use Rattle.std.specs.Prelude.{◌≡◌, ◌<◌, ◌+◌, IfOk, OnOk, ◌++◌, option_map};
 ghost use Rattle.ged_tree.specs.Trees.{trees_count};
 ghost use Rattle.ged_tree.specs.Places.{structure_at};
 ghost use Rattle.ged_tree.specs.Runs.{trees_between, IsRun};
 ghost use Rattle.ged_link.specs.Indexes.{AreRecords, place_in};
 ghost use Rattle.ged_link.specs.inner.LinkWalks.{role_under, target, one_way_below, one_way_places};
 ghost use Rattle.ged_link.specs.inner.LinkWalks.{is_one_way as one_way_under, other_tag as tag_of_other};
-ghost use Rattle.ged_link.specs.inner.PairSets.{ArePairs};
+ghost use Rattle.ged_link.specs.inner.PairSets.{AreLinks, AreInOrder};
+ghost use Rattle.ged_link.specs.declared.index.RecordPlace.{RecordPlace};
 
-use crate::index::find_place;
+use crate::index::RecordPlace;
+use crate::link_lists::LinkLists;
 use crate::names::Names;
-use crate::pairs::{Pairs, Role};
+use crate::pairs::{Role, are_answered, has};
 use ged_tree::{Forest, PayloadView, end_of_all, next_in_run};
 use std::alloc::{AllocError, Global};
 
@@ -40,13 +42,13 @@ pub(crate) fn role_of(record_tag: &str, tag: &str) -> Option<Role>
     }
 }
 
-/// The place of the record that the structure at a place points to.
-fn target_of<F: Forest>(forest: &F, records: &Names, place: usize) -> Option<usize>
+/// The record that the structure at a place points to.
+fn target_of<F: Forest>(forest: &F, records: &Names, place: usize) -> Option<RecordPlace>
     requires { place < trees_count (F.trees forest.now) }
-    ensures { result ≡ target (place_in records.now) (structure_at (F.trees forest.now) place).payload }
+    ensures { option_map (λ (r : RecordPlace). r.place) result ≡ target (place_in records.now) (structure_at (F.trees forest.now) place).payload }
 {
     match forest.payload(place) {
-        PayloadView::Pointer(name) => find_place(records, name),
+        PayloadView::Pointer(name) => records.find(name),
         PayloadView::Void | PayloadView::Text(_) => None,
     }
 }
@@ -63,14 +65,15 @@ fn other_tag(record_tag: &str) -> &'static str
 fn is_one_way<F: Forest>(
     forest: &F,
     records: &Names,
-    pairs: &Pairs,
+    lists: &LinkLists,
     from: usize,
     place: usize,
 ) -> bool
     requires from { from < trees_count (F.trees forest.now) }
     requires within { place < trees_count (F.trees forest.now) }
     requires records { AreRecords (F.trees forest.now) records.now }
-    requires pairs { ArePairs (place_in records.now) (F.trees forest.now) pairs.now }
+    requires links { AreLinks (place_in records.now) (F.trees forest.now) lists.now }
+    requires ordered { AreInOrder lists.now }
     ensures { result ≡ one_way_under (place_in records.now) (F.trees forest.now) (structure_at (F.trees forest.now) from).tag from (structure_at (F.trees forest.now) place) }
 {
     let Some(other) = target_of(forest, records, place) else {
@@ -80,7 +83,7 @@ fn is_one_way<F: Forest>(
     let Some(role) = role_of(record_tag, forest.tag(place)) else {
         return false;
     };
-    !pairs.has(role, other, from) && forest.tag(other) == other_tag(record_tag)
+    !has(lists, role, other, from) && forest.tag(other.place) == other_tag(record_tag)
 }
 
 /// Adds the places of a record's links in one direction only.
@@ -88,7 +91,7 @@ fn is_one_way<F: Forest>(
 fn push_one_way<F: Forest>(
     forest: &F,
     records: &Names,
-    pairs: &Pairs,
+    lists: &LinkLists,
     from: usize,
     end: usize,
     places: &mut Vec<usize>,
@@ -96,13 +99,14 @@ fn push_one_way<F: Forest>(
     requires within { from < trees_count (F.trees forest.now) }
     requires run { IsRun (F.trees forest.now) (from + 1) end }
     requires records { AreRecords (F.trees forest.now) records.now }
-    requires pairs { ArePairs (place_in records.now) (F.trees forest.now) pairs.now }
+    requires links { AreLinks (place_in records.now) (F.trees forest.now) lists.now }
+    requires ordered { AreInOrder lists.now }
     ensures { OnOk result (places.new.items ≡ places.old.items
         ++ one_way_below (place_in records.now) (F.trees forest.now) (structure_at (F.trees forest.now) from).tag from (from + 1) (trees_between (F.trees forest.now) (from + 1) end)) }
 {
     let mut place = from + 1;
     while let Some(after) = next_in_run(forest, place, end) {
-        if is_one_way(forest, records, pairs, from, place) {
+        if is_one_way(forest, records, lists, from, place) {
             places.push(place)?;
         }
         place = after;
@@ -110,27 +114,44 @@ fn push_one_way<F: Forest>(
     Ok(())
 }
 
-/// The places of all links in one direction only, in order. Only where there are some are the links gone through again.
+/// The places of all links in one direction only, in order, where the lists have all links and are sorted.
 #[tactic(auto, using(crate::proofs::WalkLemmas::one_ways))]
+fn search_one_way<F: Forest>(
+    alloc: Global,
+    forest: &F,
+    records: &Names,
+    lists: &LinkLists,
+) -> Result<Vec<usize>, AllocError>
+    requires records { AreRecords (F.trees forest.now) records.now }
+    requires links { AreLinks (place_in records.now) (F.trees forest.now) lists.now }
+    requires ordered { AreInOrder lists.now }
+    ensures { IfOk result (λ places. places.items ≡ one_way_places (place_in records.now) (F.trees forest.now) 0 (F.trees forest.now)) }
+{
+    let mut places = Vec::new(alloc);
+    let end = end_of_all(forest);
+    let mut place = 0;
+    while let Some(after) = next_in_run(forest, place, end) {
+        push_one_way(forest, records, lists, place, after, &mut places)?;
+        place = after;
+    }
+    Ok(places)
+}
+
+/// The places of all links in one direction only, in order, where all links are listed. Only where some link is not
+/// answered at once are they sorted and gone through again. Grows.
 pub(crate) fn find_one_way<F: Forest>(
     alloc: Global,
     forest: &F,
     records: &Names,
-    pairs: &Pairs,
+    mut lists: LinkLists,
 ) -> Result<Vec<usize>, AllocError>
     requires records { AreRecords (F.trees forest.now) records.now }
-    requires pairs { ArePairs (place_in records.now) (F.trees forest.now) pairs.now }
+    requires links { AreLinks (place_in records.now) (F.trees forest.now) lists }
     ensures { IfOk result (λ places. places.items ≡ one_way_places (place_in records.now) (F.trees forest.now) 0 (F.trees forest.now)) }
 {
-    let mut places = Vec::new(alloc);
-    if pairs.are_answered() {
-        return Ok(places);
+    if are_answered(&lists) {
+        return Ok(Vec::new(alloc));
     }
-    let end = end_of_all(forest);
-    let mut place = 0;
-    while let Some(after) = next_in_run(forest, place, end) {
-        push_one_way(forest, records, pairs, place, after, &mut places)?;
-        place = after;
-    }
-    Ok(places)
+    lists.sort();
+    search_one_way(alloc, forest, records, &lists)
 }

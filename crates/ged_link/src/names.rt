@@ -1,13 +1,16 @@
 // Records by the names of their cross-reference identifiers.
-ghost use Rattle.std.specs.Prelude.{◌≡◌, ◌<◌, ℕ, IfOk, IfSome, OnOk, None, is_none};
-ghost use Rattle.std.specs.HashMap.{get_by_text};
-ghost use Rattle.ged_link.specs.Indexes.{found_in};
-ghost use Rattle.ged_link.specs.inner.Indexes.{HasKey};
+ghost use Rattle.std.specs.Prelude.{◌≡◌, ◌<◌, ◌↔◌, ℕ, true, IsTrue, IfOk, IfSome, OnOk, Some, None, is_none, nat_eq};
+ghost use Rattle.std.specs.HashMap.{get, get_by_text};
+ghost use Rattle.ged_link.specs.Indexes.{found_in, found_short};
+ghost use Rattle.ged_link.specs.inner.Indexes.{HasKey, HasNoOthers};
+ghost use Rattle.ged_link.specs.Slots.{kept_in};
 ghost use Rattle.ged_link.specs.NameNumbers.{number_up_to, short_number};
 ghost use Rattle.ged_link.specs.inner.Resolving.{AddsName};
+ghost use Rattle.ged_link.specs.inner.Slots.{HasNoSlot};
 
 use crate::index::RecordPlace;
 use crate::keys::{Keyed, KeyedNumbers};
+use crate::slots::Slots;
 use indexmap::IndexMap;
 use std::alloc::{AllocError, Global};
 
@@ -55,22 +58,44 @@ pub(crate) fn number_of(name: &str) -> Option<u64>
 /// The records of a document by their names.
 #[derive(Drop)]
 pub(crate) struct Names {
-    /// Those whose names have at most seven bytes, by the numbers that the names spell.
+    /// Most of those whose names have at most seven bytes.
+    slots: Slots,
+    /// The others whose names have at most seven bytes, by the numbers that the names spell.
     short: IndexMap<u64, RecordPlace, KeyedNumbers>,
     /// All others.
     long: IndexMap<String, RecordPlace, Keyed>,
 }
 
 impl Names {
-    /// No records. The key is that of all names that are to come ([`crate::keys::names_key`]).
-    pub(crate) fn new(alloc: Global, key: u64) -> Names
+    /// No records, where the slots are free. The maps have no key yet ([`Names::begin`]).
+    pub(crate) fn new(alloc: Global, slots: Slots) -> Names
+        requires free { (name : _) → (number : ℕ) → 0 < number → kept_in slots name number ≡ None }
         ensures none { (name : _) → found_in result name ≡ None }
-        ensures keyed { HasKey result key }
+        ensures others { HasNoOthers result }
     {
         Names {
-            short: IndexMap::with_hasher(alloc, KeyedNumbers { key }),
-            long: IndexMap::with_hasher(alloc, Keyed { key }),
+            slots,
+            short: IndexMap::with_hasher(alloc, KeyedNumbers { key: 0 }),
+            long: IndexMap::with_hasher(alloc, Keyed { key: 0 }),
         }
+    }
+
+    /// Whether each record so far has a slot.
+    pub(crate) fn has_no_others(&self) -> bool
+        ensures { IsTrue result ↔ HasNoOthers self.now }
+    {
+        self.short.is_empty() && self.long.is_empty()
+    }
+
+    /// Gives the maps, which are empty, the key of the names that are to come ([`crate::keys::names_key`]).
+    pub(crate) fn begin(&mut self, alloc: Global, key: u64)
+        requires { HasNoOthers self.old }
+        ensures same { (name : _) → found_in self.new name ≡ found_in self.old name }
+        ensures slots { self.new.slots ≡ self.old.slots }
+        ensures keyed { HasKey self.new key }
+    {
+        self.short = IndexMap::with_hasher(alloc, KeyedNumbers { key });
+        self.long = IndexMap::with_hasher(alloc, Keyed { key });
     }
 
     /// Where the record that has a name stands. Takes no memory.
@@ -79,9 +104,20 @@ impl Names {
         ensures { result ≡ found_in self.now name.now }
     {
         match number_of(name) {
-            Some(number) => self.short.get(&number).copied(),
+            Some(number) => match self.slots.find(name, number) {
+                Some(found) => Some(found),
+                None => self.find_short(number),
+            },
             None => self.find_long(name),
         }
+    }
+
+    /// The record of a name of at most seven bytes that has no slot, by the number that the name spells.
+    #[inline(never)]
+    fn find_short(&self, number: u64) -> Option<RecordPlace>
+        ensures { result ≡ get nat_eq self.now.short number }
+    {
+        self.short.get(&number).copied()
     }
 
     /// The same for a name of more than seven bytes. It stays a call of its own, so that what is made of `find` is short.
@@ -92,24 +128,61 @@ impl Names {
         self.long.get(name).copied()
     }
 
-    /// Adds a record by its name, in the place of one with the same name. The answer is whether there was none. Grows.
+    /// Keeps a record in the slot that its name asks for. The answer is whether no record had the name, or `None` where the name
+    /// has no slot: then nothing is kept. Takes no memory.
+    #[inline(always)]
+    pub(crate) fn keep(&mut self, name: &str, found: RecordPlace) -> Option<bool>
+        ensures is_new { IfSome result (λ is_new. is_new ≡ is_none (found_in self.old name.now)) }
+        ensures added { result ≡ Some true → AddsName self.old self.new name.now found }
+        ensures same { result ≡ None → self.new ≡ self.old }
+        ensures missed { result ≡ None → HasNoSlot self.old name.now }
+        ensures others { (self.new.short ≡ self.old.short) × (self.new.long ≡ self.old.long) }
+    {
+        let Some(number) = number_of(name) else {
+            return None;
+        };
+        match self.slots.keep(name, number, found) {
+            Some(true) => Some(self.find_short(number).is_none()),
+            other => other,
+        }
+    }
+
+    /// Adds a record by its name, which has no slot, in the place of one with the same name. The answer is whether there was none.
+    /// Grows.
     pub(crate) fn insert(
         &mut self,
         alloc: Global,
         name: &str,
         found: RecordPlace,
     ) -> Result<bool, AllocError>
+        requires { HasNoSlot self.old name.now }
         ensures is_new { IfOk result (λ is_new. is_new ≡ is_none (found_in self.old name.now)) }
         ensures added { OnOk result (AddsName self.old self.new name.now found) }
         ensures keyed { (key : ℕ) → HasKey self.old key → HasKey self.new key }
     {
         let before = match number_of(name) {
-            Some(number) => self.short.insert(number, found)?,
+            Some(number) => self.insert_short(name, number, found)?,
             None => {
                 let key = String::from_str(alloc, name)?;
                 self.long.insert(key, found)?
             }
         };
         Ok(before.is_none())
+    }
+
+    /// The same for a name of at most seven bytes, with the number that it spells. The answer is the record before.
+    fn insert_short(
+        &mut self,
+        name: &str,
+        number: u64,
+        found: RecordPlace,
+    ) -> Result<Option<RecordPlace>, AllocError>
+        requires number { short_number name.now ≡ Some number }
+        requires missed { kept_in self.old.slots name.now number ≡ None }
+        ensures before { IfOk result (λ before. before ≡ found_short self.old name.now number) }
+        ensures added { OnOk result (AddsName self.old self.new name.now found) }
+        ensures keyed { (key : ℕ) → HasKey self.old key → HasKey self.new key }
+    {
+        Ok(self.short.insert(number, found)?)
     }
 }

@@ -1,14 +1,9 @@
-// The pairs of records that are linked with each other, and which of the two tells it.
-ghost use Rattle.std.specs.Prelude.{◌≡◌, ℕ, true, IfOk, OnOk, Some, cond, ◌||◌};
-ghost use Rattle.std.specs.HashMap.{get, hasher_of};
-ghost use Rattle.ged_link.specs.inner.LinkWalks.{pair_eq};
-ghost use Rattle.ged_link.specs.inner.PairSets.{in_order as order_of, told_more, links_to, is_listed, lists_have, pairs_have, AreAnswered};
-ghost use Rattle.ged_link.specs.inner.Keys.{links_key as key_of_links};
+// Whether the record that a link leads to points back: looked for where its links should stand, or searched for.
+ghost use Rattle.std.specs.Prelude.{◌≡◌, ℕ, true};
+ghost use Rattle.ged_link.specs.inner.PairSets.{is_listed, lists_have, AreInOrder, IsInOrder, AreAnswered};
 
-use crate::keys::{KeyedNumbers, links_key};
-use crate::link_lists::LinkLists;
-use indexmap::IndexMap;
-use std::alloc::{AllocError, Global};
+use crate::index::RecordPlace;
+use crate::link_lists::{LinkLists, Links};
 
 /// What a person is in a family that is linked with it (FamilySearch GEDCOM 7.0, "INDIVIDUAL_RECORD" and
 /// "FAMILY_RECORD").
@@ -20,143 +15,129 @@ pub(crate) enum Role {
     Child,
 }
 
-/// Which of two linked records points to the other: the one at the lower place, the one at the higher place, or both.
-#[derive(Clone, Copy)]
-pub(crate) struct Told {
-    pub(crate) by_lower: bool,
-    pub(crate) by_higher: bool,
-}
+/// How many links of a record are looked at before all links are sorted: few records have as many of one role.
+const NEAR: usize = 32;
 
-/// A pair of places, the lower one first.
-fn in_order(from: usize, to: usize) -> (usize, usize)
-    ensures { result ≡ order_of (from, to) }
+/// Whether a pair stands among the links that follow each other from an index on and are of the record at its first place. It
+/// may stand elsewhere where the answer is false.
+#[inline(always)]
+fn stands_near(pairs: &[(usize, usize)], start: usize, from: usize, to: usize) -> bool
+    ensures { result ≡ true → is_listed pairs.now (from, to) ≡ true }
 {
-    if from <= to { (from, to) } else { (to, from) }
-}
-
-/// Whether the record at the first place points to the one at the second.
-fn has_link(pairs: &IndexMap<(usize, usize), Told, KeyedNumbers>, from: usize, to: usize) -> bool
-    ensures { result ≡ links_to pairs.now (from, to) }
-{
-    match pairs.get(&in_order(from, to)) {
-        Some(told) => {
-            if from <= to {
-                told.by_lower
-            } else {
-                told.by_higher
-            }
-        }
-        None => false,
-    }
-}
-
-/// What is told, and that the record at the lower place, or else the one at the higher place, points to the other.
-fn told_also(told: Told, by_lower: bool) -> Told
-    ensures { result ≡ told_more (Some told) by_lower }
-{
-    Told {
-        by_lower: told.by_lower || by_lower,
-        by_higher: told.by_higher || !by_lower,
-    }
-}
-
-/// Adds that of a pair the record at the lower place, or else the one at the higher place, points to the other.
-#[tactic(auto, using(crate::proofs::PairLemmas::told_of_new))]
-fn add_told(
-    pairs: &mut IndexMap<(usize, usize), Told, KeyedNumbers>,
-    pair: (usize, usize),
-    by_lower: bool,
-) -> Result<(), AllocError>
-    ensures told { OnOk result ((other : ℕ × ℕ) → get pair_eq pairs.new other
-        ≡ cond (pair_eq pair other) (Some (told_more (get pair_eq pairs.old pair) by_lower)) (get pair_eq pairs.old other)) }
-    ensures hashers { OnOk result (hasher_of pairs.new ≡ hasher_of pairs.old) }
-{
-    let untold = Told {
-        by_lower: false,
-        by_higher: false,
-    };
-    let told = pairs.entry(pair)?.or_insert(untold);
-    *told = told_also(*told, by_lower);
-    Ok(())
-}
-
-/// Adds that the record at the first place points to the one at the second.
-fn add_link(
-    pairs: &mut IndexMap<(usize, usize), Told, KeyedNumbers>,
-    from: usize,
-    to: usize,
-) -> Result<(), AllocError>
-    ensures told { OnOk result ((pair : ℕ × ℕ) → links_to pairs.new pair ≡ (pair_eq pair (from, to) || links_to pairs.old pair)) }
-    ensures hashers { OnOk result (hasher_of pairs.new ≡ hasher_of pairs.old) }
-{
-    add_told(pairs, in_order(from, to), from <= to)
-}
-
-/// Whether each record that is pointed to points back.
-fn are_answered(pairs: &IndexMap<(usize, usize), Told, KeyedNumbers>) -> bool
-    ensures { result ≡ true → (x y : ℕ) → links_to pairs.now (x, y) ≡ true → links_to pairs.now (y, x) ≡ true }
-{
-    for index in 0..pairs.len() {
-        let Some((_, told)) = pairs.get_index(index) else {
+    for index in start..start.saturating_add(NEAR) {
+        let Some((other, place)) = pairs.get(index) else {
             return false;
         };
-        if !told.by_lower || !told.by_higher {
+        if *other != from {
+            return false;
+        }
+        if *place == to {
+            return true;
+        }
+    }
+    false
+}
+
+/// The same for the links from an index up to another one, by halving, which finds each one where they rise, as those of a family
+/// rise whose children have its order.
+#[cold]
+#[inline(never)]
+fn stands_in_order(
+    pairs: &[(usize, usize)],
+    start: usize,
+    end: usize,
+    from: usize,
+    to: usize,
+) -> bool
+    ensures { result ≡ true → is_listed pairs.now (from, to) ≡ true }
+{
+    let Some(group) = pairs.get(start..end) else {
+        return false;
+    };
+    let passed = group.partition_point(|pair: &(usize, usize)| -> bool { pair.1 < to });
+    let Some((other, place)) = pairs.get(start.saturating_add(passed)) else {
+        return false;
+    };
+    *other == from && *place == to
+}
+
+/// Whether a pair is one of the links, if it stands among those of the record at its first place, whose number is handed in. It
+/// may be one of them too where the answer is false.
+#[inline(always)]
+fn stands_there(links: &Links, number: usize, from: usize, to: usize) -> bool
+    ensures { result ≡ true → is_listed links.now.pairs.items (from, to) ≡ true }
+{
+    let next = number.saturating_add(1);
+    let Some(start) = links.starts.get(next) else {
+        return false;
+    };
+    let start = *start as usize;
+    if stands_near(&links.pairs, start, from, to) {
+        return true;
+    }
+    let end = match links.starts.get(next.saturating_add(1)) {
+        Some(end) => *end as usize,
+        None => links.pairs.len(),
+    };
+    stands_in_order(&links.pairs, start, end, from, to)
+}
+
+/// Whether the link at an index, which tells a pair of places, is answered by one that stands where it should.
+#[inline(always)]
+fn is_answered(links: &Links, index: usize, from: usize, to: usize) -> bool
+    ensures { result ≡ true → is_listed links.now.pairs.items (to, from) ≡ true }
+{
+    let Some(number) = links.numbers.get(index) else {
+        return false;
+    };
+    stands_there(links, *number as usize, to, from)
+}
+
+/// Whether each record that is pointed to points back, by links that stand where they should. The links stand in the order of
+/// the file.
+fn all_answered(links: &Links) -> bool
+    ensures { result ≡ true → (x y : ℕ) → is_listed links.now.pairs.items (x, y) ≡ true → is_listed links.now.pairs.items (y, x) ≡ true }
+{
+    for index in 0..links.pairs.len() {
+        let (from, to) = links.pairs[index];
+        if !is_answered(links, index, from, to) {
             return false;
         }
     }
     true
 }
 
-/// The pairs of links. There are half as many where each record that is pointed to points back, as in most files.
-fn pairs_of(
-    alloc: Global,
-    links: &[(usize, usize)],
-) -> Result<IndexMap<(usize, usize), Told, KeyedNumbers>, AllocError>
-    ensures pairs { IfOk result (λ pairs. (pair : ℕ × ℕ) → links_to pairs pair ≡ is_listed links.now pair) }
-    ensures keyed { IfOk result (λ pairs. (hasher_of pairs).key ≡ key_of_links links.now) }
+/// Whether each record that is pointed to points back. It may be so too where the answer is false: then all links are
+/// searched. The links stand in the order of the file. Takes no memory.
+pub(crate) fn are_answered(lists: &LinkLists) -> bool
+    ensures { result ≡ true → AreAnswered lists.now }
 {
-    let hashers = KeyedNumbers {
-        key: links_key(links),
-    };
-    let mut pairs = IndexMap::with_capacity_and_hasher(alloc, links.len() / 2, hashers)?;
-    for (from, to) in links {
-        add_link(&mut pairs, *from, *to)?;
-    }
-    Ok(pairs)
+    all_answered(&lists.partners) && all_answered(&lists.children)
 }
 
-/// The pairs of places of linked records, by the role.
-#[derive(Drop)]
-pub(crate) struct Pairs {
-    partners: IndexMap<(usize, usize), Told, KeyedNumbers>,
-    children: IndexMap<(usize, usize), Told, KeyedNumbers>,
+/// Whether the record at the first place points to the one at the second. Takes no memory.
+fn has_link(pairs: &[(usize, usize)], from: usize, to: usize) -> bool
+    requires { IsInOrder pairs.now }
+    ensures { result ≡ is_listed pairs.now (from, to) }
+{
+    pairs.binary_search(&(from, to)).is_ok()
 }
 
-impl Pairs {
-    /// The pairs of all links. Grows.
-    pub(crate) fn of_links(alloc: Global, lists: &LinkLists) -> Result<Pairs, AllocError>
-        ensures { IfOk result (λ pairs. (role : Role) (pair : ℕ × ℕ) → pairs_have pairs role pair ≡ lists_have lists.now role pair) }
-    {
-        Ok(Pairs {
-            partners: pairs_of(alloc, &lists.partners)?,
-            children: pairs_of(alloc, &lists.children)?,
-        })
-    }
+/// The same for a record, whose links stand where they should or elsewhere.
+fn has_one(links: &Links, from: RecordPlace, to: usize) -> bool
+    requires { IsInOrder links.now.pairs.items }
+    ensures { result ≡ is_listed links.now.pairs.items (from.place, to) }
+{
+    stands_there(links, from.number, from.place, to) || has_link(&links.pairs, from.place, to)
+}
 
-    /// Whether the record at the first place points to the one at the second.
-    pub(crate) fn has(&self, role: Role, from: usize, to: usize) -> bool
-        ensures { result ≡ pairs_have self.now role (from, to) }
-    {
-        match role {
-            Role::Partner => has_link(&self.partners, from, to),
-            Role::Child => has_link(&self.children, from, to),
-        }
-    }
-
-    /// Whether each record that is pointed to points back.
-    pub(crate) fn are_answered(&self) -> bool
-        ensures { result ≡ true → AreAnswered self.now }
-    {
-        are_answered(&self.partners) && are_answered(&self.children)
+/// Whether a record points to the one at a place, where the links are sorted. Takes no memory.
+pub(crate) fn has(lists: &LinkLists, role: Role, from: RecordPlace, to: usize) -> bool
+    requires { AreInOrder lists.now }
+    ensures { result ≡ lists_have lists.now role (from.place, to) }
+{
+    match role {
+        Role::Partner => has_one(&lists.partners, from, to),
+        Role::Child => has_one(&lists.children, from, to),
     }
 }

@@ -1,5 +1,5 @@
 // Where the pointers of a document lead: the records that they name, and the links between records.
-ghost use Rattle.std.specs.Prelude.{◌≡◌, ◌<◌, ◌≤◌, ◌+◌, ◌⊎◌, ℕ, IfOk, IfErr, OnOk, length, nat_eq, ◌&&◌, ◌||◌, alloc_error};
+ghost use Rattle.std.specs.Prelude.{◌≡◌, ◌<◌, ◌≤◌, ◌+◌, ◌⊎◌, ℕ, IfOk, IfErr, OnOk, length, nat_eq, ◌&&◌, ◌||◌, option_map, alloc_error};
 ghost use Rattle.ged_tree.specs.Trees.{records_of, trees_count};
 ghost use Rattle.ged_tree.specs.Places.{structure_at};
 ghost use Rattle.ged_tree.specs.Runs.{trees_between, IsRun};
@@ -10,10 +10,12 @@ ghost use Rattle.ged_link.specs.inner.LinkWalks.{target, linked, is_place, has_l
 ghost use Rattle.ged_link.specs.inner.PairSets.{lists_have, AreLinks};
 ghost use Rattle.ged_link.specs.Targets.{AreTargets};
 ghost use Rattle.ged_link.specs.inner.Resolving.{AreFollowed, AreUsed};
+ghost use Rattle.ged_link.specs.declared.index.RecordPlace.{RecordPlace};
 ghost use Rattle.ged_link.specs.declared.pairs.Role.{Role};
 ghost use Rattle.ged_link.specs.declared.fault.LinkFault.TheVariants.{Memory};
 
 use crate::fault::LinkFault;
+use crate::index::RecordPlace;
 use crate::link_lists::LinkLists;
 use crate::links::role_of;
 use crate::names::Names;
@@ -30,7 +32,7 @@ pub(crate) struct Followed {
     pub(crate) targets: Vec<Target>,
 }
 
-/// Marks the record that the structure at a place points to, and answers its place, or `None` where no pointer stands; or
+/// Marks the record that the structure at a place points to, and answers where it stands, or `None` where no pointer stands; or
 /// the fault of a pointer that names no record.
 #[inline(always)]
 fn follow<F: Forest>(
@@ -38,13 +40,13 @@ fn follow<F: Forest>(
     records: &Names,
     place: usize,
     followed: &mut Followed,
-) -> Result<Option<usize>, LinkFault>
+) -> Result<Option<RecordPlace>, LinkFault>
     requires within { place < trees_count (F.trees forest.now) }
     requires records { AreRecords (F.trees forest.now) records.now }
     requires distinct { (place : ℕ) → IsRepeated (F.trees forest.now) place → ⊥ }
     requires used { AreFollowed (F.trees forest.now) place followed.old }
     ensures used { OnOk result (AreFollowed (F.trees forest.now) (place + 1) followed.new) }
-    ensures target { IfOk result (λ found. found ≡ target (place_in records.now) (structure_at (F.trees forest.now) place).payload) }
+    ensures target { IfOk result (λ found. option_map (λ (r : RecordPlace). r.place) found ≡ target (place_in records.now) (structure_at (F.trees forest.now) place).payload) }
     ensures fault { IfErr result (λ fault. (fault ≡ Memory alloc_error) ⊎ HasLinkFault (F.trees forest.now) fault) }
 {
     if !forest.points(place) {
@@ -60,7 +62,7 @@ fn follow<F: Forest>(
     let Ok(()) = push_target(&mut followed.targets, place, found.number) else {
         return Err(LinkFault::Memory(AllocError));
     };
-    Ok(Some(found.place))
+    Ok(Some(found))
 }
 
 /// Marks the records that the structures from a place on point to, up to an end; or the fault of the first pointer there
@@ -149,6 +151,9 @@ fn follow_record<F: Forest>(
         || lists_have lists.old role pair)) }
     ensures fault { IfErr result (λ fault. (fault ≡ Memory alloc_error) ⊎ HasLinkFault (F.trees forest.now) fault) }
 {
+    let Ok(()) = lists.begin_record() else {
+        return Err(LinkFault::Memory(AllocError));
+    };
     if let Err(fault) = follow(forest, records, from, followed) {
         return Err(fault);
     }

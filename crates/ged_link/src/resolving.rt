@@ -1,25 +1,23 @@
 // Whether each pointer names one record, and the index of the records.
-ghost use Rattle.std.specs.Prelude.{◌≡◌, ◌⊎◌, ℕ, true, IfOk, IfErr, length, alloc_error};
+ghost use Rattle.std.specs.Prelude.{◌≡◌, ◌⊎◌, ℕ, true, IfOk, IfErr, OnOk, length, alloc_error, is_none};
 ghost use Rattle.ged_tree.specs.Trees.{records_of, trees_count};
 ghost use Rattle.ged_tree.specs.Documents.{is_document};
 ghost use Rattle.ged_tree.specs.Runs.{trees_between, IsRun};
 ghost use Rattle.ged_link.specs.Links.{Resolved, identifiers};
 ghost use Rattle.ged_link.specs.LinkFaults.{HasLinkFault, IsRepeated};
 ghost use Rattle.ged_link.specs.Places.{ArePlaces};
-ghost use Rattle.ged_link.specs.Indexes.{IsIndexOf, AreRecords, AreTyped, place_in};
-ghost use Rattle.ged_link.specs.inner.Indexes.{HasKey};
-ghost use Rattle.ged_link.specs.inner.LinkWalks.{one_way_places};
-ghost use Rattle.ged_link.specs.inner.PairSets.{AreLinks};
-ghost use Rattle.ged_link.specs.inner.Keys.{names_key as key_of_names};
+ghost use Rattle.ged_link.specs.Indexes.{IsIndexOf, AreRecords, AreTyped, found_in};
+ghost use Rattle.ged_link.specs.inner.Indexes.{IsKeyed};
+ghost use Rattle.ged_link.specs.inner.Resolving.{AddsName};
+ghost use Rattle.ged_link.specs.inner.Slots.{HasNoSlot};
 ghost use Rattle.ged_link.specs.declared.fault.LinkFault.TheVariants.{Memory};
 
 use crate::fault::LinkFault;
 use crate::index::{Index, RecordPlace};
 use crate::keys::names_key;
-use crate::link_lists::LinkLists;
+use crate::layout::slots_for;
 use crate::links::find_one_way;
 use crate::names::Names;
-use crate::pairs::Pairs;
 use crate::places::kept_place;
 use crate::pointers::follow_pointers;
 use crate::record_type::{RecordType, type_of};
@@ -35,7 +33,7 @@ pub fn resolve<F: Forest>(alloc: Global, forest: &F) -> Result<Index, LinkFault>
 {
     let (records, types, places) = find_records(alloc, forest)?;
     let (followed, lists) = follow_pointers(alloc, forest, &records, types.len())?;
-    let Ok(one_way) = one_way_of(alloc, forest, &records, &lists) else {
+    let Ok(one_way) = find_one_way(alloc, forest, &records, lists) else {
         return Err(LinkFault::Memory(AllocError));
     };
     Ok(Index {
@@ -45,21 +43,6 @@ pub fn resolve<F: Forest>(alloc: Global, forest: &F) -> Result<Index, LinkFault>
         followed,
         one_way,
     })
-}
-
-/// The places of all links in one direction only, in order, where all links are listed.
-fn one_way_of<F: Forest>(
-    alloc: Global,
-    forest: &F,
-    records: &Names,
-    lists: &LinkLists,
-) -> Result<Vec<usize>, AllocError>
-    requires records { AreRecords (F.trees forest.now) records.now }
-    requires links { AreLinks (place_in records.now) (F.trees forest.now) lists.now }
-    ensures { IfOk result (λ places. places.items ≡ one_way_places (place_in records.now) (F.trees forest.now) 0 (F.trees forest.now)) }
-{
-    let pairs = Pairs::of_links(alloc, lists)?;
-    find_one_way(alloc, forest, records, &pairs)
 }
 
 /// The place of the first record. The run of records goes on to the end of all.
@@ -74,6 +57,50 @@ fn first_record<F: Forest>(forest: &F, end: usize) -> usize
     }
 }
 
+/// Adds a record by its name, which has no slot. The first such record gives the maps their key, of all names from its own on.
+#[cold]
+#[inline(never)]
+fn add_other<F: Forest>(
+    alloc: Global,
+    forest: &F,
+    end: usize,
+    records: &mut Names,
+    name: &str,
+    found: RecordPlace,
+) -> Result<bool, AllocError>
+    requires run { IsRun (F.trees forest.now) found.place end }
+    requires missed { HasNoSlot records.old name.now }
+    ensures is_new { IfOk result (λ is_new. is_new ≡ is_none (found_in records.old name.now)) }
+    ensures added { OnOk result (AddsName records.old records.new name.now found) }
+    ensures keyed { IsKeyed (F.trees forest.now) end records.old → OnOk result (IsKeyed (F.trees forest.now) end records.new) }
+{
+    if records.has_no_others() {
+        records.begin(alloc, names_key(forest, found.place, end));
+    }
+    records.insert(alloc, name, found)
+}
+
+/// Adds a record by its name, in the name's slot or else in a map. The answer is whether no record had the name. Grows.
+#[inline(always)]
+fn add_record<F: Forest>(
+    alloc: Global,
+    forest: &F,
+    end: usize,
+    records: &mut Names,
+    name: &str,
+    found: RecordPlace,
+) -> Result<bool, AllocError>
+    requires { IsRun (F.trees forest.now) found.place end }
+    ensures is_new { IfOk result (λ is_new. is_new ≡ is_none (found_in records.old name.now)) }
+    ensures added { IfOk result (λ is_new. is_new ≡ true → AddsName records.old records.new name.now found) }
+    ensures keyed { IsKeyed (F.trees forest.now) end records.old → OnOk result (IsKeyed (F.trees forest.now) end records.new) }
+{
+    if let Some(is_new) = records.keep(name, found) {
+        return Ok(is_new);
+    }
+    add_other(alloc, forest, end, records, name, found)
+}
+
 /// The records by their identifiers, and the type and the place of each record; or the fault of the first record whose
 /// identifier an earlier one has.
 fn find_records<F: Forest>(
@@ -81,7 +108,7 @@ fn find_records<F: Forest>(
     forest: &F,
 ) -> Result<(Names, Vec<Option<RecordType>>, Vec<u32>), LinkFault>
     ensures records { IfOk result (λ found. AreRecords (F.trees forest.now) found.0) }
-    ensures keyed { IfOk result (λ found. HasKey found.0 (key_of_names (identifiers (records_of (F.trees forest.now))))) }
+    ensures keyed { IfOk result (λ found. IsKeyed (F.trees forest.now) (trees_count (F.trees forest.now)) found.0) }
     ensures types { IfOk result (λ found. AreTyped (F.trees forest.now) found.0 found.1.items) }
     ensures places { IfOk result (λ found. ArePlaces (F.trees forest.now) found.2.items) }
     ensures count { IfOk result (λ found. length found.1.items ≡ length (identifiers (records_of (F.trees forest.now)))) }
@@ -91,7 +118,10 @@ fn find_records<F: Forest>(
 {
     let end = end_of_all(forest);
     let mut place = first_record(forest, end);
-    let mut records = Names::new(alloc, names_key(forest, place, end));
+    let Ok(slots) = slots_for(alloc, forest, place, end) else {
+        return Err(LinkFault::Memory(AllocError));
+    };
+    let mut records = Names::new(alloc, slots);
     let mut types = Vec::new(alloc);
     let mut places = Vec::new(alloc);
     while let Some(after) = next_in_run(forest, place, end) {
@@ -100,7 +130,7 @@ fn find_records<F: Forest>(
                 number: types.len(),
                 place,
             };
-            match records.insert(alloc, name, found) {
+            match add_record(alloc, forest, end, &mut records, name, found) {
                 Ok(true) => {}
                 Ok(false) => return Err(LinkFault::Duplicate(forest.line(place))),
                 Err(_) => return Err(LinkFault::Memory(AllocError)),

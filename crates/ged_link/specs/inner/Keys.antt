@@ -1,6 +1,6 @@
 -- Nothing here need be believed: only private contracts and proofs cite it.
--- The keys that the maps' hashers begin with: a hash of all names, or of all links, that a map is to hold.
-use Rattle.std.specs.Prelude.{ℕ, ◌+◌, ◌-◌, ◌*◌, ◌^◌, List, [], ◌∷◌, ◌++◌, Option, Some, None, length, fold}
+-- The keys that the maps' hashers begin with: a hash of all names that a map is to hold.
+use Rattle.std.specs.Prelude.{ℕ, ◌-◌, ◌^◌, List, [], ◌∷◌, ◌++◌, Option, Some, None, length, fold}
 use Rattle.std.specs.Hash.{HashWrites}
 use Rattle.std.specs.Hash as fed
 use Rattle.std.specs.Hash.DefaultHasher.{initial, write, finish}
@@ -20,10 +20,3 @@ fed_name hasher (Some name) = fold write hasher (name_writes name (short_number 
 
 abbrev pub names_key : List (Option Bytes) → ℕ
 names_key names = finish (fold fed_name initial names)
-
--- a link, the places of the record that points and of the one that it points to, is written as one number
-abbrev pub fed_link : DefaultHasher → ℕ × ℕ → DefaultHasher
-fed_link hasher link = fold write hasher (fed.u128 (link.0 * 2 ^ 64 + link.1))
-
-abbrev pub links_key : List (ℕ × ℕ) → ℕ
-links_key links = finish (fold fed_link initial links)

@@ -1,4 +1,4 @@
-use Rattle.std.proofs.Common.{◌≡◌, ◌+◌, ◌++◌, ◌∷◌, [], List, Option, Some, inr, sym, ap, ◌∙◌, refl, arith, subst, length, ℕ, length-append}
+use Rattle.std.proofs.Common.{◌≡◌, ◌+◌, ◌++◌, ◌∷◌, [], List, Option, Some, inl, inr, sym, ap, ◌∙◌, refl, arith, subst, length, ℕ, length-append}
 use Rattle.std.specs.Option.{option_copied}
 use Rattle.ged_line.specs.Bytes.{Bytes}
 use Rattle.ged_tree.specs.Trees.{records_of}
@@ -11,8 +11,7 @@ use Rattle.ged_link.specs.declared.index.RecordPlace.{RecordPlace}
 use Rattle.ged_link.specs.declared.record_type.RecordType.{RecordType}
 use Rattle.ged_link.specs.RecordTypes.{IsTypeOf}
 use Rattle.ged_link.specs.Indexes.{found_in, AreTyped}
-use Rattle.ged_link.specs.inner.Indexes.{HasKey}
-use Rattle.ged_link.specs.inner.Keys.{names_key}
+use Rattle.ged_link.specs.inner.Indexes.{IsKeyed}
 use Rattle.ged_link.specs.inner.Resolving.{AreRecordsBefore}
 use Rattle.ged_link.proofs.RecordLemmas.{whole_end, records_start, typed_start, records_level, records_kept, records_more, numbered_here, typed_kept, typed_more, level_next, left_after, number_within, records_all, records_count, none_repeated_all, first_repeated, none_of_new, some_of_old}
 use Rattle.ged_link.proofs.KeptPlaces.{none_placed, placed_more}
@@ -36,7 +35,7 @@ loop-after-init g c =
       fits = omega (arith, empty);
       found = rw empty (records_start w document c.first_record-place.result c.end_of_all-end.result whole run is c.new-records.result c.new-records.ensures.none);
       typed = typed_start w c.new-records.result c.new-types.result.items c.new-records.ensures.none;
-      keyed = subst (λ (key : ℕ). HasKey c.new-records.result key) (c.names_key.ensures ∙ ap (λ trees. names_key (identifiers trees)) is) c.new-records.ensures.keyed;
+      keyed = inl c.new-records.ensures.others;
       long = omega (arith, empty, c.new-places.ensures.len, c.new-places.result.ok);
       at_places = none_placed w c.new-places.result.items c.new-places.ensures.items;
     }
@@ -63,21 +62,20 @@ loop-after-preserved g c =
     let step : IsStep w p e a = c.in-Some.ensures in
     let more = c.type_of.result in
     let of_type : IsTypeOf more (structure_at w p).tag = subst (λ (tag : Bytes). IsTypeOf more tag) c.tag.ensures c.type_of.ensures in
-    let key = names_key (identifiers (records_of w)) in
-    let found : AreRecordsBefore w a (k + 1) c.match-xref.records × (AreTyped w c.match-xref.records (types ++ more ∷ []) × HasKey c.match-xref.records key) = elim c.match-xref.branch [
+    let found : AreRecordsBefore w a (k + 1) c.match-xref.records × (AreTyped w c.match-xref.records (types ++ more ∷ []) × IsKeyed w e c.match-xref.records) = elim c.match-xref.branch [
       | in-Some-xref+in-Ok-true v ↦ (
           let name = v.in-Some-xref.name.now in
           let here : (structure_at w p).xref ≡ Some name = sym c.xref.ensures ∙ ap option_copied v.in-Some-xref.is in
-          let new : Names = v.insert.new.self in
+          let new : Names = v.add_record.new.records in
           let one : RecordPlace = record { number = v.len.result; place = p } in
           let at_number : one.number ≡ k = omega (arith, v.len.ensures, c.loop-after.types.ok) in
           let fresh = none_of_new (found_in old name) (sym v.in-Ok-true.ensures.is_new ∙ v.in-Ok-true.field-0-test) in
-          let adds = v.in-Ok-true.ensures.added in
+          let adds = v.in-Ok-true.ensures.added v.in-Ok-true.field-0-test in
           rw v.records-is (
             records_more w p e a k step inv.level inv.left old new name one refl at_number here fresh adds inv.found,
             (
               typed_more w p e a k step inv.level inv.left old new types more name one refl refl at_number of_type adds inv.found inv.typed,
-              v.in-Ok-true.ensures.keyed key inv.keyed,
+              v.in-Ok-true.ensures.keyed inv.keyed,
             ),
           ))
       | in_default-xref v ↦ rw v.records-is (
@@ -85,8 +83,8 @@ loop-after-preserved g c =
         (typed_kept w p e a k step inv.level inv.left old types more refl inv.found inv.typed, inv.keyed),
       )
     ] in
-    let pushed : c.push-in-Some.new.self.items ≡ types ++ more ∷ [] = c.in-Ok-push.ensures.items in
-    let placed : c.push.new.self.items ≡ c.loop-after.places.items ++ c.kept_place.result ∷ [] = c.in-Ok.ensures.items in
+    let pushed : c.push-in-Some.new.self.items ≡ types ++ more ∷ [] = c.in-Ok-push-2.ensures.items in
+    let placed : c.push.new.self.items ≡ c.loop-after.places.items ++ c.kept_place.result ∷ [] = c.in-Ok-push.ensures.items in
     let placed_long : length c.push.new.self.items ≡ length c.loop-after.places.items + 1 = ap (λ (ps : List ℕ). length ps) placed ∙ length-append c.loop-after.places.items (c.kept_place.result ∷ []) in
     let long : length c.push-in-Some.new.self.items ≡ k + 1 = ap (λ (ts : List (Option RecordType)). length ts) pushed ∙ length-append types (more ∷ []) in
     record {
@@ -107,16 +105,22 @@ pub returns-clause-records : goal.returns-clause-records
 returns-clause-records g c =
     let w = g.F.Forest.trees c.args.forest.now in
     let inv = c.loop-after.invariant in
-    records_all w c.loop-after.place (length c.loop-after.types.items) c.end_of_all-end.result c.loop-after.records inv.whole inv.run c.in_default.ensures inv.left inv.found
+    records_all w c.loop-after.place (length c.loop-after.types.items) c.end_of_all-end.result c.loop-after.records inv.whole inv.run c.in_default-next_in_run.ensures inv.left inv.found
 
 pub returns-clause-count : goal.returns-clause-count
 returns-clause-count g c =
     let w = g.F.Forest.trees c.args.forest.now in
     let inv = c.loop-after.invariant in
-    records_count w c.loop-after.place (length c.loop-after.types.items) c.end_of_all-end.result c.in_default.ensures inv.left inv.few
+    records_count w c.loop-after.place (length c.loop-after.types.items) c.end_of_all-end.result c.in_default-next_in_run.ensures inv.left inv.few
 
 pub returns-clause-distinct : goal.returns-clause-distinct
 returns-clause-distinct g c =
     let w = g.F.Forest.trees c.args.forest.now in
     let inv = c.loop-after.invariant in
-    none_repeated_all w c.loop-after.place (length c.loop-after.types.items) c.end_of_all-end.result c.loop-after.records inv.whole inv.run c.in_default.ensures inv.found
+    none_repeated_all w c.loop-after.place (length c.loop-after.types.items) c.end_of_all-end.result c.loop-after.records inv.whole inv.run c.in_default-next_in_run.ensures inv.found
+
+pub returns-clause-keyed : goal.returns-clause-keyed
+returns-clause-keyed g c =
+    let w = g.F.Forest.trees c.args.forest.now in
+    let inv = c.loop-after.invariant in
+    subst (λ (end : ℕ). IsKeyed w end c.loop-after.records) inv.whole inv.keyed

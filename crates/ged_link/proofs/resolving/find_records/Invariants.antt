@@ -4,8 +4,7 @@ use Rattle.ged_tree.specs.Documents.{are_at}
 use Rattle.ged_tree.specs.Runs.{trees_between, IsRun}
 use Rattle.ged_link.specs.Links.{identifiers}
 use Rattle.ged_link.specs.Indexes.{AreTyped}
-use Rattle.ged_link.specs.inner.Indexes.{HasKey}
-use Rattle.ged_link.specs.inner.Keys.{names_key}
+use Rattle.ged_link.specs.inner.Indexes.{IsKeyed}
 use Rattle.ged_link.specs.Places.{ArePlaces}
 use Rattle.ged_link.specs.inner.Resolving.{AreRecordsBefore}
 use Rattle.ged_link.proofs.resolving.find_records.Given as goal
@@ -22,7 +21,7 @@ invariant-loop-after g l =
       fits : length l.types.items ≤ l.place;
       found : AreRecordsBefore trees l.place (length l.types.items) l.records;
       typed : AreTyped trees l.records l.types.items;
-      keyed : HasKey l.records (names_key (identifiers (records_of trees)));
+      keyed : IsKeyed trees l.end l.records;
       long : length l.places.items ≡ length l.types.items;
       at_places : ArePlaces trees l.places.items;
     }

@@ -7,9 +7,14 @@ use Rattle.std.proofs.lemmas.Map.Text.{hash_map_updates_text}
 use Rattle.ged_line.specs.Bytes.{Bytes}
 use Rattle.ged_link.specs.declared.names.Names.{Names}
 use Rattle.ged_link.specs.inner.Resolving.{AddsName}
-use Rattle.ged_link.proofs.NameLemmas.{added_short, added_long}
+use Rattle.ged_link.proofs.NameLemmas.{added_long}
 use Rattle.ged_link.proofs.names.Names.insert.Goals as goal
 use Rattle.ged_link.proofs.names.Names.insert.Goals.{in-Some+in_ok-before-in-Some, in-None+in_ok-key-in-None+in_ok-before-in-None}
+
+pub insert_short-requires : goal.insert_short-requires
+insert_short-requires c =
+    let is = sym c.number_of.ensures ∙ c.in-Some.is in
+    record { number = is; missed = c.requires c.in-Some.number is }
 
 pub returns-clause-added : goal.returns-clause-added
 returns-clause-added c =
@@ -17,15 +22,12 @@ returns-clause-added c =
     let name = c.args.name.now in
     let found = c.args.found in
     elim c.match-number_of.branch [
-      | in-Some+in_ok-before-in-Some w ↦ (
-          let new : Names = record { short = w.insert.new.self; long = old.long } in
-          subst (λ (records : Names). AddsName old records name found) (sym w.self-is)
-          (added_short old new name found w.in-Some.number (sym c.number_of.ensures ∙ w.in-Some.is) w.in_ok-before-in-Some.ensures.updates.0 refl))
+      | in-Some+in_ok-before-in-Some w ↦ subst (λ (records : Names). AddsName old records name found) (sym w.self-is) w.in_ok-before-in-Some.ensures.added
       | in-None+in_ok-key-in-None+in_ok-before-in-None w ↦ (
-          let new : Names = record { short = old.short; long = w.insert-in-None.new.self } in
+          let new : Names = record { slots = old.slots; short = old.short; long = w.insert.new.self } in
           subst (λ (records : Names). AddsName old records name found) (sym w.self-is)
           (added_long old new name found (sym c.number_of.ensures ∙ w.in-None.is) (λ other. subst
           (λ (bytes : Bytes). get_by_text new.long other ≡ (if bytes_eq bytes other then Some found else get_by_text old.long other))
           w.in_ok-key-in-None.ensures.ok
-          (hash_map_updates_text (string_bytes w.in_ok-key-in-None.key) old.long new.long (Some found) w.in_ok-before-in-None.ensures.updates other)) refl))
+          (hash_map_updates_text (string_bytes w.in_ok-key-in-None.key) old.long new.long (Some found) w.in_ok-before-in-None.ensures.updates other)) refl refl))
     ]

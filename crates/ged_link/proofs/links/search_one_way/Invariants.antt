@@ -2,7 +2,7 @@ use Rattle.std.proofs.Common.{◌-◌, ◌≡◌, ◌++◌}
 use Rattle.ged_tree.specs.Runs.{trees_between, IsRun}
 use Rattle.ged_link.specs.Indexes.{place_in}
 use Rattle.ged_link.specs.inner.LinkWalks.{one_way_places}
-use Rattle.ged_link.proofs.links.find_one_way.Given as goal
+use Rattle.ged_link.proofs.links.search_one_way.Given as goal
 
 abbrev pub invariant-loop-after : goal.invariant-loop-after
 invariant-loop-after g l =
