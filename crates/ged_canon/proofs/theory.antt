@@ -6,6 +6,7 @@ pub mod Examples
 pub mod Family
 pub mod Fixed
 pub mod Heads
+pub mod InPlace
 pub mod Keeps
 pub mod Moves
 pub mod NormalTests
@@ -19,6 +20,8 @@ pub mod Sorting
 pub mod Stays
 pub mod StepForms
 pub mod Texts
+pub mod Tidy
+pub mod TidyEditions
 pub mod Undone
 pub mod Unique
 pub mod Used

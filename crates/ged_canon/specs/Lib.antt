@@ -2,4 +2,6 @@ pub mod Steps
 pub mod Normal
 pub mod CanonText
 pub mod Laws
+pub mod Tidy
+pub mod TidyLaws
 pub mod inner

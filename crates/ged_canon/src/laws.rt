@@ -1,10 +1,12 @@
-// Laws of the normal form. The functions do nothing: their contracts are proved.
+// Laws of the normal form and of the tidy form. The functions do nothing: their contracts are proved.
 ghost use Rattle.std.specs.Prelude.{◌≡◌, true};
+ghost use Rattle.ged_line.specs.Bytes.{Bytes};
 ghost use Rattle.ged_tree.specs.Documents.{is_document};
-ghost use Rattle.ged_link.specs.Links.{Resolved};
+ghost use Rattle.ged_link.specs.Links.{IsAmong, xrefs, IsNamed, Resolved};
 ghost use Rattle.ged_schema.specs.Checked.{Checked};
 ghost use Rattle.ged_schema.specs.Profiles.{NoNotice};
 ghost use Rattle.ged_canon.specs.Laws.{NormalFormIsUnique, NormalFormExists, EqualNormalForms, IsKept, EquivalentIsSymmetric, EquivalentIsTransitive, StepIsUndone, StepKeeps, EditionsAgree, SecondIsNormalInFirst};
+ghost use Rattle.ged_canon.specs.TidyLaws.{TidyFormIsUnique, TidyFormExists, EqualTidyForms, PlaceStepIsUndone, InPlaceIsSymmetric, InPlaceIsTransitive, InPlaceIsEquivalent, IsKeptInPlace, NormalFormOfTidy, NormalIsTidy, TidyEditionsAgree, SecondIsTidyInFirst};
 
 /// Two normal documents of which one becomes the other by steps are equal.
 pub fn normal_form_is_unique()
@@ -48,4 +50,42 @@ pub fn steps()
 pub fn editions_agree()
     ensures one_second { EditionsAgree }
     ensures normal_in_first { SecondIsNormalInFirst }
+{}
+
+/// Two tidy documents of which one becomes the other by steps at places are equal.
+pub fn tidy_form_is_unique()
+    ensures { TidyFormIsUnique }
+{}
+
+/// Each document that is as the structure tables ask has a tidy form.
+pub fn tidy_form_exists()
+    ensures { TidyFormExists }
+{}
+
+/// The tidy forms of two documents are equal exactly when one document becomes the other by steps at places.
+pub fn equal_tidy_forms()
+    ensures { EqualTidyForms }
+{}
+
+/// A step at a place is undone by one, and steps may follow steps. They are steps, and keep identifiers and pointers.
+pub fn steps_in_place()
+    ensures undone { PlaceStepIsUndone }
+    ensures symmetric { InPlaceIsSymmetric }
+    ensures transitive { InPlaceIsTransitive }
+    ensures equivalent { InPlaceIsEquivalent }
+    ensures identifiers { (name : Bytes) → IsKeptInPlace (λ d. IsAmong name (xrefs d)) }
+    ensures pointers { (name : Bytes) → IsKeptInPlace (λ d. IsNamed d name) }
+{}
+
+/// The normal forms of a document are those of its tidy form, and a normal document is tidy.
+pub fn normal_form_of_tidy()
+    ensures normal_form { NormalFormOfTidy }
+    ensures tidy { NormalIsTidy }
+{}
+
+/// Documents with one tidy form of the first edition have one of the second, and what is tidy in the second edition is tidy in
+/// the first.
+pub fn editions_agree_in_place()
+    ensures one_second { TidyEditionsAgree }
+    ensures tidy_in_first { SecondIsTidyInFirst }
 {}

@@ -9,8 +9,9 @@ mod writer;
 
 pub use edition::Edition;
 pub use laws::{
-    editions_agree, equal_normal_forms, equivalence, normal_form_exists, normal_form_is_accepted,
-    normal_form_is_unique, steps,
+    editions_agree, editions_agree_in_place, equal_normal_forms, equal_tidy_forms, equivalence,
+    normal_form_exists, normal_form_is_accepted, normal_form_is_unique, normal_form_of_tidy, steps,
+    steps_in_place, tidy_form_exists, tidy_form_is_unique,
 };
 pub use normal::{is_normal, is_normal_in};
 pub use owned::documents::{canonical, canonical_in};

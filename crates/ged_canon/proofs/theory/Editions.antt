@@ -31,7 +31,7 @@ change_second context _ _ (exchange s t b c next ne) = exchange s t b c next ne
 change_second context _ _ (leave_out s p q b next h) = leave_out s p q b next (respelt_second (row context s.tag) p q h)
 change_second context _ _ (put_in s p q b next h) = put_in s p q b next (respelt_second (row context s.tag) p q h)
 
-somewhere_second : (context : Context) (xs ys : Trees) → Somewhere (Change First) context xs ys → Somewhere (Change Second) context xs ys
+pub somewhere_second : (context : Context) (xs ys : Trees) → Somewhere (Change First) context xs ys → Somewhere (Change Second) context xs ys
 somewhere_second context xs ys (here h) = here (change_second context xs ys h)
 somewhere_second context _ _ (under {t = t} {u = u} s next h) = under s next (somewhere_second (context_below context s.tag) t u h)
 somewhere_second context _ _ (later {t = t} {u = u} s below h) = later s below (somewhere_second context t u h)
@@ -57,7 +57,7 @@ brief_first r (Text []) h = tt
 brief_first r (Text (line ∷ [])) h = record { no_calendar = h.no_calendar; no_leading_zero = λ s. absurd (first_second s) }
 brief_first r (Text (line ∷ (next ∷ lines))) h = tt
 
-normal_first : (context : Context) (xs : Trees) → AreNormal Second context xs → AreNormal First context xs
+pub normal_first : (context : Context) (xs : Trees) → AreNormal Second context xs → AreNormal First context xs
 normal_first context none h = tt
 normal_first context (tree s below next) h = (brief_first (row context s.tag) s.payload h.0, h.1, normal_first (context_below context s.tag) below h.2, normal_first context next h.3)
 

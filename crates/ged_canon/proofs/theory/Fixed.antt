@@ -5,7 +5,7 @@ use Rattle.std.proofs.lemmas.Bool.{or_left, or_right}
 use Rattle.ged_line.specs.Bytes.{Bytes}
 use Rattle.ged_tree.specs.declared.owned.payload.Payload.{Payload}
 use Rattle.ged_tree.specs.declared.owned.payload.Payload.TheVariants.{Void, Pointer, Text}
-use Rattle.ged_tree.specs.Trees.{Trees, none, tree}
+use Rattle.ged_tree.specs.Trees.{Trees, none, tree, records_of}
 use Rattle.ged_link.specs.Links.{IsAmong, with_xref, xrefs, Names, IsNamed}
 use Rattle.ged_schema.specs.declared.context.Context.{Context}
 use Rattle.ged_schema.specs.declared.context.Context.TheVariants.{File}
@@ -40,7 +40,7 @@ pub with_others : (x : Option Bytes) (others : List Bytes) (name : Bytes) → Is
 with_others None others name h = h
 with_others (Some first) others name h = inr h
 
-used_all : (used : Bytes → Bool) (xs : Trees) → ((name : Bytes) → IsAmong name (xrefs xs) → used name ≡ true) → used_trees used xs ≡ xs
+pub used_all : (used : Bytes → Bool) (xs : Trees) → ((name : Bytes) → IsAmong name (xrefs xs) → used name ≡ true) → used_trees used xs ≡ xs
 used_all used none h = refl
 used_all used (tree s below next) h =
     let x = used_xref_same used s.xref (xrefs next) h in
@@ -62,13 +62,12 @@ sorted_same edition context (tree s below next) h o =
     let calm : brief_structure edition context s ≡ s = λ i. with_payload s (brief_payload_same edition (row context s.tag) s.payload h.0 i) in
     rw (deep, rest, calm) (put_first s below next o)
 
-sorted_document_same : (edition : Edition) (d : Trees) → Normal edition d → sorted_document edition d ≡ d
-sorted_document_same edition none h = refl
-sorted_document_same edition (tree s below next) h =
-    let p = h.places in
-    let deep = sorted_same edition (context_below File s.tag) below p.2 p.1 in
-    let rest = sorted_same edition File next p.3 h.records_in_order in
-    λ i. tree (with_payload s (brief_payload_same edition (row File s.tag) s.payload p.0 i)) (deep i) (rest i)
+pub sorted_document_same : (edition : Edition) (d : Trees) → AreNormal edition File d → InOrder (tags (records_of d)) → sorted_document edition d ≡ d
+sorted_document_same edition none h o = refl
+sorted_document_same edition (tree s below next) h o =
+    let deep = sorted_same edition (context_below File s.tag) below h.2 h.1 in
+    let rest = sorted_same edition File next h.3 o in
+    λ i. tree (with_payload s (brief_payload_same edition (row File s.tag) s.payload h.0 i)) (deep i) (rest i)
 
 -- Numbers.
 
@@ -100,5 +99,5 @@ pub canon_same : (edition : Edition) (d : Trees) → Normal edition d → canon 
 canon_same edition d h =
     let u : used_document d ≡ d = used_all (is_named d) d (λ name k. is_named-true d name (h.xrefs_used name k)) in
     ap (λ x. numbered_document (sorted_document edition x)) u
-    ∙ ap numbered_document (sorted_document_same edition d h)
+    ∙ ap numbered_document (sorted_document_same edition d h.places h.records_in_order)
     ∙ trees_alone (number_of 1 (xrefs d)) (λ name. number_same 1 (xrefs d) name h.xrefs_numbered) d

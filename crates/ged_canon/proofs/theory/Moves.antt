@@ -72,7 +72,7 @@ change_documents edition _ _ d e (exchange s t b c next ne) used = absurd (ne (h
 change_documents edition _ _ d e (leave_out s p q b next h) used = ap (λ x. tree (with_payload (used_structure used s) x) (sorted edition (context_below File s.tag) b) (sorted edition File (used_trees used next))) (respelt_brief edition (row File s.tag) p q h)
 change_documents edition _ _ d e (put_in s p q b next h) used = ap (λ x. tree (with_payload (used_structure used s) x) (sorted edition (context_below File s.tag) b) (sorted edition File (used_trees used next))) (sym (respelt_brief edition (row File s.tag) p q h))
 
-documents_alike : (edition : Edition) (xs ys : Trees) → is_document xs ≡ true → is_document ys ≡ true → Somewhere (Change edition) File xs ys → (used : Bytes → Bool) → sorted_document edition (used_trees used xs) ≡ sorted_document edition (used_trees used ys)
+pub documents_alike : (edition : Edition) (xs ys : Trees) → is_document xs ≡ true → is_document ys ≡ true → Somewhere (Change edition) File xs ys → (used : Bytes → Bool) → sorted_document edition (used_trees used xs) ≡ sorted_document edition (used_trees used ys)
 documents_alike edition xs ys d e (here h) used = change_documents edition xs ys d e h used
 documents_alike edition _ _ d e (under {t = t} {u = u} s next h) used = ap (λ b. tree (brief_structure edition File (used_structure used s)) b (sorted edition File (used_trees used next))) (somewhere_sorted edition (context_below File s.tag) t u h)
 documents_alike edition _ _ d e (later {t = t} {u = u} s below h) used = ap (tree (brief_structure edition File (used_structure used s)) (sorted edition (context_below File s.tag) below)) (somewhere_sorted edition File (used_trees used t) (used_trees used u) (used_somewhere edition used File t u h))

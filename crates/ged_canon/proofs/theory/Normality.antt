@@ -68,12 +68,12 @@ module _ (edition : Edition) (d : Trees) where
       (brief_is_brief edition (row context s.tag) s.payload (meets-fits d (row context s.tag) s.payload below h.0), sorted_in_order edition (context_below context s.tag) below, sorted_normal (context_below context s.tag) below h.1)
       (sorted_normal context next h.2)
 
-  document_normal : (xs : Trees) → AreChecked d File xs → AreNormal edition File (sorted_document edition xs)
+  pub document_normal : (xs : Trees) → AreChecked d File xs → AreNormal edition File (sorted_document edition xs)
   document_normal none h = tt
   document_normal (tree s below next) h =
       (brief_is_brief edition (row File s.tag) s.payload (meets-fits d (row File s.tag) s.payload below h.0), sorted_in_order edition (context_below File s.tag) below, sorted_normal (context_below File s.tag) below h.1, sorted_normal File next h.2)
 
-records_in_order : (edition : Edition) (d : Trees) → InOrder (tags (records_of (sorted_document edition d)))
+pub records_in_order : (edition : Edition) (d : Trees) → InOrder (tags (records_of (sorted_document edition d)))
 records_in_order edition none = tt
 records_in_order edition (tree s below next) = sorted_in_order edition File next
 

@@ -10,11 +10,13 @@ use Rattle.ged_schema.specs.Tables.{row, context_below}
 use Rattle.ged_schema.specs.Payloads.{Fits}
 use Rattle.ged_schema.specs.Checked.{MeetsRow, AreChecked}
 use Rattle.ged_canon.specs.declared.edition.Edition.{Edition}
-use Rattle.ged_canon.specs.Steps.{Respelt, with_payload, Change, exchange, leave_out, Somewhere, here, under, later, change, Step, Chain, done, then}
+use Rattle.ged_canon.specs.Steps.{Respelt, with_payload, Change, exchange, leave_out, Somewhere, here, under, later, Step, Chain, done, then}
+use Rattle.ged_canon.specs.Tidy.{PlaceStep}
 use Rattle.ged_canon.specs.inner.Working.{falls, put, brief_structure, sorted, sorted_document}
 use Rattle.ged_canon.proofs.theory.Sorting.{falls_itself}
 use Rattle.ged_canon.proofs.theory.Chains.{both}
 use Rattle.ged_canon.proofs.theory.Chains as chains
+use Rattle.ged_canon.proofs.theory.InPlace.{in_place}
 use Rattle.ged_canon.proofs.theory.Brief.{payload_chain}
 use Rattle.ged_canon.proofs.theory.Stays.{somewhere_alike, below_alike, later_alike, documents_alike}
 
@@ -48,9 +50,9 @@ module _ (edition : Edition) where
       change : Somewhere (Change edition) File xs ys
       alike : is_document xs ≡ is_document ys
 
-    moves_step : (x y : Trees) → is_document x ≡ true → Chain Moves x y → Chain (Step edition) x y
+    moves_step : (x y : Trees) → is_document x ≡ true → Chain Moves x y → Chain (PlaceStep edition) x y
     moves_step x _ h done = done
-    moves_step x y h (then {b = z} r k) = let t = sym r.alike ∙ h in then (record { from = h; to = t; move = change r.change }) (moves_step z y t k)
+    moves_step x y h (then {b = z} r k) = let t = sym r.alike ∙ h in then (record { from = h; to = t; changed = r.change }) (moves_step z y t k)
 
     respelt_moves : (s : Structure) (p q : Payload) (below next : Trees) → Respelt edition (row File s.tag) p q → Moves (tree (with_payload s p) below next) (tree (with_payload s q) below next)
     respelt_moves s p q below next k =
@@ -72,5 +74,8 @@ module _ (edition : Edition) where
         (both (chains.under (λ x. tree q x next) (λ x y k. under_moves q next x y k) (reach (context_below File s.tag) below h.1))
         (chains.under (λ x. tree q deep x) (λ x y k. later_moves q deep x y k) (reach File next h.2)))
 
+    pub reach_in_place : (xs : Trees) → is_document xs ≡ true → AreChecked d File xs → Chain (PlaceStep edition) xs (sorted_document edition xs)
+    reach_in_place xs p h = moves_step xs (sorted_document edition xs) p (moves xs h)
+
     pub reach_sorted : (xs : Trees) → is_document xs ≡ true → AreChecked d File xs → Chain (Step edition) xs (sorted_document edition xs)
-    reach_sorted xs p h = moves_step xs (sorted_document edition xs) p (moves xs h)
+    reach_sorted xs p h = in_place edition xs (sorted_document edition xs) (reach_in_place xs p h)

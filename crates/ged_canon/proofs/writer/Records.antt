@@ -6,7 +6,7 @@ use Rattle.ged_line.specs.Bytes.{Bytes, line_feed}
 use Rattle.ged_line.specs.Lines.{may_be_xref}
 use Rattle.ged_line.specs.Spelling.{spelling, spelled_lines}
 use Rattle.ged_tree.specs.Trees.{Structure, Trees, tree, records_of}
-use Rattle.ged_tree.specs.Documents.{is_document, is_structure_at, are_at}
+use Rattle.ged_tree.specs.Documents.{is_document, is_xref_at, is_structure_at, are_at}
 use Rattle.ged_tree.specs.DocumentLines.{structure_lines, lines_of, trailer_line}
 use Rattle.ged_tree.specs.Places.{structure_at, below_at}
 use Rattle.ged_tree.specs.Runs.{trees_between, IsRun, IsStep}
@@ -27,6 +27,7 @@ use Rattle.ged_canon.specs.inner.Siblings.{sibling_structure, sibling_trees, sib
 use Rattle.ged_canon.specs.inner.Writing.{brief_sibling, renamed_sibling}
 use Rattle.ged_canon.specs.inner.CanonBytes.{AreNamed, number_at, numbered_siblings, spelled_siblings}
 use Rattle.ged_canon.proofs.theory.Texts.{same_bytes, equal_bytes}
+use Rattle.ged_canon.proofs.theory.Bare.{stands}
 use Rattle.ged_canon.proofs.theory.Fixed.{canon_same}
 use Rattle.ged_canon.proofs.theory.Unique.{canon_equivalent}
 use Rattle.ged_canon.proofs.theory.Used.{is_named-from, sorted_xrefs, xrefs_sorted, used_xrefs, xrefs_used}
@@ -42,13 +43,12 @@ use Rattle.ged_canon.proofs.writer.OwnLines.{spelled_append, lines_with}
 -- The siblings of a document.
 
 -- HEAD and the records behind it, in order, are the document in order
-pub document_listed : (edition : Edition) (d : Trees) (end after : ℕ) (head : Sibling) (records : List Sibling) → trees_between d 0 end ≡ d → IsRun d 0 end → IsStep d 0 end after
+pub document_listed : (used : Bytes → Bool) (edition : Edition) (d : Trees) (end after : ℕ) (head : Sibling) (records : List Sibling) → trees_between d 0 end ≡ d → IsRun d 0 end → IsStep d 0 end after
     → head.place ≡ 0 → head.tag.now ≡ (structure_at d 0).tag
-    → sibling_trees (is_named d) edition File d records ≡ sorted edition File (used_trees (is_named d) (trees_between d after end))
-    → sibling_trees (is_named d) edition File d (head ∷ records) ≡ sorted_document edition (used_document d)
-document_listed edition d end after head records all run step at tag e =
+    → sibling_trees used edition File d records ≡ sorted edition File (used_trees used (trees_between d after end))
+    → sibling_trees used edition File d (head ∷ records) ≡ sorted_document edition (used_trees used d)
+document_listed used edition d end after head records all run step at tag e =
     let s = structure_at d 0 in
-    let used = is_named d in
     (λ i. tree (brief_structure edition File (used_structure used (record { xref = (structure_at d (at i)).xref; tag = tag i; payload = (structure_at d (at i)).payload })))
     (sorted edition (context_below File (tag i)) (below_at d (at i)))
     (e i))
@@ -116,19 +116,27 @@ module _ (d : Trees) (names : List Bytes) (named : AreNamed d names) where
 
 -- Lines.
 
-module _ (edition : Edition) (d : Trees) (sibling : Sibling) (rest : List Sibling) (h : are_at 0 (sibling_trees (is_named d) edition File d (sibling ∷ rest)) ≡ true) where
+at_top : (x : Option Bytes) → is_xref_at 0 x ≡ true → may_be_xref x ≡ true
+at_top None h = refl
+at_top (Some name) h = h
+
+module _ (used : Bytes → Bool) (edition : Edition) (d : Trees) (sibling : Sibling) (rest : List Sibling) (h : are_at 0 (sibling_trees used edition File d (sibling ∷ rest)) ≡ true) where
   abbrev own : Structure
-  own = brief_structure edition File (used_structure (is_named d) (sibling_structure d sibling))
+  own = brief_structure edition File (used_structure used (sibling_structure d sibling))
 
   abbrev below : Trees
   below = sorted edition (context_below File sibling.tag.now) (below_at d sibling.place)
 
   abbrev others : Trees
-  others = sibling_trees (is_named d) edition File d rest
+  others = sibling_trees used edition File d rest
 
   -- the first of siblings has lines, with any identifier
   pub own_stands : (xref : Option Bytes) → may_be_xref xref ≡ true → HasLinesAt 0 (brief_sibling edition (row File sibling.tag.now) xref d sibling)
   own_stands xref named = lines_with 0 own xref ((and_parts (is_structure_at 0 own) (are_at 1 below && are_at 0 others) h).0) named
+
+  -- its own identifier, where that is used, is one
+  pub own_named : may_be_xref (used_xref used (structure_at d sibling.place).xref) ≡ true
+  own_named = at_top (used_xref used (structure_at d sibling.place).xref) (stands 0 own below others h).named
 
   pub below_stands : are_at 1 below ≡ true
   below_stands = (and_parts (are_at 1 below) (are_at 0 others) ((and_parts (is_structure_at 0 own) (are_at 1 below && are_at 0 others) h).1)).0
@@ -137,43 +145,43 @@ module _ (edition : Edition) (d : Trees) (sibling : Sibling) (rest : List Siblin
   others_stand = (and_parts (are_at 1 below) (are_at 0 others) ((and_parts (is_structure_at 0 own) (are_at 1 below && are_at 0 others) h).1)).1
 
   -- and so has it without the others
-  pub first_stands : are_at 0 (sibling_trees (is_named d) edition File d (sibling ∷ [])) ≡ true
+  pub first_stands : are_at 0 (sibling_trees used edition File d (sibling ∷ [])) ≡ true
   first_stands =
       let parts = and_parts (is_structure_at 0 own) (are_at 1 below && are_at 0 others) h in
       and_from (is_structure_at 0 own) (are_at 1 below && true) parts.0 (and_from (are_at 1 below) true below_stands refl)
 
 -- the document with the identifiers that it keeps, in order, is one before these are numbered
-sorted_is_document : (edition : Edition) (d : Trees) → is_document d ≡ true → Resolved d → Checked d → is_document (sorted_document edition (used_document d)) ≡ true
+pub sorted_is_document : (edition : Edition) (d : Trees) → is_document d ≡ true → Resolved d → Checked d → is_document (sorted_document edition (used_document d)) ≡ true
 sorted_is_document edition d v r k =
     let u = used_document d in
     let reached = reach_used edition d v r in
     let is = ends_in_document d u v reached in
     ends_in_document u (sorted_document edition u) is (reach_sorted edition u u is (kept Checked (step_checked edition) reached k))
 
--- so its siblings stand at level 0
-pub siblings_stand : (edition : Edition) (d : Trees) (xs : List Sibling) → is_document d ≡ true → Resolved d → Checked d → sibling_trees (is_named d) edition File d xs ≡ sorted_document edition (used_document d)
-    → are_at 0 (sibling_trees (is_named d) edition File d xs) ≡ true
-siblings_stand edition d xs v r k e = ap (are_at 0) e ∙ at_of_document (sorted_document edition (used_document d)) (sorted_is_document edition d v r k)
+-- the siblings of a document stand at level 0
+pub siblings_stand : (used : Bytes → Bool) (edition : Edition) (d e : Trees) (xs : List Sibling) → is_document e ≡ true → sibling_trees used edition File d xs ≡ e
+    → are_at 0 (sibling_trees used edition File d xs) ≡ true
+siblings_stand used edition d e xs is listed = ap (are_at 0) listed ∙ at_of_document e is
 
 -- the lines of one sibling with its new identifier
-pub record_spelled : (edition : Edition) (names : List Bytes) (d : Trees) (x : Sibling) (xref : Option Bytes) → renamed_xref (number_of 1 names) (used_xref (is_named d) (structure_at d x.place).xref) ≡ xref
+pub record_spelled : (used : Bytes → Bool) (edition : Edition) (names : List Bytes) (d : Trees) (x : Sibling) (xref : Option Bytes) → renamed_xref (number_of 1 names) (used_xref used (structure_at d x.place).xref) ≡ xref
     → spelled_lines (structure_lines 0 (renamed_sibling (number_of 1 names) edition (row File x.tag.now) xref d x) ++ lines_of 1 (renamed (number_of 1 names) (sorted edition (context_below File x.tag.now) (below_at d x.place))))
-    ≡ spelled_siblings edition names d (x ∷ [])
-record_spelled edition names d x xref e =
+    ≡ spelled_siblings used edition names d (x ∷ [])
+record_spelled used edition names d x xref e =
     let f = number_of 1 names in
     let deep = lines_of 1 (renamed f (sorted edition (context_below File x.tag.now) (below_at d x.place))) in
     ap (λ (y : Option Bytes). spelled_lines (structure_lines 0 (renamed_sibling f edition (row File x.tag.now) y d x) ++ deep)) (sym e)
-    ∙ ap spelled_lines (sym (append-nil (structure_lines 0 (renamed_sibling f edition (row File x.tag.now) (renamed_xref f (used_xref (is_named d) (structure_at d x.place).xref)) d x) ++ deep)))
+    ∙ ap spelled_lines (sym (append-nil (structure_lines 0 (renamed_sibling f edition (row File x.tag.now) (renamed_xref f (used_xref used (structure_at d x.place).xref)) d x) ++ deep)))
 
 -- one sibling and the others behind it
-pub siblings_spelled : (edition : Edition) (names : List Bytes) (d : Trees) (x : Sibling) (xs : List Sibling)
-    → spelled_siblings edition names d (x ∷ xs) ≡ spelled_siblings edition names d (x ∷ []) ++ spelled_siblings edition names d xs
-siblings_spelled edition names d x xs =
+pub siblings_spelled : (used : Bytes → Bool) (edition : Edition) (names : List Bytes) (d : Trees) (x : Sibling) (xs : List Sibling)
+    → spelled_siblings used edition names d (x ∷ xs) ≡ spelled_siblings used edition names d (x ∷ []) ++ spelled_siblings used edition names d xs
+siblings_spelled used edition names d x xs =
     let f = number_of 1 names in
-    let s = brief_structure edition File (used_structure (is_named d) (sibling_structure d x)) in
+    let s = brief_structure edition File (used_structure used (sibling_structure d x)) in
     let own = structure_lines 0 (renamed_structure f s) in
     let deep = lines_of 1 (renamed f (sorted edition (context_below File x.tag.now) (below_at d x.place))) in
-    let rest = lines_of 0 (numbered_siblings edition names d xs) in
+    let rest = lines_of 0 (numbered_siblings used edition names d xs) in
     spelled_append (own ++ deep) rest ∙ ap (λ ls. spelled_lines ls ++ spelled_lines rest) (sym (append-nil (own ++ deep)))
 
 -- the siblings from a place on are the one there and those behind it
@@ -181,33 +189,33 @@ pub left_split : (xs : List Sibling) (at : ℕ) (other : Sibling) → at < lengt
 left_split xs at other h = rw add-one (drop-cons xs at other h)
 
 -- what is written and what is left stay the whole where one more is written
-pub left_after : (edition : Edition) (names : List Bytes) (d : Trees) (xs : List Sibling) (at : ℕ) (x : Sibling) (before now after whole : Bytes) → drop at xs ≡ x ∷ drop (at + 1) xs
-    → now ++ spelled_siblings edition names d (drop at xs) ≡ before ++ whole → after ≡ now ++ spelled_siblings edition names d (x ∷ [])
-    → after ++ spelled_siblings edition names d (drop (at + 1) xs) ≡ before ++ whole
-left_after edition names d xs at x before now after whole split told wrote =
+pub left_after : (used : Bytes → Bool) (edition : Edition) (names : List Bytes) (d : Trees) (xs : List Sibling) (at : ℕ) (x : Sibling) (before now after whole : Bytes) → drop at xs ≡ x ∷ drop (at + 1) xs
+    → now ++ spelled_siblings used edition names d (drop at xs) ≡ before ++ whole → after ≡ now ++ spelled_siblings used edition names d (x ∷ [])
+    → after ++ spelled_siblings used edition names d (drop (at + 1) xs) ≡ before ++ whole
+left_after used edition names d xs at x before now after whole split told wrote =
     let rest = drop (at + 1) xs in
-    ap (λ bytes. bytes ++ spelled_siblings edition names d rest) wrote
-    ∙ append_assoc now (spelled_siblings edition names d (x ∷ [])) (spelled_siblings edition names d rest)
-    ∙ ap (λ bytes. now ++ bytes) (sym (siblings_spelled edition names d x rest))
-    ∙ ap (λ (ys : List Sibling). now ++ spelled_siblings edition names d ys) (sym split)
+    ap (λ bytes. bytes ++ spelled_siblings used edition names d rest) wrote
+    ∙ append_assoc now (spelled_siblings used edition names d (x ∷ [])) (spelled_siblings used edition names d rest)
+    ∙ ap (λ bytes. now ++ bytes) (sym (siblings_spelled used edition names d x rest))
+    ∙ ap (λ (ys : List Sibling). now ++ spelled_siblings used edition names d ys) (sym split)
     ∙ told
 
 -- The whole file.
 
 pub numbered_document_of : (edition : Edition) (d : Trees) (xs : List Sibling) → sibling_trees (is_named d) edition File d xs ≡ sorted_document edition (used_document d)
-    → numbered_siblings edition (sibling_names d xs) d xs ≡ canon edition d
+    → numbered_siblings (is_named d) edition (sibling_names d xs) d xs ≡ canon edition d
 numbered_document_of edition d xs e =
     ap (λ ns. renamed (number_of 1 ns) (sibling_trees (is_named d) edition File d xs)) (names_listed edition d xs e)
     ∙ ap (renamed (number_of 1 (xrefs (sorted_document edition (used_document d))))) e
 
 -- the mark, the lines of HEAD and the records, and TRLR's
-pub file_spelled : (edition : Edition) (d : Trees) (xs : List Sibling) (start middle text : Bytes) → sibling_trees (is_named d) edition File d xs ≡ sorted_document edition (used_document d)
-    → start ≡ 0xEF ∷ 0xBB ∷ 0xBF ∷ [] → middle ≡ start ++ spelled_siblings edition (sibling_names d xs) d xs → text ≡ middle ++ (spelling trailer_line ++ line_feed ∷ []) → CanonText (canon edition d) text
-file_spelled edition d xs start middle text e began wrote told =
+pub file_spelled : (used : Bytes → Bool) (edition : Edition) (names : List Bytes) (d e : Trees) (xs : List Sibling) (start middle text : Bytes) → numbered_siblings used edition names d xs ≡ e
+    → start ≡ 0xEF ∷ 0xBB ∷ 0xBF ∷ [] → middle ≡ start ++ spelled_siblings used edition names d xs → text ≡ middle ++ (spelling trailer_line ++ line_feed ∷ []) → CanonText e text
+file_spelled used edition names d e xs start middle text is began wrote told =
     told
-    ∙ ap (λ bytes. bytes ++ (spelling trailer_line ++ line_feed ∷ [])) (wrote ∙ ap (λ bytes. bytes ++ spelled_siblings edition (sibling_names d xs) d xs) began)
-    ∙ ap (λ t. 0xEF ∷ 0xBB ∷ 0xBF ∷ (spelled_lines (lines_of 0 t) ++ (spelling trailer_line ++ line_feed ∷ []))) (numbered_document_of edition d xs e)
-    ∙ ap (λ bytes. 0xEF ∷ 0xBB ∷ 0xBF ∷ bytes) (sym (spelled_append (lines_of 0 (canon edition d)) (trailer_line ∷ [])))
+    ∙ ap (λ bytes. bytes ++ (spelling trailer_line ++ line_feed ∷ [])) (wrote ∙ ap (λ bytes. bytes ++ spelled_siblings used edition names d xs) began)
+    ∙ ap (λ t. 0xEF ∷ 0xBB ∷ 0xBF ∷ (spelled_lines (lines_of 0 t) ++ (spelling trailer_line ++ line_feed ∷ []))) is
+    ∙ ap (λ bytes. 0xEF ∷ 0xBB ∷ 0xBF ∷ bytes) (sym (spelled_append (lines_of 0 e) (trailer_line ∷ [])))
 
 -- what spells the canonical document spells each normal form
 pub only_form : (edition : Edition) (d e : Trees) (text : Bytes) → CanonText (canon edition d) text → IsNormalForm edition d e → CanonText e text

@@ -1,6 +1,6 @@
 -- Nothing here need be believed: only private contracts and proofs cite it.
 -- The canonical spelling of HEAD and the records, as it is written; only private functions cite this.
-use Rattle.std.specs.Prelude.{◌≡◌, ◌↔◌, ℕ, ◌++◌, true, List, Option, Some, None, Result, OnOk}
+use Rattle.std.specs.Prelude.{◌≡◌, ◌↔◌, ℕ, ◌++◌, Bool, true, List, [], Option, Some, None, Result, OnOk}
 use Rattle.std.specs.List.{AllByRecursion}
 use Rattle.ged_line.specs.Bytes.{Bytes}
 use Rattle.ged_line.specs.Spelling.{spelled_lines}
@@ -13,7 +13,7 @@ use Rattle.ged_canon.specs.declared.edition.Edition.{Edition}
 use Rattle.ged_canon.specs.declared.writer.plan.Plan.{Plan}
 use Rattle.ged_canon.specs.declared.writer.siblings.Sibling.{Sibling}
 use Rattle.ged_canon.specs.Steps.{renamed}
-use Rattle.ged_canon.specs.inner.Working.{is_named, number_among, number_of, IsNumberingOf}
+use Rattle.ged_canon.specs.inner.Working.{is_named, each_used, number_among, number_of, IsNumberingOf}
 use Rattle.ged_canon.specs.inner.Siblings.{StandsIn, sibling_trees}
 
 -- the names are those that some pointer of the document has
@@ -25,21 +25,26 @@ abbrev pub number_at : List Bytes → Option Bytes → ℕ
 number_at names None = 0
 number_at names (Some name) = number_among 1 names name
 
--- HEAD and records, those that pointers name with their numbers
-abbrev pub numbered_siblings : Edition → List Bytes → Trees → List Sibling → Trees
-numbered_siblings edition names d siblings = renamed (number_of 1 names) (sibling_trees (is_named d) edition File d siblings)
+-- HEAD and records, those whose identifiers are used with these, and with their numbers where they have some
+abbrev pub numbered_siblings : (Bytes → Bool) → Edition → List Bytes → Trees → List Sibling → Trees
+numbered_siblings used edition names d siblings = renamed (number_of 1 names) (sibling_trees used edition File d siblings)
 
 -- the lines of these
-abbrev pub spelled_siblings : Edition → List Bytes → Trees → List Sibling → Bytes
-spelled_siblings edition names d siblings = spelled_lines (lines_of 0 (numbered_siblings edition names d siblings))
+abbrev pub spelled_siblings : (Bytes → Bool) → Edition → List Bytes → Trees → List Sibling → Bytes
+spelled_siblings used edition names d siblings = spelled_lines (lines_of 0 (numbered_siblings used edition names d siblings))
 
--- HEAD and records can be written
-pub record CanWriteRecords (edition : Edition) (d : Trees) (siblings : List Sibling) : Type 0 where
+-- HEAD and records can be written, each with its identifier where that is used
+pub record CanWriteRecords (used : Bytes → Bool) (edition : Edition) (d : Trees) (siblings : List Sibling) : Type 0 where
   pub document : is_document d ≡ true
   pub within : AllByRecursion (StandsIn d) siblings
-  pub stand : are_at 0 (sibling_trees (is_named d) edition File d siblings) ≡ true
+  pub stand : are_at 0 (sibling_trees used edition File d siblings) ≡ true
 
 -- their lines are appended to an answer, by the names to which the plan's numbers belong
 abbrev pub WritesRecords : {T E : Type 0} → Trees → Plan → Result T E → Bytes → Bytes → List Sibling → Type 0
 WritesRecords d plan result old new siblings =
-    (names : List Bytes) → IsNumberingOf d names plan.index.now plan.numbers.now → AreNamed d names → OnOk result (new ≡ old ++ spelled_siblings plan.edition names d siblings)
+    (names : List Bytes) → IsNumberingOf d names plan.index.now plan.numbers.now → AreNamed d names → OnOk result (new ≡ old ++ spelled_siblings (is_named d) plan.edition names d siblings)
+
+-- where no record has a new number, their lines are appended with all identifiers as they are
+abbrev pub WritesKept : {T E : Type 0} → Trees → Plan → Result T E → Bytes → Bytes → List Sibling → Type 0
+WritesKept d plan result old new siblings =
+    IsNumberingOf d [] plan.index.now plan.numbers.now → OnOk result (new ≡ old ++ spelled_siblings each_used plan.edition [] d siblings)

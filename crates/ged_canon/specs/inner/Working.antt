@@ -44,6 +44,10 @@ used_xref used (Some name) = if used name then Some name else None
 abbrev pub used_structure : (Bytes → Bool) → Structure → Structure
 used_structure used s = with_identifier s (used_xref used s.xref)
 
+-- every identifier counts as used
+abbrev pub each_used : Bytes → Bool
+each_used name = true
+
 -- trees side by side, each with its identifier where that is used
 abbrev pub used_trees : (Bytes → Bool) → Trees → Trees
 used_trees used none = none

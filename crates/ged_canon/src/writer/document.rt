@@ -1,5 +1,5 @@
 // The canonical spelling of a document, written from the document itself.
-ghost use Rattle.std.specs.Prelude.{◌≡◌, ◌≤◌, ◌<◌, ◌∷◌, [], List, IfOk, true, length};
+ghost use Rattle.std.specs.Prelude.{◌≡◌, ◌≤◌, ◌<◌, ◌∷◌, [], List, IfOk, Bool, true, length};
 ghost use Rattle.std.specs.List.{AllByRecursion};
 ghost use Rattle.ged_line.specs.Bytes.{Bytes};
 ghost use Rattle.ged_tree.specs.Trees.{Trees, trees_count, records_of};
@@ -13,7 +13,7 @@ ghost use Rattle.ged_canon.specs.declared.edition.Edition.{Edition as AnyEdition
 ghost use Rattle.ged_canon.specs.declared.edition.Edition.TheVariants.{First};
 ghost use Rattle.ged_canon.specs.Normal.{IsNormalForm};
 ghost use Rattle.ged_canon.specs.CanonText.{CanonText};
-ghost use Rattle.ged_canon.specs.inner.Working.{is_named, used_document, sorted_document, IsNumberingOf};
+ghost use Rattle.ged_canon.specs.inner.Working.{is_named, used_trees, sorted_document, IsNumberingOf};
 ghost use Rattle.ged_canon.specs.inner.Siblings.{StandsIn, sibling_trees};
 ghost use Rattle.ged_canon.specs.inner.CanonBytes.{number_at, CanWriteRecords, WritesRecords};
 
@@ -30,11 +30,14 @@ use ged_tree::{Forest, end_of_all, next_in_run};
 use std::alloc::{AllocError, Global};
 
 /// HEAD, and behind it the records in the order of their tags.
-fn document_siblings<F: Forest>(alloc: Global, forest: &F) -> Result<Vec<Sibling<'_>>, AllocError>
+pub(crate) fn document_siblings<F: Forest>(
+    alloc: Global,
+    forest: &F,
+) -> Result<Vec<Sibling<'_>>, AllocError>
     ensures within { IfOk result (λ made. AllByRecursion (StandsIn (F.trees forest.now)) made.items) }
     ensures count { IfOk result (λ made. length (identifiers (records_of (F.trees forest.now))) ≤ length made.items) }
-    ensures trees { (edition : AnyEdition) → IfOk result (λ made. sibling_trees (is_named (F.trees forest.now)) edition File (F.trees forest.now) made.items
-        ≡ sorted_document edition (used_document (F.trees forest.now))) }
+    ensures trees { (used : Bytes → Bool) (edition : AnyEdition) → IfOk result (λ made. sibling_trees used edition File (F.trees forest.now) made.items
+        ≡ sorted_document edition (used_trees used (F.trees forest.now))) }
     ensures document { is_document (F.trees forest.now) ≡ true }
 {
     let end = end_of_all(forest);
@@ -71,7 +74,7 @@ impl<'a, F: Forest> Writer<'a, '_, F> {
         name: &mut String,
         work: &mut Work<'a>,
     ) -> Result<(), AllocError>
-        requires { CanWriteRecords self.now.plan.edition (F.trees self.now.forest.now) (sibling ∷ []) }
+        requires { CanWriteRecords (is_named (F.trees self.now.forest.now)) self.now.plan.edition (F.trees self.now.forest.now) (sibling ∷ []) }
         ensures { WritesRecords (F.trees self.now.forest.now) self.now.plan result work.old.answer work.new.answer (sibling.entry ∷ []) }
     {
         let rows = ContextRows::of(Context::File);
@@ -88,7 +91,7 @@ impl<'a, F: Forest> Writer<'a, '_, F> {
 
     /// Appends the lines of HEAD and the records, and of what stands below them.
     fn write_records(&self, siblings: &[Sibling<'_>], work: &mut Work<'a>) -> Result<(), AllocError>
-        requires { CanWriteRecords self.now.plan.edition (F.trees self.now.forest.now) siblings.now }
+        requires { CanWriteRecords (is_named (F.trees self.now.forest.now)) self.now.plan.edition (F.trees self.now.forest.now) siblings.now }
         ensures { WritesRecords (F.trees self.now.forest.now) self.now.plan result work.old.answer work.new.answer siblings.now }
     {
         let mut name = String::new(self.plan.alloc);

@@ -2,11 +2,11 @@ use Rattle.std.proofs.Common.{ℕ, List, length, sym, ap, ◌∙◌, subst, arit
 use Rattle.std.specs.List.{AllByRecursion}
 use Rattle.ged_schema.specs.declared.context.Context.TheVariants.{File}
 use Rattle.ged_canon.specs.declared.writer.siblings.Sibling.{Sibling}
-use Rattle.ged_canon.specs.inner.Working.{is_named, canon, AreNumbersOf, IsNumberingOf}
+use Rattle.ged_canon.specs.inner.Working.{is_named, used_document, sorted_document, canon, AreNumbersOf, IsNumberingOf}
 use Rattle.ged_canon.specs.inner.Siblings.{StandsIn, sibling_trees, sibling_names}
 use Rattle.ged_canon.proofs.theory.Normality.{canon_is_normal_form}
 use Rattle.ged_canon.proofs.writer.Parts.{sorted_known, sorted_distinct}
-use Rattle.ged_canon.proofs.writer.Records.{names_listed, sorted_named, siblings_stand, file_spelled, only_form}
+use Rattle.ged_canon.proofs.writer.Records.{names_listed, sorted_named, sorted_is_document, siblings_stand, numbered_document_of, file_spelled, only_form}
 use Rattle.ged_canon.proofs.writer.document.canonical_bytes_in.Goals as goal
 
 pub numbers_in_order-requires-clause-within : goal.numbers_in_order-requires-clause-within
@@ -22,7 +22,7 @@ numbers_in_order-requires-clause-known g c =
     let d = g.F.Forest.trees c.args.forest.now in
     let edition = c.args.edition in
     let xs = c.as_slice-records.result.now in
-    let listed = ap (sibling_trees (is_named d) edition File d) c.as_slice-records.ensures.value ∙ c.in_ok-siblings.ensures.trees edition in
+    let listed = ap (sibling_trees (is_named d) edition File d) c.as_slice-records.ensures.value ∙ c.in_ok-siblings.ensures.trees (is_named d) edition in
     sorted_known edition d (sibling_names d xs) c.document_siblings.ensures.document (names_listed edition d xs listed)
 
 pub numbers_in_order-requires-clause-distinct : goal.numbers_in_order-requires-clause-distinct
@@ -30,7 +30,7 @@ numbers_in_order-requires-clause-distinct g c =
     let d = g.F.Forest.trees c.args.forest.now in
     let edition = c.args.edition in
     let xs = c.as_slice-records.result.now in
-    let listed = ap (sibling_trees (is_named d) edition File d) c.as_slice-records.ensures.value ∙ c.in_ok-siblings.ensures.trees edition in
+    let listed = ap (sibling_trees (is_named d) edition File d) c.as_slice-records.ensures.value ∙ c.in_ok-siblings.ensures.trees (is_named d) edition in
     sorted_distinct edition d (sibling_names d xs) c.requires.index.resolved (names_listed edition d xs listed)
 
 pub write_records-requires : goal.write_records-requires
@@ -38,11 +38,11 @@ write_records-requires g c =
     let d = g.F.Forest.trees c.args.forest.now in
     let edition = c.args.edition in
     let xs = c.as_slice-records.result.now in
-    let listed = ap (sibling_trees (is_named d) edition File d) c.as_slice-records.ensures.value ∙ c.in_ok-siblings.ensures.trees edition in
+    let listed = ap (sibling_trees (is_named d) edition File d) c.as_slice-records.ensures.value ∙ c.in_ok-siblings.ensures.trees (is_named d) edition in
     record {
       document = c.document_siblings.ensures.document;
       within = subst (λ (xs : List Sibling). AllByRecursion (StandsIn d) xs) (sym c.as_slice-records.ensures.value) c.in_ok-siblings.ensures.within;
-      stand = siblings_stand edition d xs c.document_siblings.ensures.document c.requires.index.resolved c.requires.checked listed;
+      stand = siblings_stand (is_named d) edition d (sorted_document edition (used_document d)) xs (sorted_is_document edition d c.document_siblings.ensures.document c.requires.index.resolved c.requires.checked) listed;
     }
 
 pub returns-clause-normal_form : goal.returns-clause-normal_form
@@ -51,11 +51,11 @@ returns-clause-normal_form g c =
     let edition = c.args.edition in
     let xs = c.as_slice-records.result.now in
     let names = sibling_names d xs in
-    let listed = ap (sibling_trees (is_named d) edition File d) c.as_slice-records.ensures.value ∙ c.in_ok-siblings.ensures.trees edition in
+    let listed = ap (sibling_trees (is_named d) edition File d) c.as_slice-records.ensures.value ∙ c.in_ok-siblings.ensures.trees (is_named d) edition in
     let numbering : IsNumberingOf d names c.args.index.now c.as_slice-numbers.result.now =
     (c.requires.index, subst (λ (ns : List ℕ). AreNumbersOf d names ns) (sym c.as_slice-numbers.ensures.value) c.in_ok-counted.ensures) in
     let named = sorted_named edition d names c.requires.index.resolved (names_listed edition d xs listed) in
-    let told = file_spelled edition d xs c.new-work.result.answer c.write_records.new.work.answer c.into_bytes.result.items listed (c.new-work.ensures ∙ c.in_ok-answer.ensures) (c.in_ok-write_records.ensures names numbering named) (c.into_bytes.ensures ∙ c.in_ok-push_parts.ensures) in
+    let told = file_spelled (is_named d) edition names d (canon edition d) xs c.new-work.result.answer c.write_records.new.work.answer c.into_bytes.result.items (numbered_document_of edition d xs listed) (c.new-work.ensures ∙ c.in_ok-answer.ensures) (c.in_ok-write_records.ensures names numbering named) (c.into_bytes.ensures ∙ c.in_ok-push_parts.ensures) in
     (canon edition d, canon_is_normal_form edition d c.document_siblings.ensures.document c.requires.index.resolved c.requires.checked, told)
 
 pub returns-clause-only : goal.returns-clause-only
@@ -64,9 +64,9 @@ returns-clause-only g c = λ e form.
     let edition = c.args.edition in
     let xs = c.as_slice-records.result.now in
     let names = sibling_names d xs in
-    let listed = ap (sibling_trees (is_named d) edition File d) c.as_slice-records.ensures.value ∙ c.in_ok-siblings.ensures.trees edition in
+    let listed = ap (sibling_trees (is_named d) edition File d) c.as_slice-records.ensures.value ∙ c.in_ok-siblings.ensures.trees (is_named d) edition in
     let numbering : IsNumberingOf d names c.args.index.now c.as_slice-numbers.result.now =
     (c.requires.index, subst (λ (ns : List ℕ). AreNumbersOf d names ns) (sym c.as_slice-numbers.ensures.value) c.in_ok-counted.ensures) in
     let named = sorted_named edition d names c.requires.index.resolved (names_listed edition d xs listed) in
-    let told = file_spelled edition d xs c.new-work.result.answer c.write_records.new.work.answer c.into_bytes.result.items listed (c.new-work.ensures ∙ c.in_ok-answer.ensures) (c.in_ok-write_records.ensures names numbering named) (c.into_bytes.ensures ∙ c.in_ok-push_parts.ensures) in
+    let told = file_spelled (is_named d) edition names d (canon edition d) xs c.new-work.result.answer c.write_records.new.work.answer c.into_bytes.result.items (numbered_document_of edition d xs listed) (c.new-work.ensures ∙ c.in_ok-answer.ensures) (c.in_ok-write_records.ensures names numbering named) (c.into_bytes.ensures ∙ c.in_ok-push_parts.ensures) in
     only_form edition d e c.into_bytes.result.items told form

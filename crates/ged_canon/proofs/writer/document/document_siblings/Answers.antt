@@ -3,7 +3,6 @@ use Rattle.std.specs.List.{AllByRecursion}
 use Rattle.ged_link.specs.Links.{identifiers}
 use Rattle.ged_schema.specs.declared.context.Context.TheVariants.{File}
 use Rattle.ged_canon.specs.declared.writer.siblings.Sibling.{Sibling}
-use Rattle.ged_canon.specs.inner.Working.{is_named}
 use Rattle.ged_canon.specs.inner.Siblings.{StandsIn, sibling_trees}
 use Rattle.ged_canon.proofs.writer.Records.{document_listed, records_listed}
 use Rattle.ged_canon.proofs.writer.SortedTail.{headed}
@@ -26,10 +25,10 @@ returns-clause-count g c =
     omega (arith, long, c.in_ok-push_sorted.ensures.count, same)
 
 pub returns-clause-trees : goal.returns-clause-trees
-returns-clause-trees g c = λ edition.
+returns-clause-trees g c = λ used edition.
     let d = g.F.Forest.trees c.args.forest.now in
     let head : Sibling = record { tag = c.tag.result; place = 0 } in
     let behind = drop (length c.push.new.self.items) c.push_sorted.new.siblings.items in
-    ap (sibling_trees (is_named d) edition File d) (headed c.push.new.self.items c.push_sorted.new.siblings.items head (c.in_ok-push.ensures.items ∙ ap (λ (xs : List Sibling). xs ++ head ∷ []) c.new-made.ensures.items) c.in_ok-push_sorted.ensures.kept)
-    ∙ document_listed edition d c.end_of_all-end.result c.in-Some.records head behind c.end_of_all-end.ensures.all c.end_of_all-end.ensures.run c.in-Some.ensures refl c.tag.ensures
-    (c.in_ok-push_sorted.ensures.trees (is_named d) edition File)
+    ap (sibling_trees used edition File d) (headed c.push.new.self.items c.push_sorted.new.siblings.items head (c.in_ok-push.ensures.items ∙ ap (λ (xs : List Sibling). xs ++ head ∷ []) c.new-made.ensures.items) c.in_ok-push_sorted.ensures.kept)
+    ∙ document_listed used edition d c.end_of_all-end.result c.in-Some.records head behind c.end_of_all-end.ensures.all c.end_of_all-end.ensures.run c.in-Some.ensures refl c.tag.ensures
+    (c.in_ok-push_sorted.ensures.trees used edition File)

@@ -28,7 +28,7 @@ write_record-requires g c =
     record {
       document = c.requires.document;
       within = (all.0, tt);
-      stand = first_stands edition d (get_or xs at other) (drop (at + 1) xs)
+      stand = first_stands (is_named d) edition d (get_or xs at other) (drop (at + 1) xs)
           (ap (λ (ys : List Sibling). are_at 0 (sibling_trees (is_named d) edition File d ys)) (sym split) ∙ c.loop-each.invariant.stand);
     }
 
@@ -43,9 +43,9 @@ loop-each-preserved g c =
     subst (λ (ys : List Sibling). AllByRecursion (StandsIn d) ys) split c.loop-each.invariant.within in
     record {
       within = all.1;
-      stand = others_stand edition d (get_or xs at other) (drop (at + 1) xs)
+      stand = others_stand (is_named d) edition d (get_or xs at other) (drop (at + 1) xs)
           (ap (λ (ys : List Sibling). are_at 0 (sibling_trees (is_named d) edition File d ys)) (sym split) ∙ c.loop-each.invariant.stand);
-      told = λ names h named. left_after edition names d xs at (get_or xs at other) c.args.work.now.answer c.loop-each.work.answer c.write_record.new.work.answer (spelled_siblings edition names d xs)
+      told = λ names h named. left_after (is_named d) edition names d xs at (get_or xs at other) c.args.work.now.answer c.loop-each.work.answer c.write_record.new.work.answer (spelled_siblings (is_named d) edition names d xs)
           split (c.loop-each.invariant.told names h named) (c.in_ok-write_record.ensures names h named);
     }
 
@@ -55,5 +55,5 @@ returns g c = λ names h named.
     let xs = c.args.siblings.now in
     let none_left : drop c.loop-each.each-index xs ≡ [] = drop_all c.loop-each.each-index xs (omega arith) in
     sym (append-nil c.loop-each.work.answer)
-    ∙ ap (λ (ys : List Sibling). c.loop-each.work.answer ++ spelled_siblings c.args.self.now.plan.edition names d ys) (sym none_left)
+    ∙ ap (λ (ys : List Sibling). c.loop-each.work.answer ++ spelled_siblings (is_named d) c.args.self.now.plan.edition names d ys) (sym none_left)
     ∙ c.loop-each.invariant.told names h named

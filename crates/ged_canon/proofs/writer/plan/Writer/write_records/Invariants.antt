@@ -17,5 +17,5 @@ invariant-loop-each g l =
       within : AllByRecursion (StandsIn d) left;
       stand : are_at 0 (sibling_trees (is_named d) l.self.plan.edition File d left) ≡ true;
       told : (names : List Bytes) → IsNumberingOf d names l.self.plan.index.now l.self.plan.numbers.now → AreNamed d names →
-          l.work.answer ++ spelled_siblings l.self.plan.edition names d left ≡ l.fn.work.answer ++ spelled_siblings l.self.plan.edition names d l.siblings;
+          l.work.answer ++ spelled_siblings (is_named d) l.self.plan.edition names d left ≡ l.fn.work.answer ++ spelled_siblings (is_named d) l.self.plan.edition names d l.siblings;
     }
