@@ -1,5 +1,6 @@
 pub mod BriefTests
 pub mod BriefWords
+pub mod KeptNames
 pub mod NewNames
 pub mod NewNumbers
 pub mod OwnLines

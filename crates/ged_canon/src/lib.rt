@@ -17,3 +17,4 @@ pub use normal::{is_normal, is_normal_in};
 pub use owned::documents::{canonical, canonical_in};
 pub use owned::write::write_document;
 pub use writer::document::{canonical_bytes, canonical_bytes_in};
+pub use writer::tidy::tidy_bytes_in;

@@ -8,3 +8,4 @@ pub(crate) mod order;
 pub(crate) mod plan;
 pub(crate) mod siblings;
 pub(crate) mod structures;
+pub(crate) mod tidy;

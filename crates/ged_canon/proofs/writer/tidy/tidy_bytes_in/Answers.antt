@@ -1,0 +1,40 @@
+use Rattle.std.proofs.Common.{◌≡◌, ℕ, List, [], sym, ap, ◌∙◌, subst}
+use Rattle.std.specs.List.{AllByRecursion}
+use Rattle.ged_schema.specs.declared.context.Context.TheVariants.{File}
+use Rattle.ged_canon.specs.declared.writer.siblings.Sibling.{Sibling}
+use Rattle.ged_canon.specs.inner.Working.{each_used, sorted_document}
+use Rattle.ged_canon.specs.inner.Siblings.{StandsIn, sibling_trees}
+use Rattle.ged_canon.proofs.theory.Tidy.{sorted_is_tidy_form}
+use Rattle.ged_canon.proofs.writer.KeptNames.{unnumbered, sorted_stands, kept_listed, kept_document, only_tidy}
+use Rattle.ged_canon.proofs.writer.Records.{siblings_stand, file_spelled}
+use Rattle.ged_canon.proofs.writer.tidy.tidy_bytes_in.Goals as goal
+
+pub write_kept_records-requires : goal.write_kept_records-requires
+write_kept_records-requires g c =
+    let d = g.F.Forest.trees c.args.forest.now in
+    let edition = c.args.edition in
+    let xs = c.as_slice-records.result.now in
+    let listed = ap (sibling_trees each_used edition File d) c.as_slice-records.ensures.value ∙ c.in_ok-siblings.ensures.trees each_used edition in
+    record {
+      document = c.document_siblings.ensures.document;
+      within = subst (λ (xs : List Sibling). AllByRecursion (StandsIn d) xs) (sym c.as_slice-records.ensures.value) c.in_ok-siblings.ensures.within;
+      stand = siblings_stand each_used edition d (sorted_document edition d) xs (sorted_stands edition d c.document_siblings.ensures.document c.requires.checked) (kept_listed edition d xs listed);
+    }
+
+pub returns-clause-tidy_form : goal.returns-clause-tidy_form
+returns-clause-tidy_form g c =
+    let d = g.F.Forest.trees c.args.forest.now in
+    let edition = c.args.edition in
+    let xs = c.as_slice-records.result.now in
+    let listed = ap (sibling_trees each_used edition File d) c.as_slice-records.ensures.value ∙ c.in_ok-siblings.ensures.trees each_used edition in
+    let told = file_spelled each_used edition [] d (sorted_document edition d) xs c.new-work.result.answer c.write_kept_records.new.work.answer c.into_bytes.result.items (kept_document edition d xs listed) (c.new-work.ensures ∙ c.in_ok-answer.ensures) (c.in_ok-write_kept_records.ensures (unnumbered d c.args.index.now c.requires.index)) (c.into_bytes.ensures ∙ c.in_ok-push_parts.ensures) in
+    (sorted_document edition d, sorted_is_tidy_form edition d c.document_siblings.ensures.document c.requires.checked, told)
+
+pub returns-clause-only : goal.returns-clause-only
+returns-clause-only g c = λ e form.
+    let d = g.F.Forest.trees c.args.forest.now in
+    let edition = c.args.edition in
+    let xs = c.as_slice-records.result.now in
+    let listed = ap (sibling_trees each_used edition File d) c.as_slice-records.ensures.value ∙ c.in_ok-siblings.ensures.trees each_used edition in
+    let told = file_spelled each_used edition [] d (sorted_document edition d) xs c.new-work.result.answer c.write_kept_records.new.work.answer c.into_bytes.result.items (kept_document edition d xs listed) (c.new-work.ensures ∙ c.in_ok-answer.ensures) (c.in_ok-write_kept_records.ensures (unnumbered d c.args.index.now c.requires.index)) (c.into_bytes.ensures ∙ c.in_ok-push_parts.ensures) in
+    only_tidy edition d e c.into_bytes.result.items told form

@@ -1,0 +1,81 @@
+// The spelling of a document's tidy form, written from the document itself.
+ghost use Rattle.std.specs.Prelude.{◌≡◌, ◌∷◌, [], IfOk};
+ghost use Rattle.ged_link.specs.Indexes.{IsIndexOf};
+ghost use Rattle.ged_tree.specs.Trees.{Trees};
+ghost use Rattle.ged_schema.specs.Checked.{Checked};
+ghost use Rattle.ged_canon.specs.Tidy.{IsTidyForm};
+ghost use Rattle.ged_canon.specs.CanonText.{CanonText};
+ghost use Rattle.ged_canon.specs.inner.Working.{each_used};
+ghost use Rattle.ged_canon.specs.inner.CanonBytes.{CanWriteRecords, WritesKept};
+
+use crate::edition::Edition;
+use crate::writer::answer::Answer;
+use crate::writer::document::document_siblings;
+use crate::writer::plan::{Plan, Work, Writer};
+use crate::writer::siblings::Sibling;
+use ged_line::ValueView;
+use ged_link::Index;
+use ged_schema::{Context, ContextRows};
+use ged_tree::Forest;
+use std::alloc::{AllocError, Global};
+
+impl<'a, F: Forest> Writer<'a, '_, F> {
+    /// Appends the lines of HEAD or of a record with its own identifier, and of what stands below it.
+    fn write_kept_record(&self, sibling: Sibling<'_>, work: &mut Work<'a>) -> Result<(), AllocError>
+        requires { CanWriteRecords each_used self.now.plan.edition (F.trees self.now.forest.now) (sibling ∷ []) }
+        ensures { WritesKept (F.trees self.now.forest.now) self.now.plan result work.old.answer work.new.answer (sibling.entry ∷ []) }
+    {
+        let rows = ContextRows::of(Context::File);
+        let rule = rows.row(sibling.tag);
+        let end = self.forest.after(sibling.place);
+        let xref = self.forest.xref(sibling.place);
+        self.write_tree(rule, 0, xref, sibling, end, work)
+    }
+
+    /// Appends the lines of HEAD and the records with their own identifiers, and of what stands below them.
+    fn write_kept_records(
+        &self,
+        siblings: &[Sibling<'_>],
+        work: &mut Work<'a>,
+    ) -> Result<(), AllocError>
+        requires { CanWriteRecords each_used self.now.plan.edition (F.trees self.now.forest.now) siblings.now }
+        ensures { WritesKept (F.trees self.now.forest.now) self.now.plan result work.old.answer work.new.answer siblings.now }
+    {
+        for each in siblings {
+            self.write_kept_record(*each, work)?;
+        }
+        Ok(())
+    }
+}
+
+/// The bytes of the tidy form of a document that is as the structure tables ask, where the index is the document's: those of
+/// [`crate::canonical_bytes_in`], but each record has the identifier that it has in the document, or none, and each pointer
+/// names the record that it names there. No tree is made, and a payload is copied only into the answer. Grows
+/// (FamilySearch GEDCOM 7.0, "Lines", "Structures", "Date" and "Integer").
+pub fn tidy_bytes_in<F: Forest>(
+    alloc: Global,
+    edition: Edition,
+    forest: &F,
+    index: &Index,
+) -> Result<Vec<u8>, AllocError>
+    requires index { IsIndexOf (F.trees forest.now) index.now }
+    requires checked { Checked (F.trees forest.now) }
+    ensures tidy_form { IfOk result (λ text. (e : Trees) × IsTidyForm edition (F.trees forest.now) e × CanonText e text.items) }
+    ensures only { (e : Trees) → IsTidyForm edition (F.trees forest.now) e → IfOk result (λ text. CanonText e text.items) }
+{
+    let siblings = document_siblings(alloc, forest)?;
+    let records = siblings.as_slice();
+    // No record has a new number, so that each pointer keeps its name.
+    let plan = Plan {
+        alloc,
+        edition,
+        index,
+        numbers: &[],
+    };
+    let writer = Writer { forest, plan };
+    let answer = Answer::start(alloc, forest.size())?;
+    let mut work = Work::new(alloc, answer);
+    writer.write_kept_records(records, &mut work)?;
+    work.answer.push_parts(0, None, "TRLR", ValueView::Empty)?;
+    Ok(work.into_bytes())
+}
