@@ -6,11 +6,14 @@ use Rattle.ged_link.specs.Links.{Resolved}
 use Rattle.ged_schema.specs.Checked.{Checked}
 use Rattle.ged_schema.specs.Profiles.{NoNotice}
 use Rattle.ged_canon.specs.Laws.{NormalFormIsUnique, IsKept, EquivalentIsSymmetric, EquivalentIsTransitive, EditionsAgree, SecondIsNormalInFirst}
+use Rattle.ged_canon.specs.TidyLaws.{TidyFormIsUnique, InPlaceIsSymmetric, InPlaceIsTransitive, InPlaceIsEquivalent, NormalFormOfTidy}
 use Rattle.ged_canon.proofs.theory.Chains.{both, back, kept}
 use Rattle.ged_canon.proofs.theory.Editions as editions
+use Rattle.ged_canon.proofs.theory.InPlace as in_place
 use Rattle.ged_canon.proofs.theory.Keeps.{step_resolved, step_checked}
 use Rattle.ged_canon.proofs.theory.Normality.{ends_in_document}
 use Rattle.ged_canon.proofs.theory.Noticed.{step_no_notice}
+use Rattle.ged_canon.proofs.theory.Tidy as tidy
 use Rattle.ged_canon.proofs.theory.Undone.{step_back}
 use Rattle.ged_canon.proofs.theory.Unique as normal
 
@@ -40,3 +43,18 @@ one_second = editions.one_second
 
 pub normal_in_first : SecondIsNormalInFirst
 normal_in_first = editions.first_normal
+
+pub in_place_symmetric : InPlaceIsSymmetric
+in_place_symmetric edition d e h = back (tidy.place_back edition) h
+
+pub in_place_transitive : InPlaceIsTransitive
+in_place_transitive edition d e f h k = both h k
+
+pub in_place_equivalent : InPlaceIsEquivalent
+in_place_equivalent = in_place.in_place
+
+pub tidy_form_is_unique : TidyFormIsUnique
+tidy_form_is_unique = tidy.unique
+
+pub normal_form_of_tidy : NormalFormOfTidy
+normal_form_of_tidy = tidy.normal_form_of_tidy

@@ -4,4 +4,5 @@ pub mod FileLaws
 pub mod Judging
 pub mod Merging
 pub mod Noticing
+pub mod TidyLaws
 pub mod Told

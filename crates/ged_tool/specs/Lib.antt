@@ -4,6 +4,7 @@ pub mod Answers
 pub mod Run
 pub mod Canon
 pub mod Headline
+pub mod Tidied
 pub mod Same
 pub mod SameRun
 pub mod Kept

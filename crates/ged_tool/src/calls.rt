@@ -6,3 +6,4 @@ pub(crate) mod judged_lines;
 pub(crate) mod notices;
 pub(crate) mod same;
 pub(crate) mod show;
+pub(crate) mod tidy;

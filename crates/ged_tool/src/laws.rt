@@ -2,6 +2,7 @@
 // proved.
 ghost use Rattle.ged_tool.specs.Laws.{OneAccepted, AcceptedIsFaultless, OneFileFault, StrictRefusesNotices};
 ghost use Rattle.ged_tool.specs.Laws.{IsAcceptedOrFaulty, LinesFromOne, OneListOfNotices, OneVerdict, CanonIsPromised, SecondAgrees};
+ghost use Rattle.ged_tool.specs.Tidied.{TidyIsPromised};
 ghost use Rattle.ged_tool.specs.SameLaws.{OneComparison, SameAsItself, SameBothWays, SameOnward, SameByCanon};
 ghost use Rattle.ged_tool.specs.SameLaws.{LinesKeepAcceptance, LinesKeepFault, LinesKeepCanon};
 
@@ -54,6 +55,11 @@ pub fn one_verdict()
 pub fn headline()
     ensures promised { CanonIsPromised }
     ensures second_agrees { SecondAgrees }
+{}
+
+/// What is promised of tidy bytes holds of all of them, of those that a run writes too.
+pub fn tidy_headline()
+    ensures { TidyIsPromised }
 {}
 
 /// Being the same is reflexive, symmetric and transitive among the files that are accepted under a profile: what

@@ -13,13 +13,14 @@ pub use calls::feed::Feed;
 pub use calls::notices::notices;
 pub use calls::same::{SameFault, same, same_as};
 pub use calls::show::show_text;
+pub use calls::tidy::{tidy, tidy_as};
 pub use faults::{Fault, FileFault, Outcome, Which};
 pub use ged_canon::Edition;
 pub use ged_schema::Profile;
 pub use laws::{
     accepted_is_faultless, accepted_or_faulty, headline, lines_from_one, lines_keep_the_file,
     one_accepted, one_file_fault, one_list_of_notices, one_verdict, same_is_an_equivalence,
-    strict_refuses_notices,
+    strict_refuses_notices, tidy_headline,
 };
 pub use runs::answer::Command;
 pub use runs::devices::{Failed, Sink, Source};

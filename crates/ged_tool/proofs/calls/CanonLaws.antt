@@ -32,14 +32,14 @@ each_line [] h = tt
 each_line (line ∷ lines) h = let parts = and_parts (is_line line) (list_all is_line lines) h in (parts.0, each_line lines parts.1)
 
 -- the canonical spelling of a document is a file with that document
-has_file : (d : Trees) (bytes : Bytes) → is_document d ≡ true → CanonText d bytes → HasFile d bytes
+pub has_file : (d : Trees) (bytes : Bytes) → is_document d ≡ true → CanonText d bytes → HasFile d bytes
 has_file d bytes allowed spelled =
     let has : HasLines d (document_lines d) = record { allowed = allowed; told = refl } in
     let text = written_is_read (document_lines d) (each_line (document_lines d) (are_lines d (document_lines d) has).0) in
     (document_lines d, subst (FileText (document_lines d)) (sym spelled) text, has)
 
 -- steps keep what a profile asks
-checked_on : (profile : Profile) (edition : Edition) (d e : Trees) → Equivalent edition d e → CheckedAs profile d → CheckedAs profile e
+pub checked_on : (profile : Profile) (edition : Edition) (d e : Trees) → Equivalent edition d e → CheckedAs profile d → CheckedAs profile e
 checked_on Lenient edition d e steps h = checked_kept edition d e steps h
 checked_on Strict edition d e steps h = (checked_kept edition d e steps h.0, no_notice_kept edition d e steps h.1)
 
@@ -54,7 +54,7 @@ accepted_again profile edition file canonical h =
     }
 
 -- two accepted spellings of one file are of one document
-one_accepted : (profile other_profile : Profile) (file : Bytes) (d e : Trees) → IsAccepted profile file d → IsAccepted other_profile file e → d ≡ e
+pub one_accepted : (profile other_profile : Profile) (file : Bytes) (d e : Trees) → IsAccepted profile file d → IsAccepted other_profile file e → d ≡ e
 one_accepted profile other_profile file d e h k = one_of_file file d e h.read k.read
 
 -- equal canonical bytes are those of one normal document
@@ -64,7 +64,7 @@ one_normal profile other_profile edition other_edition file other canonical h k 
     one_accepted profile other_profile canonical h.normal k.normal (accepted_again profile edition file canonical h) (accepted_again other_profile other_edition other canonical k)
 
 -- one document has one canonical spelling
-one_spelling : (d e : Trees) (bytes other : Bytes) → d ≡ e → CanonText d bytes → CanonText e other → bytes ≡ other
+pub one_spelling : (d e : Trees) (bytes other : Bytes) → d ≡ e → CanonText d bytes → CanonText e other → bytes ≡ other
 one_spelling d e bytes other same spelled other_spelled = spelled ∙ ap (λ (t : Trees). file_of (document_lines t)) same ∙ sym other_spelled
 
 -- of two files the canonical bytes are equal exactly when the one's document becomes the other's

@@ -8,6 +8,7 @@ use crate::calls::accept::accept_as;
 use crate::calls::canonicalise::canonicalise_as;
 use crate::calls::notices::verdict;
 use crate::calls::show::show_text;
+use crate::calls::tidy::tidy_as;
 use crate::faults::Fault;
 use crate::settings::Settings;
 use ged_canon::Edition;
@@ -27,6 +28,8 @@ pub enum Command {
     Show,
     /// What [`canonicalise_as`] answers.
     Canon,
+    /// What [`tidy_as`] answers.
+    Tidy,
 }
 
 /// The whole answer to a file, or why there is none: a fault of the file, or want of memory.
@@ -44,6 +47,7 @@ pub fn answer(
         Command::Check => answer_check(alloc, settings, bytes),
         Command::Show => answer_show(alloc, settings, bytes),
         Command::Canon => canonicalise_as(alloc, settings, bytes),
+        Command::Tidy => tidy_as(alloc, settings, bytes),
     }
 }
 

@@ -12,3 +12,6 @@ returns-in-Show c = rw c.in-Show.is c.answer_show.ensures
 
 pub returns-in-Canon : goal.returns-in-Canon
 returns-in-Canon c = search rules
+
+pub returns-in-Tidy : goal.returns-in-Tidy
+returns-in-Tidy c = search rules
