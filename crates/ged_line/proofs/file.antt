@@ -1,3 +1,4 @@
+pub mod Answering
 pub mod FileLaws
 pub mod Respelling
 pub mod WholeLines

@@ -6,6 +6,7 @@ use Rattle.ged_line.specs.Faults.{IsFaultOf}
 use Rattle.ged_line.specs.Pieces.{IsEnd, IsBehindMark, AreCutInto}
 use Rattle.ged_line.specs.Spelling.{file_of}
 use Rattle.ged_line.specs.declared.fault.LineFault.{LineFault}
+use Rattle.ged_line.specs.declared.file.spelled_part.SpelledPart.{SpelledPart}
 
 -- each line's text and its end, where the last end may be absent
 abbrev pub SpellLines : List LineParts → Bytes → Type 0
@@ -46,3 +47,8 @@ IsFirstFault file line fault = (lines : List LineParts) × StopsAt file lines li
 -- the text is the canonical spelling of the lines that the file spells
 abbrev pub IsRespelling : Bytes → Bytes → Type 0
 IsRespelling file text = (lines : List LineParts) × FileText lines file × (text ≡ file_of lines)
+
+-- the bytes of parts, one behind the other: of each what was made, then what was kept
+abbrev pub joined : List SpelledPart → Bytes
+joined [] = []
+joined (part ∷ parts) = part.made.items ++ (part.kept.now ++ joined parts)

@@ -1,18 +1,19 @@
 -- The text of a line and its canonical spelling, and the lines respelled so far.
-use Rattle.std.proofs.Common.{◌≡◌, ◌≢◌, ℕ, ◌+◌, ◌-◌, ◌<◌, ◌≤◌, List, [], ◌∷◌, ◌++◌, ◌⊎◌, inl, inr, true, length, take, refl, sym, ◌∙◌, ap, subst, arith, decimal, length-append}
+use Rattle.std.proofs.Common.{◌≡◌, ◌≢◌, ℕ, ◌+◌, ◌-◌, ◌<◌, ◌≤◌, List, [], ◌∷◌, ◌++◌, ◌⊎◌, inl, inr, true, length, take, drop, refl, sym, ◌∙◌, ap, subst, arith, decimal, length-append}
 use Rattle.std.proofs.lemmas.List.{append-nil, append_assoc, append_cancel_right}
-use Rattle.std.proofs.Math.Seq.{take-append_seam}
 use Rattle.ged_line.specs.Bytes.{Bytes}
 use Rattle.ged_line.specs.Lines.{LineParts, Value, Empty, Void, Pointer, Text, LineText, IsValuePart, xref_part}
 use Rattle.ged_line.specs.Views.{viewed_value}
 use Rattle.ged_line.specs.Faults.{IsFaultOf}
 use Rattle.ged_line.specs.Pieces.{AreCutInto, pieces_of}
 use Rattle.ged_line.specs.Spelling.{spelling, value_part, spelled_lines}
-use Rattle.ged_line.specs.Files.{StopsIn}
+use Rattle.ged_line.specs.Files.{SpellLines, StopsIn}
 use Rattle.ged_line.specs.inner.Reading.{IsRespelledBehind}
+use Rattle.ged_line.specs.inner.Respelling.{Growing, EndsWith, IsSpelledOn, text_before}
 use Rattle.ged_line.specs.declared.fault.LineFault.{LineFault}
 use Rattle.ged_line.specs.declared.line.view.ValueView.{ValueView}
 use Rattle.ged_line.specs.declared.line.view.ValueView.TheVariants as views
+use Rattle.ged_line.proofs.file.Answering.{take_front, drop_front}
 use Rattle.ged_line.proofs.line.Cuts.{Lacks, cut_not_whole}
 use Rattle.ged_line.proofs.line.NameTests.{tag_some}
 use Rattle.ged_line.proofs.bytes.Cutting.{are_cut, length-AreCutInto}
@@ -121,57 +122,97 @@ HaveRespelled-room bytes count left rest piece old out e (lines, (before, c, a),
     let same : length lines ≡ length before = length-AreTexts lines before a in
     omega (arith, length-append before left, ap length e)
 
--- the same where lines that are spelled as they should be are not copied yet: they stand before the rest
-pub record IsRespelledTo (bytes : Bytes) (count : ℕ) (rest uncopied old out : Bytes) : Type 0 where
+-- the same where lines that are spelled as they should be are pending: they stand before the rest, and other bytes behind that
+pub record IsRespelledTo (bytes : Bytes) (count : ℕ) (rest behind pending old out : Bytes) : Type 0 where
   pub kept : Bytes
-  pub split : uncopied ≡ kept ++ rest
+  pub split : pending ≡ kept ++ (rest ++ behind)
   pub read : HaveRespelled bytes count (pieces_of rest) old (out ++ kept)
 
-pub IsRespelledTo-start : (bytes old : Bytes) → IsRespelledTo bytes 0 bytes bytes old old
-IsRespelledTo-start bytes old = record {
-  kept = [];
-  split = refl;
-  read = subst (HaveRespelled bytes 0 (pieces_of bytes) old) (sym (append-nil old)) (HaveRespelled-start bytes (pieces_of bytes) old (are_cut bytes));
+pub text_before-is : (answer : Growing) (kept left : Bytes) → answer.pending ≡ kept ++ left → text_before left answer ≡ answer.text ++ kept
+text_before-is answer kept left e =
+    let front : take (length answer.pending - length left) answer.pending ≡ kept = rw e (take_front kept left) in
+    ap (λ x. answer.text ++ x) front
+
+pub IsRespelledTo-start : (bytes behind : Bytes) (answer : Growing) → EndsWith answer.pending (bytes ++ behind)
+    → IsRespelledTo bytes 0 bytes behind answer.pending (text_before (bytes ++ behind) answer) answer.text
+IsRespelledTo-start bytes behind answer (kept, e) = record {
+  kept = kept;
+  split = e;
+  read = rw (text_before-is answer kept (bytes ++ behind) e) (HaveRespelled-start bytes (pieces_of bytes) (answer.text ++ kept) (are_cut bytes));
 }
 
 -- a line that stands as it should be
-pub IsRespelledTo-kept : (bytes : Bytes) (count : ℕ) (rest after uncopied old out piece : Bytes) (line : LineParts)
+pub IsRespelledTo-kept : (bytes : Bytes) (count : ℕ) (rest after behind pending old out piece : Bytes) (line : LineParts)
     → pieces_of rest ≡ piece ∷ pieces_of after → LineText line piece → rest ≡ spelling line ++ (10 ∷ after)
-    → IsRespelledTo bytes count rest uncopied old out → IsRespelledTo bytes (count + 1) after uncopied old out
-IsRespelledTo-kept bytes count rest after uncopied old out piece line p t e r =
-    let added : (spelling line ++ (10 ∷ [])) ++ after ≡ rest = append_assoc (spelling line) (10 ∷ []) after ∙ sym e in
+    → IsRespelledTo bytes count rest behind pending old out → IsRespelledTo bytes (count + 1) after behind pending old out
+IsRespelledTo-kept bytes count rest after behind pending old out piece line p t e r =
+    let spelled = spelling line ++ (10 ∷ []) in
+    let added : spelled ++ (after ++ behind) ≡ rest ++ behind = sym (append_assoc spelled after behind) ∙ ap (λ x. x ++ behind) (append_assoc (spelling line) (10 ∷ []) after ∙ sym e) in
     record {
-      kept = r.kept ++ (spelling line ++ (10 ∷ []));
-      split = r.split ∙ ap (λ x. r.kept ++ x) (sym added) ∙ sym (append_assoc r.kept (spelling line ++ (10 ∷ [])) after);
-      read = HaveRespelled-more bytes count (pieces_of rest) (pieces_of after) piece old (out ++ r.kept) (out ++ (r.kept ++ (spelling line ++ (10 ∷ [])))) line p t
-          (sym (append_assoc out r.kept (spelling line ++ (10 ∷ [])))) r.read;
+      kept = r.kept ++ spelled;
+      split = r.split ∙ ap (λ x. r.kept ++ x) (sym added) ∙ sym (append_assoc r.kept spelled (after ++ behind));
+      read = HaveRespelled-more bytes count (pieces_of rest) (pieces_of after) piece old (out ++ r.kept) (out ++ (r.kept ++ spelled)) line p t
+          (sym (append_assoc out r.kept spelled)) r.read;
     }
 
-take_front : (kept rest : Bytes) → take (length (kept ++ rest) - length rest) (kept ++ rest) ≡ kept
-take_front kept rest =
-    let count : length (kept ++ rest) - length rest ≡ length kept = omega (arith, length-append kept rest) in
-    rw count (take-append_seam kept rest)
-
--- a line that is respelled behind what was kept
-pub IsRespelledTo-copied : (bytes : Bytes) (count : ℕ) (rest after uncopied old out now piece : Bytes) (line : LineParts)
-    → pieces_of rest ≡ piece ∷ pieces_of after → LineText line piece
-    → now ≡ out ++ (take (length uncopied - length rest) uncopied ++ (spelling line ++ (10 ∷ [])))
-    → IsRespelledTo bytes count rest uncopied old out → IsRespelledTo bytes (count + 1) after after old now
-IsRespelledTo-copied bytes count rest after uncopied old out now piece line p t n r =
-    let front : take (length uncopied - length rest) uncopied ≡ r.kept = rw r.split (take_front r.kept rest) in
-    let grown : now ≡ (out ++ r.kept) ++ (spelling line ++ (10 ∷ [])) = n ∙ ap (λ x. out ++ (x ++ (spelling line ++ (10 ∷ [])))) front ∙ sym (append_assoc out r.kept (spelling line ++ (10 ∷ []))) in
+-- a line that is respelled behind what was kept; more stands between the pending lines and those after it
+pub IsRespelledTo-made : (bytes : Bytes) (count : ℕ) (rest after behind pending left old out now piece more : Bytes) (line : LineParts)
+    → pieces_of rest ≡ piece ∷ pieces_of after → LineText line piece → rest ≡ more ++ after
+    → now ≡ out ++ (take (length pending - (length rest + length behind)) pending ++ (spelling line ++ (10 ∷ [])))
+    → left ≡ drop (length pending - (length after + length behind)) pending
+    → IsRespelledTo bytes count rest behind pending old out → IsRespelledTo bytes (count + 1) after behind left old now
+IsRespelledTo-made bytes count rest after behind pending left old out now piece more line p t m n d r =
+    let spelled = spelling line ++ (10 ∷ []) in
+    let both : length (rest ++ behind) ≡ length rest + length behind = length-append rest behind in
+    let behind_both : length (after ++ behind) ≡ length after + length behind = length-append after behind in
+    let front : take (length pending - (length rest + length behind)) pending ≡ r.kept = rw (← both) (rw r.split (take_front r.kept (rest ++ behind))) in
+    let whole : pending ≡ (r.kept ++ more) ++ (after ++ behind) =
+    r.split ∙ ap (λ x. r.kept ++ (x ++ behind)) m ∙ ap (λ x. r.kept ++ x) (append_assoc more after behind) ∙ sym (append_assoc r.kept more (after ++ behind)) in
+    let back : drop (length pending - (length after + length behind)) pending ≡ after ++ behind = rw (← behind_both) (rw whole (drop_front (r.kept ++ more) (after ++ behind))) in
+    let grown : now ≡ (out ++ r.kept) ++ spelled = n ∙ ap (λ x. out ++ (x ++ spelled)) front ∙ sym (append_assoc out r.kept spelled) in
     record {
       kept = [];
-      split = refl;
+      split = d ∙ back;
       read = subst (HaveRespelled bytes (count + 1) (pieces_of after) old) (sym (append-nil now))
           (HaveRespelled-more bytes count (pieces_of rest) (pieces_of after) piece old (out ++ r.kept) now line p t grown r.read);
     }
 
-pub IsRespelledTo-end : (bytes : Bytes) (count : ℕ) (rest uncopied old out now : Bytes) → pieces_of rest ≡ [] → rest ≡ [] → now ≡ out ++ uncopied
-    → IsRespelledTo bytes count rest uncopied old out → IsRespelledBehind bytes count old now
-IsRespelledTo-end bytes count rest uncopied old out now p e n r =
-    let kept : uncopied ≡ r.kept = r.split ∙ ap (λ x. r.kept ++ x) e ∙ append-nil r.kept in
-    HaveRespelled-end bytes count (pieces_of rest) old now p (subst (HaveRespelled bytes count (pieces_of rest) old) (sym (n ∙ ap (λ x. out ++ x) kept)) r.read)
+-- how many bytes are pending
+pub IsRespelledTo-length : (bytes : Bytes) (count : ℕ) (rest behind pending old out : Bytes) → IsRespelledTo bytes count rest behind pending old out
+    → length rest + length behind ≤ length pending
+IsRespelledTo-length bytes count rest behind pending old out r =
+    let all : length pending ≡ length r.kept + length (rest ++ behind) = ap length r.split ∙ length-append r.kept (rest ++ behind) in
+    omega (arith, length-append rest behind)
+
+pub IsRespelledTo-end : (bytes : Bytes) (count : ℕ) (rest behind : Bytes) (old new : Growing) → pieces_of rest ≡ [] → rest ≡ []
+    → IsRespelledTo bytes count rest behind new.pending (text_before (bytes ++ behind) old) new.text → IsSpelledOn bytes count behind old new
+IsRespelledTo-end bytes count rest behind old new p e r =
+    let split : new.pending ≡ r.kept ++ behind = r.split ∙ ap (λ x. r.kept ++ (x ++ behind)) e in
+    record {
+      spelled = rw (text_before-is new r.kept behind split) (HaveRespelled-end bytes count (pieces_of rest) (text_before (bytes ++ behind) old) (new.text ++ r.kept) p r.read);
+      pending = (r.kept, split);
+    }
+
+-- a block whose lines were all made
+pub IsSpelledOn-made : (bytes : Bytes) (count : ℕ) (behind made : Bytes) (old new : Growing) → EndsWith old.pending (bytes ++ behind) → IsRespelledBehind bytes count [] made
+    → new.text ≡ old.text ++ (take (length old.pending - (length bytes + length behind)) old.pending ++ made)
+    → new.pending ≡ drop (length old.pending - length behind) old.pending → IsSpelledOn bytes count behind old new
+IsSpelledOn-made bytes count behind made old new (kept, e) (lines, s, k, m) t d =
+    let both : length (bytes ++ behind) ≡ length bytes + length behind = length-append bytes behind in
+    let front : take (length old.pending - (length bytes + length behind)) old.pending ≡ kept = rw (← both) (rw e (take_front kept (bytes ++ behind))) in
+    let whole : old.pending ≡ (kept ++ bytes) ++ behind = e ∙ sym (append_assoc kept bytes behind) in
+    let back : drop (length old.pending - length behind) old.pending ≡ behind = rw whole (drop_front (kept ++ bytes) behind) in
+    let is_new : text_before behind new ≡ new.text = text_before-is new [] behind (d ∙ back) ∙ append-nil new.text in
+    record {
+      spelled = (
+        lines,
+        s,
+        k,
+        is_new ∙ t ∙ ap (λ x. old.text ++ (x ++ made)) front ∙ sym (append_assoc old.text kept made) ∙ ap (λ x. (old.text ++ kept) ++ x) m
+            ∙ ap (λ x. x ++ spelled_lines lines) (sym (text_before-is old kept (bytes ++ behind) e)),
+      );
+      pending = ([], d ∙ back);
+    }
 
 -- the lines of a block behind those that are respelled
 spelled-append : (lines more : List LineParts) → spelled_lines (lines ++ more) ≡ spelled_lines lines ++ spelled_lines more
@@ -197,3 +238,18 @@ HaveRespelled-few bytes count left old out (lines, (before, c, a), k, o) =
     let all = length-AreCutInto (before ++ left) bytes c in
     let same : length lines ≡ length before = length-AreTexts lines before a in
     omega (arith, length-append before left)
+
+-- the same of an answer before a block and behind it
+pub HaveRespelled-on : (bytes : Bytes) (count more : ℕ) (unread block behind old : Bytes) (before after : Growing)
+    → pieces_of unread ≡ pieces_of block ++ pieces_of behind → unread ≡ block ++ behind → IsSpelledOn block more behind before after
+    → HaveRespelled bytes count (pieces_of unread) old (text_before unread before) → HaveRespelled bytes (count + more) (pieces_of behind) old (text_before behind after)
+HaveRespelled-on bytes count more unread block behind old before after p e on h =
+    HaveRespelled-block bytes count more (pieces_of unread) (pieces_of behind) block old (text_before unread before) (text_before behind after) p (rw e on.spelled) h
+
+-- all lines are spelled where nothing is left
+pub HaveRespelled-all : (bytes : Bytes) (count : ℕ) (unread old : Bytes) (answer : Growing) → unread ≡ [] → pieces_of unread ≡ [] → HaveRespelled bytes count (pieces_of unread) old (text_before unread answer)
+    → (lines : List LineParts) × SpellLines lines bytes × (answer.text ++ answer.pending ≡ old ++ spelled_lines lines)
+HaveRespelled-all bytes count unread old answer e p h =
+    let (lines, s, k, n) = HaveRespelled-end bytes count (pieces_of unread) old (text_before unread answer) p h in
+    let whole : text_before unread answer ≡ answer.text ++ answer.pending = text_before-is answer answer.pending unread (sym (ap (λ x. answer.pending ++ x) e ∙ append-nil answer.pending)) in
+    (lines, s, sym whole ∙ n)

@@ -4,7 +4,6 @@ use Rattle.ged_line.specs.Bytes.{Bytes}
 use Rattle.ged_line.specs.Lines.{LineParts}
 use Rattle.ged_line.specs.Files.{SpellLines, StopsIn}
 use Rattle.ged_line.specs.Spelling.{spelled_lines}
-use Rattle.ged_line.specs.declared.fault.ParseFault.TheVariants as parsing
 use Rattle.ged_line.specs.declared.fault.RespellFault.{RespellFault}
 use Rattle.ged_line.specs.declared.fault.RespellFault.TheVariants as respelling
 

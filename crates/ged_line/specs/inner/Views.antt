@@ -1,6 +1,5 @@
 -- Nothing here need be believed: only private contracts and proofs cite it.
 use Rattle.ged_line.specs.Lines.{Value, Empty, Void, Pointer, Text}
-use Rattle.ged_line.specs.declared.line.view.ValueView.TheVariants as views
 use Rattle.ged_line.specs.declared.owned.line.LineValue.{LineValue}
 use Rattle.ged_line.specs.declared.owned.line.LineValue.TheVariants as owned
 

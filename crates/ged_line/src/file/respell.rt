@@ -2,49 +2,87 @@
 ghost use Rattle.std.specs.Prelude.{◌≡◌, ◌-◌, ◌++◌, ◌∷◌, [], List, length, take, IsTrue, OnOk, IfOk, IfErr};
 ghost use Rattle.ged_line.specs.Bytes.{Bytes, line_feed};
 ghost use Rattle.ged_line.specs.Lines.{LineParts, LineText};
-ghost use Rattle.ged_line.specs.Files.{SpellLines, IsRespelling};
+ghost use Rattle.ged_line.specs.Files.{SpellLines, IsRespelling, joined};
 ghost use Rattle.ged_line.specs.Reading.{TellsRespell};
 ghost use Rattle.ged_line.specs.inner.Reading.{TellsRespellIn, IsRespelledBehind};
+ghost use Rattle.ged_line.specs.inner.Respelling.{EndsWith, IsSpelledOn, text_before};
 ghost use Rattle.ged_line.specs.Spelling.{spelling, spelled_lines};
 
 use crate::bytes::blocks::split_block;
 use crate::bytes::cut::{Cut, cut_line};
 use crate::fault::{LineAt, LineFault, RespellFault};
-use crate::file::pieces::{cut_pieces, skip_mark};
+use crate::file::answer::Answer;
+use crate::file::pieces::cut_pieces;
+use crate::file::spelled_part::SpelledPart;
 use crate::line::read::{view_line, view_text};
 use crate::line::view::{LineView, ValueView};
 use crate::line::write::write_view;
 use std::alloc::{AllocError, Global};
 
 /// What [`crate::write_lines`] writes of the lines that [`crate::read_lines`] reads, or the first faulty line, without
-/// a line of its own for any of them. Grows once, by about the length of the bytes.
+/// a line of its own for any of them. Grows as [`respell_parts`] does, and for the answer where it is in more than one part.
 pub fn respell_lines(alloc: Global, bytes: &[u8]) -> Result<Vec<u8>, RespellFault>
     ensures spelled { IfOk result (λ text. IsRespelling bytes.now text.items) }
     ensures fault { IfErr result (λ fault. TellsRespell fault bytes.now) }
 {
-    let rest = skip_mark(bytes);
-    let mut out = match start_file(alloc, rest.len()) {
-        Ok(out) => out,
-        Err(error) => return Err(RespellFault::Memory(error)),
-    };
-    match respell_rest(rest, &mut out) {
-        Ok(()) => Ok(out),
+    match respell_parts(alloc, bytes) {
+        Ok(parts) => match join_parts(alloc, parts) {
+            Ok(text) => Ok(text),
+            Err(error) => Err(RespellFault::Memory(error)),
+        },
         Err(fault) => Err(fault),
     }
 }
 
-/// Appends the lines of bytes without a mark, by blocks: each is validated, judged and copied while it is in the
-/// processor's cache.
-fn respell_rest(bytes: &[u8], out: &mut Vec<u8>) -> Result<(), RespellFault>
+/// What [`respell_lines`] answers, in parts. Lines that are spelled as they should be are kept as slices of the bytes, where
+/// 16,384 bytes or more of them stand together; all else is made. There is a part for each of these slices, and one more. Grows
+/// for the parts and for what is made.
+pub fn respell_parts(alloc: Global, bytes: &[u8]) -> Result<Vec<SpelledPart<'_>>, RespellFault>
+    ensures spelled { IfOk result (λ parts. IsRespelling bytes.now (joined parts.items)) }
+    ensures fault { IfErr result (λ fault. TellsRespell fault bytes.now) }
+{
+    let (mut answer, rest) = match Answer::start(alloc, bytes) {
+        Ok(started) => started,
+        Err(error) => return Err(RespellFault::Memory(error)),
+    };
+    if let Err(fault) = respell_rest(rest, &mut answer) {
+        return Err(fault);
+    }
+    match answer.into_parts() {
+        Ok(parts) => Ok(parts),
+        Err(error) => Err(RespellFault::Memory(error)),
+    }
+}
+
+/// The bytes of parts. What the first of them made is taken as it is.
+fn join_parts(alloc: Global, parts: Vec<SpelledPart<'_>>) -> Result<Vec<u8>, AllocError>
+    ensures { IfOk result (λ text. text.items ≡ joined parts.entry.items) }
+{
+    let mut parts = parts.into_iter();
+    let Some(first) = parts.next() else {
+        return Ok(Vec::new(alloc));
+    };
+    let mut text = first.made;
+    text.extend_from_slice(first.kept)?;
+    for part in parts {
+        text.extend_from_slice(&part.made)?;
+        text.extend_from_slice(part.kept)?;
+    }
+    Ok(text)
+}
+
+/// Spells the lines of bytes without a mark, by blocks: each is validated and judged while it is in the processor's cache.
+fn respell_rest<'a>(bytes: &'a [u8], answer: &mut Answer<'a>) -> Result<(), RespellFault>
+    requires { EndsWith answer.old.pending bytes.now }
     ensures ok { OnOk result ((lines : List LineParts) × SpellLines lines bytes.now
-        × (out.new.items ≡ out.old.items ++ spelled_lines lines)) }
+        × (answer.new.text ++ answer.new.pending ≡ text_before bytes.now answer.old ++ spelled_lines lines)) }
     ensures fault { IfErr result (λ fault. TellsRespellIn fault bytes.now) }
 {
     let mut unread = bytes;
     let mut lines = 0u64;
     while !unread.is_empty() {
         let (block, behind) = split_block(unread);
-        match respell_block(block, out) {
+        match respell_block(block, behind, answer) {
             Ok(count) => lines += count,
             Err(RespellFault::At(at)) => {
                 let (line, fault) = (lines + at.line, at.fault);
@@ -57,34 +95,28 @@ fn respell_rest(bytes: &[u8], out: &mut Vec<u8>) -> Result<(), RespellFault>
     Ok(())
 }
 
-/// Appends the lines of a block and counts them. UTF-8 is validated many bytes at a time.
-fn respell_block(block: &[u8], out: &mut Vec<u8>) -> Result<u64, RespellFault>
-    ensures ok { IfOk result (λ count. IsRespelledBehind block.now count out.old.items out.new.items) }
+/// Spells the lines of a block, before others, and counts them. UTF-8 is validated many bytes at a time.
+fn respell_block<'a>(
+    block: &'a [u8],
+    behind: &'a [u8],
+    answer: &mut Answer<'a>,
+) -> Result<u64, RespellFault>
+    requires { EndsWith answer.old.pending (block.now ++ behind.now) }
+    ensures ok { IfOk result (λ count. IsSpelledOn block.now count behind.now answer.old answer.new) }
     ensures fault { IfErr result (λ fault. TellsRespellIn fault block.now) }
 {
     match simdutf8::basic::from_utf8(block) {
-        Ok(text) => respell_text(text, out),
-        Err(_) => respell_pieces(block, out),
+        Ok(text) => respell_text(text, behind, answer),
+        Err(_) => respell_broken(block, behind, answer),
     }
 }
 
-/// The byte order mark, with room for lines of this length, and a last line feed.
-fn start_file(alloc: Global, length: usize) -> Result<Vec<u8>, AllocError>
-    ensures { IfOk result (λ out. out.items ≡ 0xEF ∷ 0xBB ∷ 0xBF ∷ []) }
-{
-    let mut out = Vec::with_capacity(alloc, length.saturating_add(4))?;
-    out.extend_from_slice(&[0xEF, 0xBB, 0xBF])?;
-    Ok(out)
-}
-
-/// Appends the lines of a text and counts them. Lines that are spelled as they should be are copied together with
-/// their neighbours.
-fn respell_text(text: &str, out: &mut Vec<u8>) -> Result<u64, RespellFault>
-    ensures ok { IfOk result (λ count. IsRespelledBehind text.now count out.old.items out.new.items) }
+/// Spells the lines of a text, before other bytes, and counts them. Lines that are spelled as they should be are passed over.
+fn respell_text(text: &str, behind: &[u8], answer: &mut Answer<'_>) -> Result<u64, RespellFault>
+    requires { EndsWith answer.old.pending (text.now ++ behind.now) }
+    ensures ok { IfOk result (λ count. IsSpelledOn text.now count behind.now answer.old answer.new) }
     ensures fault { IfErr result (λ fault. TellsRespellIn fault text.now) }
 {
-    // What is not in the answer yet, of which the lines before the rest are spelled as they should be.
-    let mut uncopied = text.as_bytes();
     let mut rest = text;
     let mut line = 0u64;
     while !rest.is_empty() {
@@ -104,17 +136,13 @@ fn respell_text(text: &str, out: &mut Vec<u8>) -> Result<u64, RespellFault>
         };
         let spelled = canonical_text(piece, &view);
         if !is_line_before(rest, spelled, after) {
-            if let Err(error) = append_up_to(uncopied, rest, spelled, out) {
+            if let Err(error) = answer.push_line(rest, spelled, after, behind) {
                 return Err(RespellFault::Memory(error));
             }
-            uncopied = after.as_bytes();
         }
         rest = after;
     }
-    match out.extend_from_slice(uncopied) {
-        Ok(()) => Ok(line),
-        Err(error) => Err(RespellFault::Memory(error)),
-    }
+    Ok(line)
 }
 
 /// The canonical spelling of the line that a text spells: the text, but for a space after the tag of an empty value.
@@ -140,16 +168,22 @@ fn is_line_before(text: &str, line: &str, after: &str) -> bool
     text.len() - after.len() == line.len() + 1 && text.as_bytes()[line.len()] == b'\n'
 }
 
-/// Appends the bytes up to the rest, a line and a line feed.
-fn append_up_to(bytes: &[u8], rest: &str, line: &str, out: &mut Vec<u8>) -> Result<(), AllocError>
-    requires { (front : Bytes) × (bytes.now ≡ front ++ rest.now) }
-    ensures { OnOk result (out.new.items ≡ out.old.items
-        ++ (take (length bytes.now - length rest.now) bytes.now ++ (line.now ++ line_feed ∷ []))) }
+/// Spells the lines of a block that is not UTF-8, before other bytes, and counts them.
+#[cold]
+fn respell_broken(block: &[u8], behind: &[u8], answer: &mut Answer<'_>) -> Result<u64, RespellFault>
+    requires { EndsWith answer.old.pending (block.now ++ behind.now) }
+    ensures ok { IfOk result (λ count. IsSpelledOn block.now count behind.now answer.old answer.new) }
+    ensures fault { IfErr result (λ fault. TellsRespellIn fault block.now) }
 {
-    out.extend_from_slice(&bytes[..bytes.len() - rest.len()])?;
-    out.extend_from_slice(line.as_bytes())?;
-    out.push(b'\n')?;
-    Ok(())
+    let mut made = Vec::new(answer.allocator());
+    let count = match respell_pieces(block, &mut made) {
+        Ok(count) => count,
+        Err(fault) => return Err(fault),
+    };
+    match answer.push(block.len() + behind.len(), &made, behind.len()) {
+        Ok(()) => Ok(count),
+        Err(error) => Err(RespellFault::Memory(error)),
+    }
 }
 
 /// Appends the lines of any bytes without a mark and counts them.

@@ -1,25 +1,26 @@
 use Rattle.std.proofs.Common.{◌<◌, ◌++◌, length, arith, ap, sym, ◌∙◌}
 use Rattle.std.proofs.lemmas.List.{append_assoc}
 use Rattle.ged_line.specs.Pieces.{pieces_of}
+use Rattle.ged_line.specs.inner.Respelling.{text_before}
 use Rattle.ged_line.proofs.bytes.Cutting.{parts_of_first, nil_of, pieces_of_nil}
-use Rattle.ged_line.proofs.file.Respelling.{IsRespelledTo-start, IsRespelledTo-kept, IsRespelledTo-copied, IsRespelledTo-end, HaveRespelled-fault, HaveRespelled-room}
+use Rattle.ged_line.proofs.file.Respelling.{IsRespelledTo-start, IsRespelledTo-kept, IsRespelledTo-made, IsRespelledTo-length, IsRespelledTo-end, HaveRespelled-fault, HaveRespelled-room}
 use Rattle.ged_line.specs.declared.fault.LineFault.TheVariants.{BannedCharacter}
 use Rattle.ged_line.proofs.line.Scans.{banned_character}
 use Rattle.ged_line.proofs.file.respell.respell_text.Goals as goal
 
 pub loop-rest-init : goal.loop-rest-init
-loop-rest-init c = (c.utf8.text, rw c.as_bytes-uncopied.ensures.value (IsRespelledTo-start c.args.text.now c.args.out.now.items))
+loop-rest-init c = (c.utf8.text, IsRespelledTo-start c.args.text.now c.args.behind.now c.args.answer.now c.requires)
 
 pub overflow_add-line : goal.overflow_add-line
 overflow_add-line c =
     let room : c.loop-rest.line < length c.args.text.now =
-    HaveRespelled-room c.args.text.now c.loop-rest.line (pieces_of c.loop-rest.rest.now) (pieces_of c.cut_line-has_banned.result.after.now) c.cut_line-has_banned.result.piece.now c.args.out.now.items (c.loop-rest.out.items ++ c.loop-rest.invariant.1.kept)
+    HaveRespelled-room c.args.text.now c.loop-rest.line (pieces_of c.loop-rest.rest.now) (pieces_of c.cut_line-has_banned.result.after.now) c.cut_line-has_banned.result.piece.now (text_before (c.args.text.now ++ c.args.behind.now) c.args.answer.now) (c.loop-rest.answer.text ++ c.loop-rest.invariant.1.kept)
     c.cut_line-has_banned.ensures.pieces c.loop-rest.invariant.1.read in
     omega arith
 
 pub returns-in-Err-clause-fault : goal.returns-in-Err-clause-fault
 returns-in-Err-clause-fault c =
-    HaveRespelled-fault c.args.text.now c.loop-rest.line (pieces_of c.loop-rest.rest.now) (pieces_of c.cut_line-has_banned.result.after.now) c.cut_line-has_banned.result.piece.now c.args.out.now.items (c.loop-rest.out.items ++ c.loop-rest.invariant.1.kept)
+    HaveRespelled-fault c.args.text.now c.loop-rest.line (pieces_of c.loop-rest.rest.now) (pieces_of c.cut_line-has_banned.result.after.now) c.cut_line-has_banned.result.piece.now (text_before (c.args.text.now ++ c.args.behind.now) c.args.answer.now) (c.loop-rest.answer.text ++ c.loop-rest.invariant.1.kept)
     c.in-Err.fault c.cut_line-has_banned.ensures.pieces c.in-Err.ensures c.loop-rest.invariant.1.read
 
 pub is_line_before-requires : goal.is_line_before-requires
@@ -32,27 +33,36 @@ is_line_before-requires c =
           ∙ append_assoc spelled blank (end ++ c.cut_line-has_banned.result.after.now) ∙ ap (λ x. spelled ++ x) (sym (append_assoc blank end c.cut_line-has_banned.result.after.now)),
     )
 
+pub push_line-requires-clause-left : goal.push_line-requires-clause-left
+push_line-requires-clause-left c =
+    IsRespelledTo-length c.args.text.now c.loop-rest.line c.loop-rest.rest.now c.args.behind.now c.loop-rest.answer.pending (text_before (c.args.text.now ++ c.args.behind.now) c.args.answer.now)
+    c.loop-rest.answer.text c.loop-rest.invariant.1
+
 pub loop-rest-preserved-in_default : goal.loop-rest-preserved-in_default
-loop-rest-preserved-in_default c = (
-  c.cut_line-has_banned.ensures.utf8,
-  rw c.as_bytes-uncopied-then-not-is_line_before.ensures.value
-      (IsRespelledTo-copied c.args.text.now c.loop-rest.line c.loop-rest.rest.now c.cut_line-has_banned.result.after.now c.loop-rest.uncopied.now c.args.out.now.items c.loop-rest.out.items c.append_up_to.new.out.items
-      c.cut_line-has_banned.result.piece.now c.in-Ok.view c.cut_line-has_banned.ensures.pieces c.in-Ok.ensures (rw (← c.canonical_text-spelled.ensures.spelled) c.in_default.ensures) c.loop-rest.invariant.1),
-)
+loop-rest-preserved-in_default c =
+    let (end, parts) = parts_of_first c.loop-rest.rest.now c.cut_line-has_banned.result.piece.now c.cut_line-has_banned.result.after.now c.cut_line-has_banned.ensures.first in (
+      c.cut_line-has_banned.ensures.utf8,
+      IsRespelledTo-made c.args.text.now c.loop-rest.line c.loop-rest.rest.now c.cut_line-has_banned.result.after.now c.args.behind.now c.loop-rest.answer.pending c.push_line.new.self.pending
+          (text_before (c.args.text.now ++ c.args.behind.now) c.args.answer.now) c.loop-rest.answer.text c.push_line.new.self.text
+          c.cut_line-has_banned.result.piece.now (c.cut_line-has_banned.result.piece.now ++ end) c.in-Ok.view c.cut_line-has_banned.ensures.pieces c.in-Ok.ensures
+          (parts ∙ sym (append_assoc c.cut_line-has_banned.result.piece.now end c.cut_line-has_banned.result.after.now))
+          (rw (← c.canonical_text-spelled.ensures.spelled) c.in_default.ensures.text) c.in_default.ensures.pending c.loop-rest.invariant.1,
+    )
 
 pub loop-rest-preserved : goal.loop-rest-preserved
 loop-rest-preserved c = (
   c.cut_line-has_banned.ensures.utf8,
-  IsRespelledTo-kept c.args.text.now c.loop-rest.line c.loop-rest.rest.now c.cut_line-has_banned.result.after.now c.loop-rest.uncopied.now c.args.out.now.items c.loop-rest.out.items
+  IsRespelledTo-kept c.args.text.now c.loop-rest.line c.loop-rest.rest.now c.cut_line-has_banned.result.after.now c.args.behind.now c.loop-rest.answer.pending
+      (text_before (c.args.text.now ++ c.args.behind.now) c.args.answer.now) c.loop-rest.answer.text
       c.cut_line-has_banned.result.piece.now c.in-Ok.view c.cut_line-has_banned.ensures.pieces c.in-Ok.ensures (rw (← c.canonical_text-spelled.ensures.spelled) (c.is_line_before.ensures c.if-not-is_line_before.false)) c.loop-rest.invariant.1,
 )
 
-pub returns-in-Ok-extend_from_slice-clause-ok : goal.returns-in-Ok-extend_from_slice-clause-ok
-returns-in-Ok-extend_from_slice-clause-ok c =
-    IsRespelledTo-end c.args.text.now c.loop-rest.line c.loop-rest.rest.now c.loop-rest.uncopied.now c.args.out.now.items c.loop-rest.out.items c.extend_from_slice.new.self.items
-    (pieces_of_nil c.loop-rest.rest.now c.loop-rest-test.ensures) (nil_of c.loop-rest.rest.now c.loop-rest-test.ensures) c.in-Ok-extend_from_slice.ensures.items c.loop-rest.invariant.1
+pub returns-clause-ok : goal.returns-clause-ok
+returns-clause-ok c =
+    IsRespelledTo-end c.args.text.now c.loop-rest.line c.loop-rest.rest.now c.args.behind.now c.args.answer.now c.loop-rest.answer
+    (pieces_of_nil c.loop-rest.rest.now c.loop-rest-test.ensures) (nil_of c.loop-rest.rest.now c.loop-rest-test.ensures) c.loop-rest.invariant.1
 
 pub returns-then-has_banned-clause-fault : goal.returns-then-has_banned-clause-fault
 returns-then-has_banned-clause-fault c =
-    HaveRespelled-fault c.args.text.now c.loop-rest.line (pieces_of c.loop-rest.rest.now) (pieces_of c.cut_line-has_banned.result.after.now) c.cut_line-has_banned.result.piece.now c.args.out.now.items (c.loop-rest.out.items ++ c.loop-rest.invariant.1.kept)
+    HaveRespelled-fault c.args.text.now c.loop-rest.line (pieces_of c.loop-rest.rest.now) (pieces_of c.cut_line-has_banned.result.after.now) c.cut_line-has_banned.result.piece.now (text_before (c.args.text.now ++ c.args.behind.now) c.args.answer.now) (c.loop-rest.answer.text ++ c.loop-rest.invariant.1.kept)
     BannedCharacter c.cut_line-has_banned.ensures.pieces (banned_character c.cut_line-has_banned.result.piece.now c.cut_line-has_banned.ensures.piece_utf8 (sym c.cut_line-has_banned.ensures.banned ∙ c.if-has_banned.true)) c.loop-rest.invariant.1.read
