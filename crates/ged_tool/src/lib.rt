@@ -22,7 +22,7 @@ pub use laws::{
     one_accepted, one_file_fault, one_list_of_notices, one_verdict, same_is_an_equivalence,
     strict_refuses_notices, tidy_headline,
 };
-pub use runs::answer::Command;
+pub use runs::answer::{Command, answer};
 pub use runs::devices::{Failed, Sink, Source};
 pub use runs::input::Input;
 pub use runs::one_file::{run, run_as, run_told};

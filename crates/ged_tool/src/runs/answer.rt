@@ -32,7 +32,10 @@ pub enum Command {
     Tidy,
 }
 
-/// The whole answer to a file, or why there is none: a fault of the file, or want of memory.
+/// The whole answer to a file, or why there is none.
+///
+/// Answers InFile with the fault of the file that the command tells, or Memory where no memory was found, and no other fault.
+/// Grows.
 pub fn answer(
     alloc: Global,
     settings: Settings,

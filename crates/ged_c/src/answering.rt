@@ -1,0 +1,116 @@
+// An answer about one file, in a room that the caller hands.
+ghost use Rattle.std.specs.Prelude.{◌≡◌, ◌↔◌};
+ghost use Rattle.ged_c.specs.Calls.{IsPut, Means, IsCall, status_of, length_of, line_of, line_of_fault as line_told};
+
+use crate::settings::{is_too_long, settings_of};
+use ged_tool::{Command, Fault, answer};
+use std::alloc::Global;
+
+/// How a call on one file ended.
+#[derive(Clone, Copy, PartialEq, Eq, Debug)]
+pub enum Ended {
+    /// The answer stands at the front of the room, and has this many bytes.
+    Answered(usize),
+    /// There is an answer of this many bytes, for which the room is too small.
+    NoRoom(usize),
+    /// There is no answer, and this is why.
+    Refused(Fault),
+    /// The number of the settings has no meaning.
+    BadSettings,
+}
+
+impl Ended {
+    /// The status by which C is told.
+    fn status(&self) -> u32
+        ensures { result ≡ status_of self.now }
+    {
+        match self {
+            Ended::Answered(_) => 0,
+            Ended::NoRoom(_) => 64,
+            Ended::Refused(fault) => u32::from(fault.number()),
+            Ended::BadSettings => 65,
+        }
+    }
+
+    /// The length of the answer in bytes, or 0 where there is none.
+    fn length(&self) -> usize
+        ensures { result ≡ length_of self.now }
+    {
+        match self {
+            Ended::Answered(length) | Ended::NoRoom(length) => *length,
+            Ended::Refused(_) | Ended::BadSettings => 0,
+        }
+    }
+
+    /// The line of a fault of the file, counted from 1, or 0.
+    fn line(&self) -> u64
+        ensures { result ≡ line_of self.now }
+    {
+        match self {
+            Ended::Refused(fault) => line_of_fault(fault),
+            Ended::Answered(_) | Ended::NoRoom(_) | Ended::BadSettings => 0,
+        }
+    }
+}
+
+/// The line of a fault of the file, counted from 1; 0 for any other fault. Takes no memory.
+pub fn line_of_fault(fault: &Fault) -> u64
+    ensures { result ≡ line_told fault.now }
+{
+    match fault {
+        Fault::InFile { line, kind: _ } => *line,
+        Fault::TooLong | Fault::ReadFailed | Fault::WriteFailed | Fault::Memory(_) => 0,
+    }
+}
+
+/// Answers a file into the room, and tells by three numbers how that ended. Grows.
+pub fn call(
+    alloc: Global,
+    command: Command,
+    settings: u32,
+    file: &[u8],
+    room: &mut [u8],
+    length: &mut usize,
+    line: &mut u64,
+) -> u32
+    ensures { IsCall command settings file.now room.old room.new result length.new line.new }
+{
+    let ended = answer_into(alloc, command, settings, file, room);
+    *length = ended.length();
+    *line = ended.line();
+    ended.status()
+}
+
+/// Answers a file into the room. Grows.
+fn answer_into(
+    alloc: Global,
+    command: Command,
+    settings: u32,
+    file: &[u8],
+    room: &mut [u8],
+) -> Ended
+    ensures { Means command settings file.now room.old room.new result }
+{
+    let Some(settings) = settings_of(settings) else {
+        return Ended::BadSettings;
+    };
+    if is_too_long(file.len()) {
+        return Ended::Refused(Fault::TooLong);
+    }
+    match answer(alloc, settings, command, file) {
+        Ok(text) => put(&text, room),
+        Err(fault) => Ended::Refused(fault),
+    }
+}
+
+/// Puts an answer at the front of the room, if it has room for all of it.
+fn put(text: &[u8], room: &mut [u8]) -> Ended
+    ensures { IsPut text.now room.old room.new result }
+{
+    let length = text.len();
+    if length > room.len() {
+        return Ended::NoRoom(length);
+    }
+    room[..length].copy_from_slice(text);
+    Ended::Answered(length)
+}

@@ -1,0 +1,14 @@
+//! The calls of `gedtool` on whole files, for programs in C and for all that can call C. `ffi/c/gedtool.h` declares them.
+#![tactic(auto)]
+
+mod answering;
+mod comparing;
+mod exports;
+mod settings;
+
+pub use answering::Ended;
+pub use comparing::Compared;
+pub use exports::{
+    gedtool_abi, gedtool_canon, gedtool_check, gedtool_lines, gedtool_same, gedtool_show,
+    gedtool_version,
+};
