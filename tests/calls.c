@@ -246,7 +246,8 @@ static void agree(uint32_t settings, struct bytes file) {
 }
 
 static void do_spoiled(long count, int files, char **given) {
-    struct bytes *all = calloc((size_t)files, sizeof *all);
+    struct bytes *all = __real_malloc((size_t)files * sizeof *all);
+    expect(all != NULL, "the test has memory");
     for (int i = 0; i < files; i++) {
         all[i] = read_file(given[i]);
     }
@@ -259,6 +260,10 @@ static void do_spoiled(long count, int files, char **given) {
         __real_free(exact.at);
         __real_free(spoiled.at);
     }
+    for (int i = 0; i < files; i++) {
+        __real_free(all[i].at);
+    }
+    __real_free(all);
     printf("%ld\n", count);
 }
 
