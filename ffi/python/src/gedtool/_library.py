@@ -43,6 +43,11 @@ class _Buffer(ctypes.Structure):
         ("internal", c_void_p),
     ]
 
+    @property
+    def first_byte(self) -> int:
+        """Where the bytes stand; where there are none, any place, since the library wants no null."""
+        return self.address or ctypes.addressof(self)
+
 
 def _bound(library: ctypes.CDLL, name: str, result: Any, *arguments: Any) -> Any:
     """A call of a library, with its types. The library is not one that others bind too."""
@@ -162,7 +167,7 @@ def answer(name: str, settings: int, data: Data) -> bytes:
         wanted = min(file.length, LIMIT) * 9 // 8 + 4096
         while True:
             room = _Room(wanted)
-            status = call(settings, file.address, file.length, room.address, room.length, byref(length), byref(line))
+            status = call(settings, file.first_byte, file.length, room.address, room.length, byref(length), byref(line))
             if status != ROOM_TOO_SMALL:
                 break
             wanted = length.value
@@ -176,9 +181,9 @@ def same(settings: int, first: Data, second: Data) -> bool:
     with _held(first, "first") as one, _held(second, "second") as other:
         status = _calls_for(one, other).same(
             settings,
-            one.address,
+            one.first_byte,
             one.length,
-            other.address,
+            other.first_byte,
             other.length,
             byref(is_same),
             byref(which),
