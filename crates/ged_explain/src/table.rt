@@ -7,7 +7,7 @@ pub(crate) static MEANINGS: [Meaning; 29] = [
         number: 1,
         name: "NotUtf8",
         title: "The line is not UTF-8 text.",
-        cause: "The file was saved in an older character set such as ANSEL, ANSI or Windows-1252. Export it once more from the program that wrote it, as GEDCOM 7 or with the character set UTF-8.",
+        cause: "The file was saved in another character set, such as ANSEL, ANSI, Windows-1252 or UTF-16. Export it once more from the program that wrote it, as GEDCOM 7 or with the character set UTF-8. At line 1 the file may be no text at all, but a packed file such as GEDZIP, or a picture.",
         example: "1 NAME J\\xFCrgen /Weber/    <- here",
     },
     Meaning {
@@ -28,7 +28,7 @@ pub(crate) static MEANINGS: [Meaning; 29] = [
         number: 4,
         name: "BadLevel",
         title: "The line does not begin with a level and one space.",
-        cause: "A text of several lines was put into the file without CONT, so that its further lines have no level; or the lines were indented.",
+        cause: "A text of several lines was put into the file without CONT, so that its further lines have no level; or the lines were indented. At line 1 the file may be no GEDCOM at all, but a web page.",
         example: "1 NOTE The register\nwas lost.    <- here",
     },
     Meaning {
@@ -49,14 +49,14 @@ pub(crate) static MEANINGS: [Meaning; 29] = [
         number: 7,
         name: "BadTag",
         title: "What stands at the tag's place is no tag.",
-        cause: "A tag has capital letters, digits and _. It may have been written in small letters, or two spaces stand before it.",
+        cause: "A tag has capital letters, digits and _. It may have been written in small letters, or two spaces stand before it; or a text of several lines was put into the file without CONT, and one of its lines begins with a number.",
         example: "1 Sex F    <- here",
     },
     Meaning {
         number: 8,
         name: "BadValue",
         title: "The value begins with @ and is no pointer.",
-        cause: "A text that begins with @ is written with @@. If a pointer was meant, it has capital letters, digits and _ between two @, and nothing behind it.",
+        cause: "A text that begins with @ is written with @@. If a pointer was meant, it has capital letters, digits and _ between two @, and nothing behind it. Older versions wrote the calendar of a date between two @; now @#DJULIAN@ 3 MAY 1671 is JULIAN 3 MAY 1671.",
         example: "1 NOTE @home: see the letter    <- here",
     },
     Meaning {
@@ -84,7 +84,7 @@ pub(crate) static MEANINGS: [Meaning; 29] = [
         number: 12,
         name: "NoHeader",
         title: "The first line is not HEAD.",
-        cause: "The beginning of the file is missing, or the file is not GEDCOM: a packed file such as GEDZIP, a web page, or an empty file.",
+        cause: "The beginning of the file is missing, or other lines were put before it, or the file is empty. A command such as gedtool canon f > f empties f before it is read.",
         example: "0 @I7@ INDI    <- here\n1 SEX F",
     },
     Meaning {
@@ -140,7 +140,7 @@ pub(crate) static MEANINGS: [Meaning; 29] = [
         number: 20,
         name: "BadPayload",
         title: "What stands behind the tag is not of the kind that belongs there.",
-        cause: "A date, an age or a word was written as people write it, or as an older version of GEDCOM wrote it. In a date the words are English and in capital letters; what does not fit can stand in a PHRASE below it.",
+        cause: "A date, an age or a word was written as people write it, or as an older version of GEDCOM wrote it. In a date the words are English and in capital letters; what does not fit can stand in a PHRASE below it. What older versions wrote as NOTE with a pointer is SNOTE now.",
         example: "1 BIRT\n2 DATE 3 Mai 1871    <- here",
     },
     Meaning {
@@ -175,7 +175,7 @@ pub(crate) static MEANINGS: [Meaning; 29] = [
         number: 25,
         name: "ReadFailed",
         title: "The file could not be opened or read.",
-        cause: "No file has this name in this folder, it may not be read by you, or the disk that it is on was taken away.",
+        cause: "No file has this name in this folder, it is a folder itself, it may not be read by you, or the disk that it is on was taken away.",
         example: "gedtool check no-such-file.ged",
     },
     Meaning {
@@ -196,7 +196,7 @@ pub(crate) static MEANINGS: [Meaning; 29] = [
         number: 28,
         name: "OneWayLink",
         title: "A person names a family that does not name the person, or the other way round.",
-        cause: "One of the two records was changed by hand, or a person was taken out of a family in one of them only.",
+        cause: "One of the two records was changed by hand, or a person was taken out of a family in one of them only. Add the line that is missing there, or take this one away.",
         example: "0 @I7@ INDI\n1 FAMC @F1@    <- here\n0 @F1@ FAM",
     },
     Meaning {
