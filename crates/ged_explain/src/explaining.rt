@@ -165,8 +165,8 @@ fn say_wrong(kind: FileFault, site: &Site<'_>, told: &mut Told) {
 
 fn say_end(kind: FileFault, told: &mut Told) {
     told.say(match kind {
-        FileFault::NoTrailer => "the last line is 0 TRLR",
-        _ => "the first line is 0 HEAD",
+        FileFault::NoTrailer => "the last line has to be 0 TRLR",
+        _ => "the first line has to be 0 HEAD",
     });
 }
 

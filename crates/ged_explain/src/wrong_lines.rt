@@ -12,7 +12,9 @@ pub(crate) fn say_wrong_line(kind: FileFault, piece: &[u8], told: &mut Told) {
         FileFault::BadLevel => told.say(
             "a line begins with its level, such as 0 or 1, and one space",
         ),
-        FileFault::LevelTooLarge => told.say("the greatest level is 99"),
+        FileFault::LevelTooLarge => told.say(
+            "the number in front is the level; the greatest one is 99",
+        ),
         FileFault::BadXref => {
             told.say(
                 "behind the level belongs a tag, or an identifier such as @I7@, a space and a tag",

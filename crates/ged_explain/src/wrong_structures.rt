@@ -16,8 +16,8 @@ pub(crate) fn say_wrong_structure(
             "only records have identifiers, and HEAD and TRLR are none",
         ),
         FileFault::MisplacedCont => say_misplaced(own, told),
-        FileFault::NoHeader => told.say("the first line is 0 HEAD"),
-        FileFault::SecondHeader => told.say("only the first line is 0 HEAD"),
+        FileFault::NoHeader => told.say("the first line has to be 0 HEAD"),
+        FileFault::SecondHeader => told.say("only the first line may be 0 HEAD"),
         FileFault::TrailerNotEmpty => told.say(
             "0 TRLR ends the file; it has no value, and nothing stands below it",
         ),
@@ -27,7 +27,7 @@ pub(crate) fn say_wrong_structure(
 
 fn say_jump(before: Option<Step<'_>>, level: u8, told: &mut Told) {
     let Some(before) = before else {
-        return told.say("the first line is 0 HEAD");
+        return told.say("the first line has to be 0 HEAD");
     };
     told.say("level ");
     told.say_number(u64::from(level));
