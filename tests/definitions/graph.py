@@ -5,7 +5,7 @@ from definitions.antt import BUILT_IN, Unreadable, clauses, read_file, reference
 from definitions.rattle import read_source, type_paths
 
 # The toolchain's libraries, of which nothing is followed.
-LIBRARIES = {'std', 'core', 'clap', 'memchr'}
+LIBRARIES = {'std', 'core', 'clap', 'memchr', 'sha2', 'hex'}
 RUST_BUILT_IN = set('Self Option Result Vec String Copy Clone Drop Iterator From Into PartialEq Eq Default HostRuntime'.split())
 # Members of an impl that prove something, or serve the checker: no contract speaks of them.
 PROOFS = {'laws', 'coded', 'size', 'size_decreases', 'inverse', 'inverse_ok'}

@@ -1,5 +1,6 @@
 pub mod Accepting
 pub mod Comparing
+pub mod Digests
 pub mod LineNumbers
 pub mod OneList
 pub mod Respelt

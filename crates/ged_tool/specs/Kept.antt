@@ -3,10 +3,12 @@ use Rattle.std.specs.Prelude.{◌≡◌, ◌⊎◌, ℕ, [], Option, Some, None}
 use Rattle.ged_line.specs.Bytes.{Bytes}
 use Rattle.ged_schema.specs.declared.profile.Profile.{Profile}
 use Rattle.ged_canon.specs.declared.edition.Edition.{Edition}
-use Rattle.ged_tool.specs.Run.{IsRun}
+use Rattle.ged_tool.specs.Answers.{Answers, FaultAt}
+use Rattle.ged_tool.specs.Run.{IsRunOf}
 use Rattle.ged_tool.specs.SameRun.{IsSameRun}
 use Rattle.ged_tool.specs.declared.runs.answer.Command.{Command}
 use Rattle.ged_tool.specs.declared.faults.Which.TheVariants.{First, Second}
+use Rattle.ged_tool.specs.declared.faults.FileFault.{FileFault}
 use Rattle.ged_tool.specs.declared.faults.Fault.{Fault}
 use Rattle.ged_tool.specs.declared.faults.Fault.TheVariants.{InFile, TooLong, ReadFailed, WriteFailed, Memory}
 use Rattle.ged_tool.specs.declared.faults.Outcome.{Outcome}
@@ -36,9 +38,13 @@ IsKeptOf kept first second (Failed (Some First) fault) = IsKeptWith kept first f
 IsKeptOf kept first second (Failed (Some Second) fault) = IsKeptWith kept second fault
 
 -- a run, and what is kept of the bytes that came
-pub record IsKeptRun (profile : Profile) (edition : Edition) (command : Command) (limit : ℕ) (to_come left taken holds : Option Bytes) (outcome : Outcome) (bytes : Bytes) : Type 0 where
-  pub run : IsRun profile edition command limit to_come left taken holds outcome
+pub record IsKeptRunOf (Answer : Bytes → Bytes → Type 0) (Wrong : Bytes → ℕ → FileFault → Type 0) (limit : ℕ) (to_come left taken holds : Option Bytes) (outcome : Outcome) (bytes : Bytes) : Type 0 where
+  pub run : IsRunOf Answer Wrong limit to_come left taken holds outcome
   pub kept : IsKept bytes run.came outcome
+
+-- the same of a command
+abbrev pub IsKeptRun : Profile → Edition → Command → ℕ → (to_come left taken holds : Option Bytes) → Outcome → (bytes : Bytes) → Type 0
+IsKeptRun profile edition command = IsKeptRunOf (Answers profile edition command) (FaultAt profile command)
 
 -- a run over two files, and what is kept of the bytes that came of both
 pub record IsKeptSameRun (profile : Profile) (edition : Edition) (limit : ℕ) (first_to_come first_left second_to_come second_left taken holds : Option Bytes) (outcome : Outcome) (bytes : Bytes) : Type 0 where

@@ -3,6 +3,9 @@ pub mod Faults
 pub mod Answers
 pub mod Run
 pub mod Canon
+pub mod Digest
+pub mod DigestLaws
+pub mod DigestRun
 pub mod Headline
 pub mod Tidied
 pub mod Same

@@ -7,6 +7,7 @@ use Rattle.ged_schema.specs.declared.profile.Profile.{Profile}
 use Rattle.ged_canon.specs.declared.edition.Edition.{Edition}
 use Rattle.ged_tool.specs.Answers.{Answers, FaultAt}
 use Rattle.ged_tool.specs.declared.runs.answer.Command.{Command}
+use Rattle.ged_tool.specs.declared.faults.FileFault.{FileFault}
 use Rattle.ged_tool.specs.declared.faults.Fault.{Fault}
 use Rattle.ged_tool.specs.declared.faults.Fault.TheVariants.{InFile, TooLong, ReadFailed, WriteFailed, Memory}
 use Rattle.ged_tool.specs.declared.faults.Outcome.{Outcome}
@@ -17,28 +18,31 @@ pub record IsWhole (limit : ℕ) (came : Bytes) (left : Option Bytes) : Type 0 w
   pub within : length came ≤ limit
   pub ended : IsAtEnd left
 
--- What a fault says. Nothing was written, but where writing failed: then the front of the whole answer.
-abbrev pub Tells : Profile → Edition → Command → ℕ → Bytes → Option Bytes → Bytes → Fault → Type 0
-Tells profile edition command limit came left written (InFile line kind) =
-    IsWhole limit came left × FaultAt profile command came line kind × (written ≡ [])
-Tells profile edition command limit came left written TooLong = (limit < length came) × (written ≡ [])
-Tells profile edition command limit came left written ReadFailed = (length came ≤ limit) × (written ≡ [])
-Tells profile edition command limit came left written WriteFailed =
-    IsWhole limit came left × ((text : Bytes) × Answers profile edition command came text × StartsWith text written)
-Tells profile edition command limit came left written (Memory error) = (length came ≤ limit) × (written ≡ [])
+-- What a fault says, where `Answer` says which text answers the bytes of a file, and `Wrong` which fault they have at which
+-- line. Nothing was written, but where writing failed: then the front of the whole answer.
+abbrev pub Tells : (Answer : Bytes → Bytes → Type 0) → (Wrong : Bytes → ℕ → FileFault → Type 0) → ℕ → Bytes → Option Bytes → Bytes → Fault → Type 0
+Tells Answer Wrong limit came left written (InFile line kind) = IsWhole limit came left × Wrong came line kind × (written ≡ [])
+Tells Answer Wrong limit came left written TooLong = (limit < length came) × (written ≡ [])
+Tells Answer Wrong limit came left written ReadFailed = (length came ≤ limit) × (written ≡ [])
+Tells Answer Wrong limit came left written WriteFailed =
+    IsWhole limit came left × ((text : Bytes) × Answer came text × StartsWith text written)
+Tells Answer Wrong limit came left written (Memory error) = (length came ≤ limit) × (written ≡ [])
 
--- What an outcome says. The command on one file names no file and compares none.
-abbrev pub Means : Profile → Edition → Command → ℕ → Bytes → Option Bytes → Bytes → Outcome → Type 0
-Means profile edition command limit came left written Done = IsWhole limit came left × Answers profile edition command came written
-Means profile edition command limit came left written Different = ⊥
-Means profile edition command limit came left written (Failed which fault) =
-    (which ≡ None) × Tells profile edition command limit came left written fault
+-- What an outcome says. A run over one file names no file and compares none.
+abbrev pub Means : (Answer : Bytes → Bytes → Type 0) → (Wrong : Bytes → ℕ → FileFault → Type 0) → ℕ → Bytes → Option Bytes → Bytes → Outcome → Type 0
+Means Answer Wrong limit came left written Done = IsWhole limit came left × Answer came written
+Means Answer Wrong limit came left written Different = ⊥
+Means Answer Wrong limit came left written (Failed which fault) = (which ≡ None) × Tells Answer Wrong limit came left written fault
 
 -- A run: some bytes came and some were written, and the outcome says what they are. A reader that tells the bytes to
 -- come gave these and has the others left; a writer that tells the bytes taken took these.
-pub record IsRun (profile : Profile) (edition : Edition) (command : Command) (limit : ℕ) (to_come left taken holds : Option Bytes) (outcome : Outcome) : Type 0 where
+pub record IsRunOf (Answer : Bytes → Bytes → Type 0) (Wrong : Bytes → ℕ → FileFault → Type 0) (limit : ℕ) (to_come left taken holds : Option Bytes) (outcome : Outcome) : Type 0 where
   pub came : Bytes
   pub written : Bytes
   pub gave : Consumes to_come left came
   pub took : Appends taken holds written
-  pub means : Means profile edition command limit came left written outcome
+  pub means : Means Answer Wrong limit came left written outcome
+
+-- the run of a command
+abbrev pub IsRun : Profile → Edition → Command → ℕ → (to_come left taken holds : Option Bytes) → Outcome → Type 0
+IsRun profile edition command = IsRunOf (Answers profile edition command) (FaultAt profile command)

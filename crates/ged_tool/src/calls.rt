@@ -1,6 +1,7 @@
 // The calls of the library: what is asked about a file's bytes.
 pub(crate) mod accept;
 pub(crate) mod canonicalise;
+pub(crate) mod digest;
 pub(crate) mod feed;
 pub(crate) mod judged_lines;
 pub(crate) mod notices;

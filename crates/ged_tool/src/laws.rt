@@ -4,6 +4,7 @@ ghost use Rattle.ged_tool.specs.Laws.{OneAccepted, AcceptedIsFaultless, OneFileF
 ghost use Rattle.ged_tool.specs.Laws.{IsAcceptedOrFaulty, LinesFromOne, OneListOfNotices, OneVerdict, CanonIsPromised, SecondAgrees};
 ghost use Rattle.ged_tool.specs.Tidied.{TidyIsPromised};
 ghost use Rattle.ged_tool.specs.SameLaws.{OneComparison, SameAsItself, SameBothWays, SameOnward, SameByCanon};
+ghost use Rattle.ged_tool.specs.DigestLaws.{OneDigest, SameDigest, CanonKeepsDigest};
 ghost use Rattle.ged_tool.specs.SameLaws.{LinesKeepAcceptance, LinesKeepFault, LinesKeepCanon};
 
 use ged_schema::Profile;
@@ -79,4 +80,12 @@ pub fn lines_keep_the_file()
     ensures accepted { LinesKeepAcceptance }
     ensures fault { LinesKeepFault }
     ensures canon { LinesKeepCanon }
+{}
+
+/// A file has one digest, files that are the same have the same, and so have a file and its canonical bytes: what
+/// [`digest_as`](crate::digest_as) answers depends on nothing that [`same_as`](crate::same_as) does not tell apart.
+pub fn same_have_one_digest()
+    ensures one_digest { OneDigest }
+    ensures same { SameDigest }
+    ensures canon { CanonKeepsDigest }
 {}

@@ -13,14 +13,12 @@ use Rattle.ged_tool.specs.declared.faults.Fault.{Fault}
 use Rattle.ged_tool.specs.declared.faults.Fault.TheVariants.{InFile, TooLong, ReadFailed, WriteFailed, Memory}
 use Rattle.ged_tool.specs.declared.faults.Outcome.{Outcome}
 use Rattle.ged_tool.specs.declared.faults.Outcome.TheVariants.{Done, Failed}
-use Rattle.ged_tool.specs.declared.runs.answer.Command.{Command}
 use Rattle.ged_tool.specs.Accepted.{IsRefusal}
-use Rattle.ged_tool.specs.Answers.{Answers, FaultAt}
 use Rattle.ged_tool.specs.Run.{IsWhole, Tells}
 use Rattle.ged_tool.specs.inner.Steps.{StopsReading, of_which}
 use Rattle.ged_tool.specs.Same.{IsSameRefusal}
 use Rattle.ged_tool.specs.SameRun.{Came, TellsOfFile}
-use Rattle.ged_tool.specs.Kept.{IsKeptOf, IsKeptRun, IsKeptSameRun, IsKeptWith}
+use Rattle.ged_tool.specs.Kept.{IsKeptOf, IsKeptRunOf, IsKeptSameRun, IsKeptWith}
 
 abbrev came_of : Bytes → Option Bytes → Came
 came_of bytes left = record { bytes = bytes; left = left }
@@ -123,16 +121,16 @@ judging_stops profile edition limit first_to_come first_left second_to_come seco
     keeps Second h of = all_kept _ second bytes fault h.1 of
 
 -- One file that did not come whole: nothing is written.
-pub run_stops : (profile : Profile) (edition : Edition) (command : Command) (limit : ℕ) (to_come left taken : Option Bytes) (came bytes : Bytes) (fault : Fault) (outcome : Outcome)
+pub run_stops : (Answer : Bytes → Bytes → Type 0) (Wrong : Bytes → ℕ → FileFault → Type 0) (limit : ℕ) (to_come left taken : Option Bytes) (came bytes : Bytes) (fault : Fault) (outcome : Outcome)
     → Consumes to_come left came → StopsReading limit came fault → bytes ≡ [] → outcome ≡ Failed None fault
-    → IsKeptRun profile edition command limit to_come left taken taken outcome bytes
-run_stops profile edition command limit to_come left taken came bytes fault outcome gave stops none is =
-    subst (λ (o : Outcome). IsKeptRun profile edition command limit to_come left taken taken o bytes) (sym is) (record {
+    → IsKeptRunOf Answer Wrong limit to_come left taken taken outcome bytes
+run_stops Answer Wrong limit to_come left taken came bytes fault outcome gave stops none is =
+    subst (λ (o : Outcome). IsKeptRunOf Answer Wrong limit to_come left taken taken o bytes) (sym is) (record {
       run = record { came = came; written = []; gave = gave; took = Appends-nil taken; means = (refl, tells fault stops) };
       kept = nothing_kept limit came bytes fault stops none;
     })
   where
-    tells : (fault : Fault) → StopsReading limit came fault → Tells profile edition command limit came left [] fault
+    tells : (fault : Fault) → StopsReading limit came fault → Tells Answer Wrong limit came left [] fault
     tells (InFile line kind) h = absurd h
     tells TooLong h = (h, refl)
     tells ReadFailed h = (h, refl)
@@ -140,16 +138,16 @@ run_stops profile edition command limit to_come left taken came bytes fault outc
     tells (Memory error) h = (h, refl)
 
 -- one that came whole, and has no answer
-pub run_refused : (profile : Profile) (edition : Edition) (command : Command) (limit : ℕ) (to_come left taken : Option Bytes) (came bytes : Bytes) (fault : Fault) (outcome : Outcome)
-    → IsWhole limit came left → Consumes to_come left came → IsRefusal (FaultAt profile command came) fault → bytes ≡ came → outcome ≡ Failed None fault
-    → IsKeptRun profile edition command limit to_come left taken taken outcome bytes
-run_refused profile edition command limit to_come left taken came bytes fault outcome whole gave refused same is =
-    subst (λ (o : Outcome). IsKeptRun profile edition command limit to_come left taken taken o bytes) (sym is) (record {
+pub run_refused : (Answer : Bytes → Bytes → Type 0) (Wrong : Bytes → ℕ → FileFault → Type 0) (limit : ℕ) (to_come left taken : Option Bytes) (came bytes : Bytes) (fault : Fault) (outcome : Outcome)
+    → IsWhole limit came left → Consumes to_come left came → IsRefusal (Wrong came) fault → bytes ≡ came → outcome ≡ Failed None fault
+    → IsKeptRunOf Answer Wrong limit to_come left taken taken outcome bytes
+run_refused Answer Wrong limit to_come left taken came bytes fault outcome whole gave refused same is =
+    subst (λ (o : Outcome). IsKeptRunOf Answer Wrong limit to_come left taken taken o bytes) (sym is) (record {
       run = record { came = came; written = []; gave = gave; took = Appends-nil taken; means = (refl, tells fault refused) };
       kept = all_kept _ came bytes fault refused same;
     })
   where
-    tells : (fault : Fault) → IsRefusal (FaultAt profile command came) fault → Tells profile edition command limit came left [] fault
+    tells : (fault : Fault) → IsRefusal (Wrong came) fault → Tells Answer Wrong limit came left [] fault
     tells (InFile line kind) h = (whole, h, refl)
     tells TooLong h = absurd h
     tells ReadFailed h = absurd h
@@ -157,19 +155,19 @@ run_refused profile edition command limit to_come left taken came bytes fault ou
     tells (Memory error) h = (whole.within, refl)
 
 -- one whose answer was written
-pub run_answered : (profile : Profile) (edition : Edition) (command : Command) (limit : ℕ) (to_come left taken holds : Option Bytes) (came text : Bytes)
-    → IsWhole limit came left → Consumes to_come left came → Answers profile edition command came text → Appends taken holds text
-    → IsKeptRun profile edition command limit to_come left taken holds Done came
-run_answered profile edition command limit to_come left taken holds came text whole gave answers took =
+pub run_answered : (Answer : Bytes → Bytes → Type 0) (Wrong : Bytes → ℕ → FileFault → Type 0) (limit : ℕ) (to_come left taken holds : Option Bytes) (came text : Bytes)
+    → IsWhole limit came left → Consumes to_come left came → Answer came text → Appends taken holds text
+    → IsKeptRunOf Answer Wrong limit to_come left taken holds Done came
+run_answered Answer Wrong limit to_come left taken holds came text whole gave answers took =
     record { run = record { came = came; written = text; gave = gave; took = took; means = (whole, answers) }; kept = refl }
 
 -- one of whose answer a front was written
-pub run_unwritten : (profile : Profile) (edition : Edition) (command : Command) (limit : ℕ) (to_come left taken holds : Option Bytes) (came text written bytes : Bytes) (outcome : Outcome)
-    → IsWhole limit came left → Consumes to_come left came → Answers profile edition command came text → Appends taken holds written → StartsWith text written
+pub run_unwritten : (Answer : Bytes → Bytes → Type 0) (Wrong : Bytes → ℕ → FileFault → Type 0) (limit : ℕ) (to_come left taken holds : Option Bytes) (came text written bytes : Bytes) (outcome : Outcome)
+    → IsWhole limit came left → Consumes to_come left came → Answer came text → Appends taken holds written → StartsWith text written
     → bytes ≡ came → outcome ≡ Failed None WriteFailed
-    → IsKeptRun profile edition command limit to_come left taken holds outcome bytes
-run_unwritten profile edition command limit to_come left taken holds came text written bytes outcome whole gave answers took front same is =
-    subst (λ (o : Outcome). IsKeptRun profile edition command limit to_come left taken holds o bytes) (sym is) (record {
+    → IsKeptRunOf Answer Wrong limit to_come left taken holds outcome bytes
+run_unwritten Answer Wrong limit to_come left taken holds came text written bytes outcome whole gave answers took front same is =
+    subst (λ (o : Outcome). IsKeptRunOf Answer Wrong limit to_come left taken holds o bytes) (sym is) (record {
       run = record { came = came; written = written; gave = gave; took = took; means = (refl, (whole, (text, answers, front))) };
       kept = same;
     })

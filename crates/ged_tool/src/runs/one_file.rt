@@ -11,7 +11,7 @@ ghost use Rattle.ged_tool.specs.inner.Steps.{StopsReading};
 use crate::faults::{Fault, Outcome};
 use crate::runs::answer::{Command, answer};
 use crate::runs::devices::{Failed, Sink, Source};
-use crate::runs::told::{Told, told_without};
+use crate::runs::told::{Told, told_with, told_without};
 use crate::settings::Settings;
 use ged_canon::Edition;
 use ged_schema::Profile;
@@ -112,16 +112,6 @@ pub fn run_told<R: Source, W: Sink>(
             bytes,
         },
         Err(Failed) => told_with(Fault::WriteFailed, bytes),
-    }
-}
-
-fn told_with(fault: Fault, bytes: Vec<u8>) -> Told
-    ensures outcome { result.outcome ≡ Outcome.Failed None fault }
-    ensures bytes { result.bytes.items ≡ bytes.items }
-{
-    Told {
-        outcome: Outcome::Failed { which: None, fault },
-        bytes,
     }
 }
 

@@ -1,7 +1,7 @@
 // What a run tells, with what it read.
-ghost use Rattle.std.specs.Prelude.{◌≡◌, []};
+ghost use Rattle.std.specs.Prelude.{◌≡◌, None, []};
 
-use crate::faults::Outcome;
+use crate::faults::{Fault, Outcome};
 use std::alloc::Global;
 
 /// How a run ended, and the bytes of a file that it read, for a caller that has more to say of a fault than its line.
@@ -21,5 +21,16 @@ pub(crate) fn told_without(alloc: Global, outcome: Outcome) -> Told
     Told {
         outcome,
         bytes: Vec::new(alloc),
+    }
+}
+
+/// A fault of a file whose bytes are kept. Takes no memory.
+pub(crate) fn told_with(fault: Fault, bytes: Vec<u8>) -> Told
+    ensures outcome { result.outcome ≡ Outcome.Failed None fault }
+    ensures bytes { result.bytes.items ≡ bytes.items }
+{
+    Told {
+        outcome: Outcome::Failed { which: None, fault },
+        bytes,
     }
 }

@@ -1,0 +1,75 @@
+// The run that tells the digest of a file: read the whole file, make its line, write it.
+ghost use Rattle.std.specs.Prelude.{◌≡◌, ◌+◌, ◌≤◌, ◌↔◌, None, false, IsTrue, MatchResult};
+ghost use Rattle.ged_tool.specs.Profiles.{profile_of, edition_of};
+ghost use Rattle.ged_tool.specs.Accepted.{FileFaultAt, IsRefusal};
+ghost use Rattle.ged_tool.specs.DigestRun.{IsKeptDigestRun, TellsDigest};
+
+use crate::calls::digest::digest_as;
+use crate::faults::{Fault, Outcome};
+use crate::runs::devices::{Failed, Sink, Source};
+use crate::runs::digest_line::digest_line;
+use crate::runs::one_file::{read_whole, write_whole};
+use crate::runs::told::{Told, told_with, told_without};
+use crate::settings::Settings;
+use std::alloc::Global;
+
+/// Reads a file to the reader's end, and writes a line with its digest, under the profile and in the edition of the settings,
+/// and its name, in the form of sha256sum.
+///
+/// The line is the digest as 64 hexadecimal digits with small letters, two spaces, the name and LF. In the name a backslash
+/// is written as two, LF as a backslash and `n`, CR as a backslash and `r`; where one of them is in the name, the line begins
+/// with a backslash. So a line is a file, whatever its name.
+///
+/// `limit`, the devices, the calls, the bytes that are kept and the outcome are as in [`run_told`](crate::run_told); InFile
+/// comes where the file is not accepted. Memory is taken for the file, for its document and index, for its canonical bytes,
+/// and for the line.
+pub fn run_digest<R: Source, W: Sink>(
+    alloc: Global,
+    settings: Settings,
+    limit: u64,
+    name: &str,
+    reader: &mut R,
+    writer: &mut W,
+) -> Told
+    requires limit { limit ≤ 1073741824 }
+    requires unread { R.reads reader.old ≡ 0 }
+    requires no_failure { (R.failed reader.old ≡ false) × (W.failed writer.old ≡ false) }
+    ensures calls { R.reads reader.new ≤ limit + 1 }
+    ensures read_failed { IsTrue (R.failed reader.new)
+        ↔ (result.outcome ≡ Outcome.Failed None Fault.ReadFailed) }
+    ensures write_failed { IsTrue (W.failed writer.new)
+        ↔ (result.outcome ≡ Outcome.Failed None Fault.WriteFailed) }
+    ensures bytes { IsKeptDigestRun (profile_of settings) (edition_of settings) name.now limit (R.to_come reader.old) (R.to_come reader.new)
+        (W.taken writer.old) (W.taken writer.new) result.outcome result.bytes.items }
+{
+    let bytes = match read_whole(alloc, limit, reader) {
+        Ok(bytes) => bytes,
+        Err(fault) => return told_without(alloc, Outcome::Failed { which: None, fault }),
+    };
+    let line = match line_of(alloc, settings, name, &bytes) {
+        Ok(line) => line,
+        Err(fault) => return told_with(fault, bytes),
+    };
+    match write_whole(writer, &line) {
+        Ok(()) => Told {
+            outcome: Outcome::Done,
+            bytes,
+        },
+        Err(Failed) => told_with(Fault::WriteFailed, bytes),
+    }
+}
+
+/// The line that tells the digest of a file, or why there is none: a fault of the file, or want of memory.
+fn line_of(alloc: Global, settings: Settings, name: &str, bytes: &[u8]) -> Result<Vec<u8>, Fault>
+    ensures { MatchResult result (λ line. TellsDigest (profile_of settings) (edition_of settings) name.now bytes.now line.items)
+        (IsRefusal (FileFaultAt (profile_of settings) bytes.now)) }
+{
+    let digest = match digest_as(alloc, settings, bytes) {
+        Ok(digest) => digest,
+        Err(fault) => return Err(fault),
+    };
+    match digest_line(alloc, &digest, name) {
+        Ok(line) => Ok(line),
+        Err(error) => Err(Fault::Memory(error)),
+    }
+}
