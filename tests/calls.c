@@ -147,6 +147,22 @@ static uint32_t call_same(uint32_t settings, struct bytes one, struct bytes two,
     return status;
 }
 
+static uint32_t call_digest(uint32_t settings, struct bytes file, uint8_t *digest, uint64_t *line) {
+    struct bytes room = with_room(32 + BEHIND);
+    *line = 77;
+    expect(gedtool_digest(settings, file.at, file.length, room.at, 31, line) == (settings > 3 ? GEDTOOL_BAD_SETTINGS : GEDTOOL_ROOM_TOO_SMALL),
+           "a digest wants 32 bytes");
+    expect(*line == 0 && is_marked(room.at, room.length), "without a digest the room is as it was");
+    *line = 77;
+    uint32_t status = gedtool_digest(settings, file.at, file.length, room.at, room.length, line);
+    expect(held == 0, "all memory is given back");
+    expect(is_marked(room.at + 32, room.length - 32), "behind a digest the room is as it was");
+    expect(status == GEDTOOL_OK || is_marked(room.at, 32), "without a digest the room is as it was");
+    memcpy(digest, room.at, 32);
+    __real_free(room.at);
+    return status;
+}
+
 // What is told of a fault, and the program's status for it.
 static int tell(const char *of, uint32_t status, uint64_t line) {
     if (line) {
@@ -160,6 +176,14 @@ static int tell(const char *of, uint32_t status, uint64_t line) {
 static int do_answer(const char *command, uint32_t settings, struct bytes *files) {
     uint32_t same, which;
     uint64_t line;
+    if (!strcmp(command, "digest")) {
+        uint8_t digest[32];
+        uint32_t status = call_digest(settings, files[0], digest, &line);
+        for (int i = 0; !status && i < 32; i++) {
+            printf("%02x", digest[i]);
+        }
+        return status ? tell("", status, line) : 0;
+    }
     if (!strcmp(command, "same")) {
         uint32_t status = call_same(settings, files[0], files[1], &same, &which, &line);
         if (status) {
@@ -225,7 +249,11 @@ static void agree(uint32_t settings, struct bytes file) {
     uint32_t status = call_all(gedtool_canon, settings, file, &canon, &line);
     expect(call_same(settings, file, canon, &same, &which, &further) == status, "same judges as canon does");
     expect(status ? which == 1 && further == line : same == 1, "a file is the same as its canonical form");
+    uint8_t digest[32], of_canon[32];
+    expect(call_digest(settings, file, digest, &further) == status && further == line, "digest judges as canon does");
     if (!status) {
+        expect(call_digest(settings, canon, of_canon, &further) == GEDTOOL_OK, "canonical bytes have a digest");
+        expect(!memcmp(digest, of_canon, 32), "a file has the digest of its canonical form");
         expect(call_all(gedtool_canon, settings, canon, &again, &further) == GEDTOOL_OK, "canonical bytes are accepted");
         expect(again.length == canon.length && !memcmp(again.at, canon.at, again.length), "they stay as they are");
         __real_free(again.at);
@@ -270,7 +298,8 @@ static void do_spoiled(long count, int files, char **given) {
 // Refuses each request of the calls in turn. Answers how many requests there were.
 static long refuse_each(uint32_t settings, struct bytes file) {
     long all = 0;
-    for (int i = 0; i < 5; i++) {
+    for (int i = 0; i < 6; i++) {
+        uint8_t digest[32];
         uint32_t status, wanted = 99, same, which;
         uint64_t line;
         size_t length;
@@ -279,7 +308,8 @@ static long refuse_each(uint32_t settings, struct bytes file) {
             requests = 0;
             refused_at = at;
             status = i < 4 ? call_once(calls[i], settings, file, room, &length, &line)
-                           : call_same(settings, file, file, &same, &which, &line);
+                     : i < 5 ? call_same(settings, file, file, &same, &which, &line)
+                             : gedtool_digest(settings, file.at, file.length, digest, 32, &line);
             refused_at = 0;
             __real_free(room.at);
             if (at == 0) {
@@ -297,7 +327,7 @@ static long refuse_each(uint32_t settings, struct bytes file) {
 }
 
 static void do_bounds(void) {
-    struct bytes none = {NULL, 0}, empty = with_room(0), room = with_room(8);
+    struct bytes empty = with_room(0), room = with_room(32);
     size_t length = 77, far = (size_t)GEDTOOL_LIMIT + 1;
     uint64_t line = 77;
     uint32_t same, which;
@@ -310,6 +340,9 @@ static void do_bounds(void) {
         expect(call_once(calls[i], 4, empty, room, &length, &line) == GEDTOOL_BAD_SETTINGS, "settings without a meaning");
         expect(call_once(calls[i], UINT32_MAX, empty, room, &length, &line) == GEDTOOL_BAD_SETTINGS, "settings without a meaning");
     }
+    expect(gedtool_digest(0, NULL, 0, room.at, 32, &line) == GEDTOOL_NO_HEADER && line == 1, "an empty file");
+    expect(gedtool_digest(0, NULL, 0, NULL, 0, &line) == GEDTOOL_ROOM_TOO_SMALL && line == 0, "no room for a digest");
+    expect(gedtool_digest(4, NULL, 0, NULL, 0, &line) == GEDTOOL_BAD_SETTINGS && line == 0, "settings without a meaning");
     expect(call_same(4, empty, empty, &same, &which, &line) == GEDTOOL_BAD_SETTINGS && line == 0, "settings without a meaning");
     // Memory that is promised, and of which no byte is touched.
     struct bytes large = {mmap(NULL, far, PROT_NONE, MAP_PRIVATE | MAP_ANONYMOUS | MAP_NORESERVE, -1, 0), far};
@@ -317,9 +350,9 @@ static void do_bounds(void) {
     for (int i = 0; i < 4; i++) {
         expect(call_once(calls[i], 0, large, room, &length, &line) == GEDTOOL_TOO_LONG, "a file above the limit");
     }
+    expect(gedtool_digest(0, large.at, large.length, room.at, 32, &line) == GEDTOOL_TOO_LONG && line == 0, "a file above the limit");
     expect(call_same(0, large, empty, &same, &which, &line) == GEDTOOL_TOO_LONG && which == 1, "the first is too long");
     expect(call_same(0, empty, large, &same, &which, &line) == GEDTOOL_TOO_LONG && which == 2, "the second is too long");
-    expect(none.length == 0, "nothing");
 }
 
 static struct bytes shared;

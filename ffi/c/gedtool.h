@@ -91,6 +91,12 @@ uint32_t gedtool_show(uint32_t settings, const uint8_t *file, size_t file_length
 uint32_t gedtool_canon(uint32_t settings, const uint8_t *file, size_t file_length,
                        uint8_t *room, size_t room_length, size_t *length, uint64_t *line);
 
+/* The digest of an accepted file: the SHA-256 of its canonical spelling, 32 bytes. Files that `gedtool_same` calls the same have one
+ * digest. It is put at the front of `digest`; where that has fewer than 32 bytes, the status is GEDTOOL_ROOM_TOO_SMALL, and the file is
+ * not judged. */
+uint32_t gedtool_digest(uint32_t settings, const uint8_t *file, size_t file_length,
+                        uint8_t *digest, size_t digest_length, uint64_t *line);
+
 /* Whether two accepted files have one canonical spelling: *same is 1 where they have, else 0. For a fault of a file, one that is
  * too long, and where memory is refused, *which is 1 or 2 for the file that it is about; otherwise it is 0. */
 uint32_t gedtool_same(uint32_t settings, const uint8_t *first, size_t first_length,
@@ -121,6 +127,8 @@ static inline uint8_t *gedtool_room_(uint8_t *room) {
     gedtool_show(settings, gedtool_file_(file), file_length, gedtool_room_(room), room_length, length, line)
 #define gedtool_canon(settings, file, file_length, room, room_length, length, line) \
     gedtool_canon(settings, gedtool_file_(file), file_length, gedtool_room_(room), room_length, length, line)
+#define gedtool_digest(settings, file, file_length, digest, digest_length, line) \
+    gedtool_digest(settings, gedtool_file_(file), file_length, gedtool_room_(digest), digest_length, line)
 #define gedtool_same(settings, first, first_length, second, second_length, same, which, line) \
     gedtool_same(settings, gedtool_file_(first), first_length, gedtool_file_(second), second_length, same, which, line)
 

@@ -1,3 +1,4 @@
 pub mod Settings
 pub mod Calls
 pub mod Comparisons
+pub mod Digests

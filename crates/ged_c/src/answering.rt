@@ -21,7 +21,7 @@ pub enum Ended {
 
 impl Ended {
     /// The status by which C is told.
-    fn status(&self) -> u32
+    pub fn status(&self) -> u32
         ensures { result ≡ status_of self.now }
     {
         match self {
@@ -43,7 +43,7 @@ impl Ended {
     }
 
     /// The line of a fault of the file, counted from 1, or 0.
-    fn line(&self) -> u64
+    pub fn line(&self) -> u64
         ensures { result ≡ line_of self.now }
     {
         match self {
@@ -103,8 +103,8 @@ fn answer_into(
     }
 }
 
-/// Puts an answer at the front of the room, if it has room for all of it.
-fn put(text: &[u8], room: &mut [u8]) -> Ended
+/// Puts an answer at the front of the room, if it has room for all of it. Takes no memory.
+pub fn put(text: &[u8], room: &mut [u8]) -> Ended
     ensures { IsPut text.now room.old room.new result }
 {
     let length = text.len();

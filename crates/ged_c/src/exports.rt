@@ -3,9 +3,11 @@
 ghost use Rattle.std.specs.Prelude.{◌≡◌};
 ghost use Rattle.ged_c.specs.Calls.{IsCall};
 ghost use Rattle.ged_c.specs.Comparisons.{IsComparison};
+ghost use Rattle.ged_c.specs.Digests.{IsDigestCall};
 
 use crate::answering::call;
 use crate::comparing::compare;
+use crate::digesting::digest_into;
 use ged_tool::Command;
 use std::alloc::Global;
 
@@ -111,6 +113,26 @@ pub extern "C" fn gedtool_same(
     *which = compared.which();
     *line = compared.line();
     compared.status()
+}
+
+/// The digest of an accepted file: the 32 bytes of the SHA-256 of its canonical bytes.
+///
+/// Answers 0 where it stands at the front of the room; 64 where the room has fewer than 32 bytes, and then the file is not
+/// judged; else a status of a call on one file, with the line of a fault of the file. Behind the digest, and after any other
+/// status, the room is as it was. Grows.
+#[unsafe(no_mangle)]
+pub extern "C" fn gedtool_digest(
+    alloc: Global,
+    settings: u32,
+    file: &[u8],
+    room: &mut [u8],
+    line: &mut u64,
+) -> u32
+    ensures { IsDigestCall settings file.now room.old room.new result line.new }
+{
+    let ended = digest_into(alloc, settings, file, room);
+    *line = ended.line();
+    ended.status()
 }
 
 /// The number of the form that these calls have. Takes no memory.

@@ -3,12 +3,13 @@
 
 mod answering;
 mod comparing;
+mod digesting;
 mod exports;
 mod settings;
 
 pub use answering::Ended;
 pub use comparing::Compared;
 pub use exports::{
-    gedtool_abi, gedtool_canon, gedtool_check, gedtool_lines, gedtool_same, gedtool_show,
-    gedtool_version,
+    gedtool_abi, gedtool_canon, gedtool_check, gedtool_digest, gedtool_lines, gedtool_same,
+    gedtool_show, gedtool_version,
 };
