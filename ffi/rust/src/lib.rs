@@ -132,6 +132,23 @@ pub fn same(first: &[u8], second: &[u8], settings: Settings) -> Result<bool, Sam
     library::same(settings, first, second)
 }
 
+/// The SHA-256 of the canonical spelling. Two accepted files that are the same have one digest.
+///
+/// # Errors
+/// `InFile` where the file is not accepted under the profile of the settings, `TooLong`, `Memory`.
+///
+/// ```
+/// use gedtool::{digest, Settings};
+///
+/// let digest = digest(b"0 HEAD\r1 GEDC\r2 VERS 7.0\r0 TRLR", Settings::new())?;
+/// let text: String = digest.iter().map(|byte| format!("{byte:02x}")).collect();
+/// assert_eq!(text, "5cacae0e09e7df567ff2141fa92e4ad7c507de890f049b090e8f1867904ad16d");
+/// # Ok::<(), gedtool::Error>(())
+/// ```
+pub fn digest(file: &[u8], settings: Settings) -> Result<[u8; 32], Error> {
+    library::digest(settings, file)
+}
+
 /// The version of the linked library: major, minor and patch.
 ///
 /// ```

@@ -35,6 +35,14 @@ extern "C" {
         which: *mut u32,
         line: *mut u64,
     ) -> u32;
+    fn gedtool_digest(
+        settings: u32,
+        file: *const u8,
+        file_length: usize,
+        digest: *mut u8,
+        digest_length: usize,
+        line: *mut u64,
+    ) -> u32;
     fn gedtool_version() -> u32;
     #[cfg(test)]
     fn gedtool_abi() -> u32;
@@ -87,6 +95,20 @@ pub(crate) fn answer(call: Call, settings: Settings, file: &[u8]) -> Result<Vec<
             ROOM_TOO_SMALL => wanted = length,
             _ => return Err(Error::of_status(status, line)),
         }
+    }
+}
+
+/// What the library's `digest` answers of a file.
+pub(crate) fn digest(settings: Settings, file: &[u8]) -> Result<[u8; 32], Error> {
+    let (mut digest, mut line) = ([0; 32], 0);
+    // SAFETY: the file and the digest are there with the lengths that are handed, and the line has a place of its own. The library
+    // reads the file, writes the digest and the line, and keeps nothing.
+    let status = unsafe {
+        gedtool_digest(settings.bits(), file.as_ptr(), file.len(), digest.as_mut_ptr(), digest.len(), &mut line)
+    };
+    match status {
+        OK => Ok(digest),
+        _ => Err(Error::of_status(status, line)),
     }
 }
 

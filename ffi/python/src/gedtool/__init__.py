@@ -23,7 +23,6 @@ Any number of threads may call at once. What a call takes of memory, but for its
 
 from __future__ import annotations
 
-import hashlib
 from typing import NamedTuple, Optional
 
 from . import _library
@@ -152,7 +151,7 @@ def digest(data: Data, *, strict: bool = False, edition: int = 1) -> str:
     >>> digest(b"0 HEAD\\n1 GEDC\\n2 VERS 7.0\\n0 TRLR\\n")
     '5cacae0e09e7df567ff2141fa92e4ad7c507de890f049b090e8f1867904ad16d'
     """
-    return hashlib.sha256(canon(data, strict=strict, edition=edition)).hexdigest()
+    return _library.digest(_settings(strict, edition), data).hex()
 
 
 def _settings(strict: bool, edition: int = 1) -> int:

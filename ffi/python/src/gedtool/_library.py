@@ -78,6 +78,7 @@ class _Calls:
         self.same = _bound(
             library, "gedtool_same", c_uint32, c_uint32, *file, *file, POINTER(c_uint32), POINTER(c_uint32), POINTER(c_uint64)
         )
+        self.digest = _bound(library, "gedtool_digest", c_uint32, c_uint32, *file, *file, POINTER(c_uint64))
         self.abi = _bound(library, "gedtool_abi", c_uint32)
         self.version = _bound(library, "gedtool_version", c_uint32)
 
@@ -173,6 +174,15 @@ def answer(name: str, settings: int, data: Data) -> bytes:
             wanted = length.value
     _check(status, line.value)
     return room.shortened(length.value)
+
+
+def digest(settings: int, data: Data) -> bytes:
+    """What the library's `digest` answers: 32 bytes."""
+    digest, line = ctypes.create_string_buffer(32), c_uint64()
+    with _held(data) as file:
+        status = _calls_for(file).digest(settings, file.first_byte, file.length, digest, len(digest), byref(line))
+    _check(status, line.value)
+    return digest.raw
 
 
 def same(settings: int, first: Data, second: Data) -> bool:
