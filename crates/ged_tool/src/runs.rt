@@ -8,3 +8,4 @@ pub(crate) mod one_file;
 pub(crate) mod output;
 pub(crate) mod told;
 pub(crate) mod two_files;
+pub(crate) mod written;

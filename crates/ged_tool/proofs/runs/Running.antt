@@ -15,7 +15,7 @@ use Rattle.ged_tool.specs.declared.faults.Outcome.{Outcome}
 use Rattle.ged_tool.specs.declared.faults.Outcome.TheVariants.{Done, Failed}
 use Rattle.ged_tool.specs.Accepted.{IsRefusal}
 use Rattle.ged_tool.specs.Run.{IsWhole, Tells}
-use Rattle.ged_tool.specs.inner.Steps.{StopsReading, of_which}
+use Rattle.ged_tool.specs.inner.Steps.{StopsReading, StopsAnswering, of_which}
 use Rattle.ged_tool.specs.Same.{IsSameRefusal}
 use Rattle.ged_tool.specs.SameRun.{Came, TellsOfFile}
 use Rattle.ged_tool.specs.Kept.{IsKeptOf, IsKeptRunOf, IsKeptSameRun, IsKeptWith}
@@ -171,3 +171,22 @@ run_unwritten Answer Wrong limit to_come left taken holds came text written byte
       run = record { came = came; written = written; gave = gave; took = took; means = (refl, (whole, (text, answers, front))) };
       kept = same;
     })
+
+-- one that came whole, and whose answer was not written whole
+pub run_unanswered : (Answer : Bytes → Bytes → Type 0) (Wrong : Bytes → ℕ → FileFault → Type 0) (limit : ℕ) (to_come left taken holds : Option Bytes) (came seen bytes : Bytes) (fault : Fault) (outcome : Outcome)
+    → IsWhole limit came left → Consumes to_come left came → StopsAnswering (Answer seen) (Wrong seen) taken holds fault → seen ≡ came
+    → bytes ≡ came → outcome ≡ Failed None fault → IsKeptRunOf Answer Wrong limit to_come left taken holds outcome bytes
+run_unanswered Answer Wrong limit to_come left taken holds came seen bytes fault outcome whole gave stops see same is =
+    by_fault fault (subst (λ (b : Bytes). StopsAnswering (Answer b) (Wrong b) taken holds fault) see stops) is
+  where
+    by_fault : (fault : Fault) → StopsAnswering (Answer came) (Wrong came) taken holds fault → outcome ≡ Failed None fault
+        → IsKeptRunOf Answer Wrong limit to_come left taken holds outcome bytes
+    by_fault (InFile line kind) (stands, untouched) e =
+        subst (λ (h : Option Bytes). IsKeptRunOf Answer Wrong limit to_come left taken h outcome bytes) (sym untouched)
+        (run_refused Answer Wrong limit to_come left taken came bytes (InFile line kind) outcome whole gave stands same e)
+    by_fault TooLong h e = absurd h
+    by_fault ReadFailed h e = absurd h
+    by_fault WriteFailed (text, written, answers, took, front) e = run_unwritten Answer Wrong limit to_come left taken holds came text written bytes outcome whole gave answers took front same e
+    by_fault (Memory error) untouched e =
+        subst (λ (h : Option Bytes). IsKeptRunOf Answer Wrong limit to_come left taken h outcome bytes) (sym untouched)
+        (run_refused Answer Wrong limit to_come left taken came bytes (Memory error) outcome whole gave tt same e)

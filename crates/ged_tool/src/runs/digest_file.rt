@@ -8,8 +8,9 @@ use crate::calls::digest::digest_as;
 use crate::faults::{Fault, Outcome};
 use crate::runs::devices::{Failed, Sink, Source};
 use crate::runs::digest_line::digest_line;
-use crate::runs::one_file::{read_whole, write_whole};
+use crate::runs::one_file::read_whole;
 use crate::runs::told::{Told, told_with, told_without};
+use crate::runs::written::write_whole;
 use crate::settings::Settings;
 use std::alloc::Global;
 

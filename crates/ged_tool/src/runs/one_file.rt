@@ -1,7 +1,6 @@
 // One run: read the whole file, make the whole answer, write it.
-ghost use Rattle.std.specs.Prelude.{◌≡◌, ◌+◌, ◌<◌, ◌≤◌, ◌↔◌, None, false, IsTrue, IfOk, IfErr, IsErrOf, OnErr, OnOk, vec_len};
-ghost use Rattle.std.specs.Io.KnownBytes.{Consumes, Appends};
-ghost use Rattle.std.specs.Io.{StartsWith};
+ghost use Rattle.std.specs.Prelude.{◌≡◌, ◌+◌, ◌<◌, ◌≤◌, ◌↔◌, None, false, IsTrue, IfOk, IfErr, IsErrOf, vec_len};
+ghost use Rattle.std.specs.Io.KnownBytes.{Consumes};
 ghost use Rattle.ged_line.specs.Bytes.{Bytes};
 ghost use Rattle.ged_tool.specs.Profiles.{profile_of, edition_of};
 ghost use Rattle.ged_tool.specs.Run.{IsWhole, IsRun};
@@ -9,9 +8,10 @@ ghost use Rattle.ged_tool.specs.Kept.{IsKeptRun};
 ghost use Rattle.ged_tool.specs.inner.Steps.{StopsReading};
 
 use crate::faults::{Fault, Outcome};
-use crate::runs::answer::{Command, answer};
+use crate::runs::answer::Command;
 use crate::runs::devices::{Failed, Sink, Source};
 use crate::runs::told::{Told, told_with, told_without};
+use crate::runs::written::write_answer;
 use crate::settings::Settings;
 use ged_canon::Edition;
 use ged_schema::Profile;
@@ -44,8 +44,8 @@ pub fn run<R: Source, W: Sink>(
 ///
 /// `limit` is the most bytes that the file may have, 1,073,741,824 at most. The reader must not have been read before,
 /// and neither device have failed. No more than `limit + 1` calls of read are made, and nothing is written unless the
-/// whole answer was made. Memory is taken for the file, for its document and
-/// index where the command asks for them, and for the answer.
+/// whole answer was made. Memory is taken for the file, for its document and index where the command asks for them, and
+/// for the answer; for that of `Lines`, only for what is spelled in it otherwise than in the file.
 ///
 /// The outcome is Done where the whole answer was written, and never Different. Else it is Failed, names neither of
 /// two files, and has
@@ -102,16 +102,12 @@ pub fn run_told<R: Source, W: Sink>(
         Ok(bytes) => bytes,
         Err(fault) => return told_without(alloc, Outcome::Failed { which: None, fault }),
     };
-    let text = match answer(alloc, settings, command, &bytes) {
-        Ok(text) => text,
-        Err(fault) => return told_with(fault, bytes),
-    };
-    match write_whole(writer, &text) {
+    match write_answer(alloc, settings, command, &bytes, writer) {
         Ok(()) => Told {
             outcome: Outcome::Done,
             bytes,
         },
-        Err(Failed) => told_with(Fault::WriteFailed, bytes),
+        Err(fault) => told_with(fault, bytes),
     }
 }
 
@@ -164,20 +160,4 @@ fn make_chunk(alloc: Global) -> Result<Vec<u8>, AllocError>
     ensures { IfOk result (λ chunk. 0 < vec_len chunk) }
 {
     vec![in alloc; 0; CHUNK]
-}
-
-/// Writes all of a text, in as few calls as the writer allows.
-pub(crate) fn write_whole<W: Sink>(writer: &mut W, text: &[u8]) -> Result<(), Failed>
-    requires { W.failed writer.old ≡ false }
-    ensures ok { OnOk result ((W.failed writer.new ≡ false)
-        × Appends (W.taken writer.old) (W.taken writer.new) text.now) }
-    ensures err { OnErr result (IsTrue (W.failed writer.new) × (written : Bytes)
-        × Appends (W.taken writer.old) (W.taken writer.new) written × StartsWith text.now written) }
-{
-    let mut at = 0usize;
-    while at < text.len() {
-        let count = writer.write(&text[at..])?;
-        at += count;
-    }
-    Ok(())
 }

@@ -1,4 +1,4 @@
-use Rattle.ged_tool.proofs.runs.Running.{run_stops, run_refused, run_answered, run_unwritten}
+use Rattle.ged_tool.proofs.runs.Running.{run_stops, run_answered, run_unanswered}
 use Rattle.ged_tool.proofs.runs.one_file.run_told.Goals as goal
 
 pub returns-in-Err-clause-bytes : goal.returns-in-Err-clause-bytes
@@ -6,18 +6,12 @@ returns-in-Err-clause-bytes g c =
     let (came, gave, stops) = c.in-Err.ensures.stopped in
     run_stops _ _ _ _ _ _ came _ c.in-Err.fault _ gave stops c.told_without.ensures.bytes c.told_without.ensures.outcome
 
-pub returns-in-Err-answer-clause-bytes : goal.returns-in-Err-answer-clause-bytes
-returns-in-Err-answer-clause-bytes g c =
-    run_refused _ _ _ _ _ _ c.in-Ok.bytes.items _ c.in-Err-answer.fault _ c.in-Ok.ensures.whole.0 c.in-Ok.ensures.whole.1
-    (rw c.deref.ensures.value at c.in-Err-answer.ensures) c.told_with.ensures.bytes c.told_with.ensures.outcome
+pub returns-in-Ok-write_answer-clause-bytes : goal.returns-in-Ok-write_answer-clause-bytes
+returns-in-Ok-write_answer-clause-bytes g c =
+    let (text, answers, took) = rw c.deref.ensures.value at c.in-Ok-write_answer.ensures.ok in
+    run_answered _ _ _ _ _ _ _ c.in-Ok.bytes.items text c.in-Ok.ensures.whole.0 c.in-Ok.ensures.whole.1 answers took
 
-pub returns-in-Ok-write_whole-clause-bytes : goal.returns-in-Ok-write_whole-clause-bytes
-returns-in-Ok-write_whole-clause-bytes g c =
-    run_answered _ _ _ _ _ _ _ c.in-Ok.bytes.items c.in-Ok-answer.text.items c.in-Ok.ensures.whole.0 c.in-Ok.ensures.whole.1
-    (rw c.deref.ensures.value at c.in-Ok-answer.ensures) (rw c.deref-2.ensures.value at c.in-Ok-write_whole.ensures.ok.1)
-
-pub returns-clause-bytes : goal.returns-clause-bytes
-returns-clause-bytes g c =
-    let (failed, written, took, front) = c.in-Err-write_whole.ensures.err in
-    run_unwritten _ _ _ _ _ _ _ c.in-Ok.bytes.items c.in-Ok-answer.text.items written _ _ c.in-Ok.ensures.whole.0 c.in-Ok.ensures.whole.1
-    (rw c.deref.ensures.value at c.in-Ok-answer.ensures) took (rw c.deref-2.ensures.value at front) c.told_with-in-Err-write_whole.ensures.bytes c.told_with-in-Err-write_whole.ensures.outcome
+pub returns-in-Err-write_answer-clause-bytes : goal.returns-in-Err-write_answer-clause-bytes
+returns-in-Err-write_answer-clause-bytes g c =
+    run_unanswered _ _ _ _ _ _ _ c.in-Ok.bytes.items c.deref.result.now _ c.in-Err-write_answer.fault _ c.in-Ok.ensures.whole.0 c.in-Ok.ensures.whole.1
+    c.in-Err-write_answer.ensures.err c.deref.ensures.value c.told_with.ensures.bytes c.told_with.ensures.outcome

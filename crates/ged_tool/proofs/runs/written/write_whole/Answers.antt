@@ -4,7 +4,7 @@ use Rattle.std.specs.Prelude.{Option}
 use Rattle.std.specs.Io.KnownBytes.{Appends}
 use Rattle.std.proofs.KnownBytes.{Appends-trans}
 use Rattle.ged_line.specs.Bytes.{Bytes}
-use Rattle.ged_tool.proofs.runs.one_file.write_whole.Goals as goal
+use Rattle.ged_tool.proofs.runs.written.write_whole.Goals as goal
 
 -- a writer that took the front of a text, and then some bytes of the slice behind it, took a longer front
 took_more : (text : Bytes) (at count : ℕ) (first before after : Option (Bytes)) → Appends first before (take at text)

@@ -1,0 +1,67 @@
+-- What a writer takes of parts that are written one behind the other.
+use Rattle.std.proofs.Common.{◌≡◌, ℕ, ◌+◌, ◌<◌, ◌≤◌, List, [], ◌∷◌, ◌++◌, length, get_or, take, drop, Option, refl, sym, ◌∙◌, ap, subst, length-append}
+use Rattle.std.proofs.lemmas.List.{append-nil, append_assoc, drop_more, drop_all}
+use Rattle.std.proofs.Math.Seq.{take-append-add, take-append_seam}
+use Rattle.std.specs.Io.{StartsWith}
+use Rattle.std.specs.Io.KnownBytes.{Appends}
+use Rattle.std.proofs.KnownBytes.{Appends-nil, Appends-trans, starts_with_rest}
+use Rattle.ged_line.specs.Bytes.{Bytes}
+use Rattle.ged_line.specs.Files.{joined}
+use Rattle.ged_line.specs.declared.file.spelled_part.SpelledPart.{SpelledPart}
+
+-- a text that begins with what was written, and goes on as another
+pub starts_behind : (front rest written : Bytes) → StartsWith rest written → StartsWith (front ++ rest) (front ++ written)
+starts_behind front rest written h =
+    ap (λ n. take n (front ++ rest)) (length-append front written) ∙ take-append-add front rest (length written) ∙ ap (λ x. front ++ x) h
+
+-- the same, where more stands behind
+pub starts_before : (front rest written : Bytes) → StartsWith front written → StartsWith (front ++ rest) written
+starts_before front rest written h =
+    let tail = drop (length written) front in
+    let whole : front ++ rest ≡ written ++ (tail ++ rest) = ap (λ x. x ++ rest) (starts_with_rest front written h) ∙ append_assoc written tail rest in
+    ap (take (length written)) whole ∙ take-append_seam written (tail ++ rest)
+
+-- so many parts were written
+abbrev pub AreWritten : (taken holds : Option Bytes) → List SpelledPart → ℕ → Type 0
+AreWritten taken holds parts count = (front : Bytes) × Appends taken holds front × (joined parts ≡ front ++ joined (drop count parts))
+
+pub AreWritten-start : (taken : Option Bytes) (parts : List SpelledPart) → AreWritten taken taken parts 0
+AreWritten-start taken parts = ([], Appends-nil taken, refl)
+
+next_part : (parts : List SpelledPart) (count : ℕ) (part : SpelledPart) → count < length parts → part ≡ get_or parts count part
+    → joined (drop count parts) ≡ (part.made.items ++ part.kept.now) ++ joined (drop (count + 1) parts)
+next_part parts count part within is =
+    ap joined (drop_more parts count part within ∙ ap (λ p. p ∷ drop (count + 1) parts) (sym is)) ∙ sym (append_assoc part.made.items part.kept.now (joined (drop (count + 1) parts)))
+
+pub AreWritten-more : (taken before holds : Option Bytes) (parts : List SpelledPart) (count : ℕ) (part : SpelledPart) → count < length parts → part ≡ get_or parts count part
+    → Appends before holds (part.made.items ++ part.kept.now) → AreWritten taken before parts count → AreWritten taken holds parts (count + 1)
+AreWritten-more taken before holds parts count part within is more (front, took, split) =
+    let both = part.made.items ++ part.kept.now in (
+      front ++ both,
+      Appends-trans taken before holds front both took more,
+      split ∙ ap (λ x. front ++ x) (next_part parts count part within is) ∙ sym (append_assoc front both (joined (drop (count + 1) parts))),
+    )
+
+pub AreWritten-all : (taken holds : Option Bytes) (parts : List SpelledPart) (count : ℕ) → length parts ≤ count → AreWritten taken holds parts count → Appends taken holds (joined parts)
+AreWritten-all taken holds parts count past (front, took, split) =
+    let all : joined parts ≡ front = split ∙ ap (λ x. front ++ joined x) (drop_all count parts past) ∙ append-nil front in
+    subst (Appends taken holds) (sym all) took
+
+-- a part of which a front was written
+pub AreWritten-stops : (taken before holds : Option Bytes) (parts : List SpelledPart) (count : ℕ) (part : SpelledPart) (written : Bytes) → count < length parts → part ≡ get_or parts count part
+    → Appends before holds written → StartsWith (part.made.items ++ part.kept.now) written → AreWritten taken before parts count
+    → (all : Bytes) × Appends taken holds all × StartsWith (joined parts) all
+AreWritten-stops taken before holds parts count part written within is more starts (front, took, split) =
+    let both = part.made.items ++ part.kept.now in
+    let rest = joined (drop (count + 1) parts) in
+    let begins : StartsWith (front ++ (both ++ rest)) (front ++ written) = starts_behind front (both ++ rest) written (starts_before both rest written starts) in (
+      front ++ written,
+      Appends-trans taken before holds front written took more,
+      subst (λ x. StartsWith x (front ++ written)) (sym (split ∙ ap (λ x. front ++ x) (next_part parts count part within is))) begins,
+    )
+
+-- a text that was written, and then the front of another
+pub then_front : (taken before holds : Option Bytes) (first second written : Bytes) → Appends taken before first → Appends before holds written → StartsWith second written
+    → (all : Bytes) × Appends taken holds all × StartsWith (first ++ second) all
+then_front taken before holds first second written took more starts =
+    (first ++ written, Appends-trans taken before holds first written took more, starts_behind first second written starts)
