@@ -7,8 +7,10 @@ use crate::answers::Answer;
 use crate::questions::{Question, document_of_file};
 use ged_canon::{
     Edition, canonical, canonical_bytes, canonical_bytes_in, canonical_in, editions_agree,
-    equal_normal_forms, equivalence, is_normal, is_normal_in, normal_form_exists,
-    normal_form_is_accepted, normal_form_is_unique, steps, write_document,
+    editions_agree_in_place, equal_normal_forms, equal_tidy_forms, equivalence, is_normal,
+    is_normal_in, normal_form_exists, normal_form_is_accepted, normal_form_is_unique,
+    normal_form_of_tidy, steps, steps_in_place, tidy_bytes_in, tidy_form_exists,
+    tidy_form_is_unique, write_document,
 };
 use ged_link::{Index, LinkFault, resolve};
 use ged_schema::check;
@@ -16,7 +18,7 @@ use ged_tree::{Document, Forest};
 use std::alloc::{AllocError, Global};
 
 pub(crate) fn has_call(name: &str) -> bool {
-    ["is_normal", "canonical_bytes", "canon_laws"].contains(&name)
+    ["is_normal", "canonical_bytes", "tidy_bytes", "canon_laws"].contains(&name)
 }
 
 /// The edition of a word; `None` asks the call that speaks of none.
@@ -71,6 +73,7 @@ fn tell_index<F: Forest>(
     match question.name {
         "is_normal" => told.say_truth(tells_normal(edition, forest, index)),
         "canonical_bytes" => say_bytes(alloc, edition, forest, index, told),
+        "tidy_bytes" => say_tidy(alloc, edition, forest, index, told),
         _ => state_laws(told),
     }
 }
@@ -99,6 +102,22 @@ fn say_bytes<F: Forest>(
         None => canonical_bytes(alloc, forest, index),
     };
     if let Some(bytes) = told.given(made) {
+        told.say_bytes(&bytes);
+    }
+}
+
+fn say_tidy<F: Forest>(
+    alloc: Global,
+    edition: Option<Edition>,
+    forest: &F,
+    index: &Index,
+    told: &mut Answer,
+)
+    requires index { IsIndexOf (F.trees forest.now) index.now }
+    requires checked { Checked (F.trees forest.now) }
+{
+    let edition = edition.unwrap_or(Edition::First);
+    if let Some(bytes) = told.given(tidy_bytes_in(alloc, edition, forest, index)) {
         told.say_bytes(&bytes);
     }
 }
@@ -172,5 +191,11 @@ fn state_laws(answer: &mut Answer) {
     equivalence();
     steps();
     editions_agree();
+    tidy_form_is_unique();
+    tidy_form_exists();
+    equal_tidy_forms();
+    steps_in_place();
+    normal_form_of_tidy();
+    editions_agree_in_place();
     answer.say("stated")
 }
