@@ -7,7 +7,7 @@ use ged_link::{LinkFault, Notice, NoticeKind, resolve};
 use ged_schema::check_as;
 use ged_tool::{
     Accepted, Command, Fault, FileFault, Input, Outcome, Output, Profile, Settings, Which, accept,
-    accept_as, canonicalise, canonicalise_as, notices, run, run_as, show_text,
+    accept_as, canonicalise, canonicalise_as, notices, run, run_as, show_text, tidy, tidy_as,
 };
 use ged_tree::{BuildFault, Document, build, to_lines};
 use std::alloc::{AllocError, Global};
@@ -234,7 +234,7 @@ pub(crate) fn accept_ways(alloc: Global, settings: Settings, file: &[u8]) -> Way
     }
     let canonical = canonicalise_as(alloc, settings, file);
     ways.add("canonicalise_as", verdict(alloc, canonical));
-    for command in [Command::Check, Command::Show, Command::Canon] {
+    for command in [Command::Check, Command::Show, Command::Canon, Command::Tidy] {
         let answered = run_with(alloc, settings, command, file);
         ways.add("run_as", verdict(alloc, answered));
     }
@@ -286,6 +286,22 @@ pub(crate) fn canon_ways(alloc: Global, settings: Settings, file: &[u8]) -> Ways
         ways.add("the way by trees", canon_by_trees(alloc, settings, file));
     }
     add_runs(alloc, settings, Command::Canon, file, &mut ways);
+    ways
+}
+
+/// The tidy bytes of a file, by each call that makes them; and tidying them once more gives them again.
+pub(crate) fn tidy_ways(alloc: Global, settings: Settings, file: &[u8]) -> Ways {
+    let answered = tidy_as(alloc, settings, file);
+    let again = match &answered {
+        Ok(text) => tidy_as(alloc, settings, text),
+        Err(fault) => Err(*fault),
+    };
+    let mut ways = Ways::of(answered);
+    ways.add("the tidy form of the answer", again);
+    if are_plain(settings) {
+        ways.add("tidy", tidy(alloc, file));
+    }
+    add_runs(alloc, settings, Command::Tidy, file, &mut ways);
     ways
 }
 

@@ -4,7 +4,7 @@
 // each call answers stands at the head of data/whole.rows.
 use crate::agreement::{
     Answered, Ways, accept_ways, answered, are_plain, canon_ways, check_ways, document_ways,
-    say_fault, say_outcome, show_ways, two_parts,
+    say_fault, say_outcome, show_ways, tidy_ways, two_parts,
 };
 use crate::answers::Answer;
 use crate::feeding::answer_pieces;
@@ -61,6 +61,7 @@ fn answer_by_ways(
         "check" => check_ways(alloc, settings, file),
         "show" => show_ways(alloc, settings, file),
         "canon" => canon_ways(alloc, settings, file),
+        "tidy" => tidy_ways(alloc, settings, file),
         "lines" => lines_ways(alloc, settings, file),
         "document" => document_ways(alloc, settings, file),
         _ => return false,
