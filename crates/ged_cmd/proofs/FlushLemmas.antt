@@ -9,11 +9,12 @@ use Rattle.ged_tool.specs.Same.{AreCompared}
 use Rattle.ged_tool.specs.SameRun.{IsAllOf, same_line}
 use Rattle.ged_tool.specs.declared.faults.Which.{Which}
 use Rattle.ged_tool.specs.declared.faults.Which.TheVariants.{First, Second}
+use Rattle.ged_tool.specs.declared.faults.Fault.{Fault}
 use Rattle.ged_tool.specs.declared.faults.Fault.TheVariants.{ReadFailed, WriteFailed}
 use Rattle.ged_tool.specs.declared.faults.Outcome.{Outcome}
 use Rattle.ged_tool.specs.declared.faults.Outcome.TheVariants.{Done, Different, Failed}
 use Rattle.ged_tool.specs.declared.runs.answer.Command.{Command}
-use Rattle.ged_cmd.specs.Program.{IsAnswered, IsCompared, Reader, limit}
+use Rattle.ged_cmd.specs.Program.{Files, IsAnswered, IsCompared, IsOver, Reader, Writer, limit, reader as reader_of}
 use Rattle.ged_cmd.specs.inner.Flushes.{IsFlushed}
 
 -- what a writer took stays taken where what it holds is kept
@@ -23,6 +24,10 @@ keeps_appended None between after written took kept = tt
 keeps_appended (Some x) None after written took kept = absurd took
 keeps_appended (Some x) (Some y) None written took kept = absurd kept
 keeps_appended (Some x) (Some y) (Some z) written took kept = kept ∙ took
+
+keeps_same : (before after : Option (List ℕ)) → after ≡ before → Keeps before after
+keeps_same None after same = tt
+keeps_same (Some x) after same = subst (Keeps (Some x)) (sym same) refl
 
 -- the flush went well, or nothing was to be flushed
 kept_answered : (profile : Profile) (edition : Edition) (command : Command) (reader : Reader) (taken between holds : Option (List ℕ)) (failed_before failed : Bool)
@@ -78,8 +83,42 @@ flushed_answered profile edition command reader taken between holds failed_befor
 flushed_answered profile edition command reader taken between holds failed_before failed Done after answered (inr (gave, (keeps, fails))) =
     unflushed_answered profile edition command reader taken between holds failed_before failed after answered keeps fails gave
 flushed_answered profile edition command reader taken between holds failed_before failed Different after answered flushed = absurd answered.bytes.means
-flushed_answered profile edition command reader taken between holds failed_before failed (Failed which fault) after answered (same, (keeps, stays)) =
-    kept_answered profile edition command reader taken between holds failed_before failed (Failed which fault) after answered keeps stays same
+flushed_answered profile edition command reader taken between holds failed_before failed (Failed which fault) after answered (same, kept, stays) =
+    kept_answered profile edition command reader taken between holds failed_before failed (Failed which fault) after answered
+    (keeps_same between holds kept) stays same
+
+-- an outcome that is a fault stays, and so does the writer
+stays_failed : (writer : Writer) (failed_before : Bool) (before after : Outcome) (which : Option Which) (fault : Fault)
+    → before ≡ Failed which fault → IsFlushed writer failed_before before after
+    → (after ≡ Failed which fault) × (writer.holds ≡ writer.taken) × (writer.failed ≡ failed_before)
+stays_failed writer failed_before before after which fault gave flushed = subst (λ o. IsFlushed writer failed_before o after) gave flushed
+
+module _ {D T : Type 0} where
+  -- a command over a file, or over standard input, once the answer is flushed
+  pub flushed_over : (files : Files D T) (to_come : D → Option (List ℕ)) (read_failed : D → Bool) (profile : Profile) (edition : Edition)
+      (command : Command) (file : Option (List ℕ)) (input : Reader) (taken between holds : Option (List ℕ)) (failed_before failed : Bool)
+      (before after : Outcome)
+      → IsOver files to_come read_failed profile edition command file input (record { taken = taken; holds = between; failed = failed_before }) before
+      → IsFlushed (record { taken = between; holds = holds; failed = failed }) failed_before before after
+      → IsOver files to_come read_failed profile edition command file input (record { taken = taken; holds = holds; failed = failed }) after
+  flushed_over files to_come read_failed profile edition command None input taken between holds failed_before failed before after over flushed =
+      flushed_answered profile edition command input taken between holds failed_before failed before after over flushed
+  flushed_over files to_come read_failed profile edition command (Some name) input taken between holds failed_before failed before after
+      (unread, inl (refuses, (kept, none), gave)) flushed =
+      let (same, holds_same, stays) = stays_failed (record { taken = between; holds = holds; failed = failed }) failed_before before after
+      None ReadFailed gave flushed in
+      (unread, inl (refuses, (holds_same ∙ kept, stays ∙ none), same))
+  flushed_over files to_come read_failed profile edition command (Some name) input taken between holds failed_before failed before after
+      (unread, inr (device, left, opens, answered)) flushed = (
+        unread,
+        inr (
+          device,
+          left,
+          opens,
+          flushed_answered profile edition command (reader_of to_come read_failed device left) taken between holds failed_before failed before after
+              answered flushed,
+        ),
+      )
 
 -- the same of two files
 kept_compared : (profile : Profile) (edition : Edition) (first second : Reader) (taken between holds : Option (List ℕ)) (failed_before failed : Bool)
@@ -144,5 +183,6 @@ flushed_compared profile edition first second taken between holds failed_before 
 flushed_compared profile edition first second taken between holds failed_before failed Different after compared (inr (gave, (keeps, fails))) =
     unflushed_compared profile edition first second taken between holds failed_before failed Different after false compared compared.bytes.means
     (λ which e. cc) keeps fails gave
-flushed_compared profile edition first second taken between holds failed_before failed (Failed which fault) after compared (same, (keeps, stays)) =
-    kept_compared profile edition first second taken between holds failed_before failed (Failed which fault) after compared keeps stays same
+flushed_compared profile edition first second taken between holds failed_before failed (Failed which fault) after compared (same, kept, stays) =
+    kept_compared profile edition first second taken between holds failed_before failed (Failed which fault) after compared
+    (keeps_same between holds kept) stays same

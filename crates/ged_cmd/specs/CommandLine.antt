@@ -17,21 +17,26 @@ second_flag = flag (codes "second")
 abbrev pub explain_flag : Rule
 explain_flag = flag (codes "explain")
 
+-- `-o FILE` or `--output FILE`: 111 is the character o
+abbrev pub output_option : Rule
+output_option = record (new_rule (codes "output")) { long = Some (codes "output"); short = Some 111; value_names = 1 }
+
 -- a command over one file, which may be left out
 abbrev pub over_file : Text → App
 over_file name = with_rule (new_app name) (new_rule (codes "FILE"))
 
 abbrev pub lines : App
-lines = with_rule (over_file (codes "lines")) explain_flag
+lines = with_rule (with_rule (over_file (codes "lines")) output_option) explain_flag
 
 abbrev pub check : App
 check = with_rule (with_rule (over_file (codes "check")) strict_flag) explain_flag
 
 abbrev pub show : App
-show = with_rule (with_rule (over_file (codes "show")) strict_flag) explain_flag
+show = with_rule (with_rule (with_rule (over_file (codes "show")) strict_flag) output_option) explain_flag
 
 abbrev pub canon : App
-canon = with_rule (with_rule (with_rule (over_file (codes "canon")) strict_flag) second_flag) explain_flag
+canon =
+    with_rule (with_rule (with_rule (with_rule (over_file (codes "canon")) strict_flag) second_flag) output_option) explain_flag
 
 -- the first of two files, which may not be left out
 abbrev pub first_file : Rule

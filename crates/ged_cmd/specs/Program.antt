@@ -1,5 +1,5 @@
 -- What the program does, for the words, the files and the streams that it has.
-use Rattle.std.specs.Prelude.{◌≡◌, ◌≢◌, ◌↔◌, ◌⊎◌, ℕ, List, [], Bool, false, IsTrue, Option, Some, None, if◌then◌else◌}
+use Rattle.std.specs.Prelude.{◌≡◌, ◌≢◌, ◌↔◌, ◌⊎◌, ℕ, List, [], Bool, false, ⊤, IsTrue, Option, Some, None, if◌then◌else◌}
 use Rattle.clap.specs.Words.{Text, fault_of}
 use Rattle.clap.specs.Kinds.{IsAmong}
 use Rattle.clap.specs.declared.error.kind.ErrorKind.{ErrorKind}
@@ -12,9 +12,12 @@ use Rattle.ged_tool.specs.Faults.{status_of}
 use Rattle.ged_tool.specs.declared.runs.answer.Command.{Command}
 use Rattle.ged_tool.specs.declared.faults.Which.{Which}
 use Rattle.ged_tool.specs.declared.faults.Which.TheVariants.{First, Second}
-use Rattle.ged_tool.specs.declared.faults.Fault.TheVariants.{ReadFailed, WriteFailed}
+use Rattle.ged_tool.specs.declared.faults.Fault.{Fault}
+use Rattle.ged_tool.specs.declared.faults.Fault.TheVariants.{ReadFailed, WriteFailed, Memory}
 use Rattle.ged_tool.specs.declared.faults.Outcome.{Outcome}
 use Rattle.ged_tool.specs.declared.faults.Outcome.TheVariants.{Done, Failed}
+use Rattle.ged_cmd.specs.declared.drafts.Fate.{Fate}
+use Rattle.ged_cmd.specs.declared.drafts.Fate.TheVariants.{Placed, Dropped}
 use Rattle.ged_cmd.specs.CommandLine.{gedtool}
 use Rattle.ged_cmd.specs.Tasks.{Task, asked, explain, input_same, run, same}
 
@@ -63,6 +66,15 @@ pub record IsCompared (profile : Profile) (edition : Edition) (first second : Re
   pub second_failed : IsTrue second.failed ↔ (outcome ≡ Failed (Some Second) ReadFailed)
   pub write_failed : IsTrue writer.failed ↔ (outcome ≡ Failed None WriteFailed)
 
+-- What is known of files by their names: which devices a name opens, and that it can't be opened; which new files may take
+-- the place of the file of a name, and that none can; and what has become of a new file.
+pub record Files (D T : Type 0) : Type 1 where
+  pub opens : Text → D → Type 0
+  pub refuses : Text → Type 0
+  pub drafts : Text → T → Type 0
+  pub withholds : Text → Type 0
+  pub fate : T → Fate
+
 -- meanings of faults are told, and nothing is read
 abbrev pub IsExplained : Reader → Writer → Outcome → Type 0
 IsExplained input writer outcome = IsUnread input × (outcome ≡ (if writer.failed then Failed None WriteFailed else Done))
@@ -76,28 +88,66 @@ module _ {D : Type 0} where
 abbrev pub IsNotOpened : Type 0 → Option Which → Writer → Outcome → Type 0
 IsNotOpened refuses which writer outcome = refuses × IsUnwritten writer × (outcome ≡ Failed which ReadFailed)
 
-module _ {D : Type 0} where
-  -- What the program does for a task, over files that `opens` and `refuses` tell of, and standard input. Both files are
-  -- opened before one is read.
-  abbrev pub IsDone : (opens : Text → D → Type 0) → (refuses : Text → Type 0) → (to_come : D → Option (List ℕ)) → (failed : D → Bool)
-      → Task → (input : Reader) → Writer → Outcome → Type 0
-  IsDone opens refuses to_come failed (run profile edition command None) input writer outcome =
+-- the new file holds nothing, if it tells what it holds
+abbrev pub IsEmpty : Option (List ℕ) → Type 0
+IsEmpty None = ⊤
+IsEmpty (Some bytes) = bytes ≡ []
+
+-- what keeps a file from being replaced: it can't be, or no memory was found to prepare it
+abbrev pub Withholds : Fault → Type 0
+Withholds WriteFailed = ⊤
+Withholds (Memory error) = ⊤
+Withholds fault = ⊥
+
+-- the file of a name can't be replaced, and nothing is read
+abbrev pub IsWithheld : (withholds : Type 0) → (input : Reader) → Outcome → Type 0
+IsWithheld withholds input outcome =
+    withholds × IsUnread input × ((fault : Fault) × Withholds fault × (outcome ≡ Failed None fault))
+
+-- What becomes of a new file: where all went well it takes the place of the other one, which else stays as it is.
+abbrev pub fate_of : Outcome → Fate
+fate_of Done = Placed
+fate_of outcome = Dropped
+
+module _ {D T : Type 0} where
+  -- a command over the file of a name, or over standard input where none is named
+  abbrev pub IsOver : Files D T → (to_come : D → Option (List ℕ)) → (failed : D → Bool) → Profile → Edition → Command
+      → (file : Option Text) → (input : Reader) → Writer → Outcome → Type 0
+  IsOver files to_come failed profile edition command None input writer outcome =
       IsAnswered profile edition command input writer outcome
-  IsDone opens refuses to_come failed (run profile edition command (Some name)) input writer outcome =
-      IsUnread input × (IsNotOpened (refuses name) None writer outcome
-      ⊎ SomeFile (opens name) to_come failed (λ file. IsAnswered profile edition command file writer outcome))
-  IsDone opens refuses to_come failed (same profile edition first None) input writer outcome =
-      (IsUnread input × IsNotOpened (refuses first) (Some First) writer outcome)
-      ⊎ SomeFile (opens first) to_come failed (λ file. IsCompared profile edition file input writer outcome)
-  IsDone opens refuses to_come failed (same profile edition first (Some second)) input writer outcome =
-      IsUnread input × (IsNotOpened (refuses first) (Some First) writer outcome
-      ⊎ ((device : D) × opens first device × IsNotOpened (refuses second) (Some Second) writer outcome)
-      ⊎ SomeFile (opens first) to_come failed (λ file. SomeFile (opens second) to_come failed (λ other.
-      IsCompared profile edition file other writer outcome)))
-  IsDone opens refuses to_come failed (input_same profile edition second) input writer outcome =
-      (IsUnread input × IsNotOpened (refuses second) (Some Second) writer outcome)
-      ⊎ SomeFile (opens second) to_come failed (λ file. IsCompared profile edition input file writer outcome)
-  IsDone opens refuses to_come failed (explain named) input writer outcome = IsExplained input writer outcome
+  IsOver files to_come failed profile edition command (Some name) input writer outcome =
+      IsUnread input × (IsNotOpened (files.refuses name) None writer outcome
+      ⊎ SomeFile (files.opens name) to_come failed (λ file. IsAnswered profile edition command file writer outcome))
+
+  -- An answer that goes into a new file, which is empty at first, and what becomes of this.
+  abbrev pub IsPut : Files D T → (taken : T → Option (List ℕ)) → (write_failed : T → Bool) → (name : Text)
+      → (Writer → Type 0) → Outcome → Type 0
+  IsPut files taken write_failed name done outcome =
+      (draft left : T) × files.drafts name draft × IsEmpty (taken draft) × done (writer taken write_failed draft left)
+      × (files.fate left ≡ fate_of outcome)
+
+  -- What the program does for a task, over the files of which `files` tells, and standard input. Both files of a comparison
+  -- are opened before one is read.
+  abbrev pub IsDone : Files D T → (to_come : D → Option (List ℕ)) → (failed : D → Bool)
+      → (taken : T → Option (List ℕ)) → (write_failed : T → Bool) → Task → (input : Reader) → Writer → Outcome → Type 0
+  IsDone files to_come failed taken write_failed (run profile edition command file None) input output outcome =
+      IsOver files to_come failed profile edition command file input output outcome
+  IsDone files to_come failed taken write_failed (run profile edition command file (Some name)) input output outcome =
+      IsUnwritten output × (IsWithheld (files.withholds name) input outcome
+      ⊎ IsPut files taken write_failed name (λ writer. IsOver files to_come failed profile edition command file input writer outcome)
+      outcome)
+  IsDone files to_come failed taken write_failed (same profile edition first None) input output outcome =
+      (IsUnread input × IsNotOpened (files.refuses first) (Some First) output outcome)
+      ⊎ SomeFile (files.opens first) to_come failed (λ file. IsCompared profile edition file input output outcome)
+  IsDone files to_come failed taken write_failed (same profile edition first (Some second)) input output outcome =
+      IsUnread input × (IsNotOpened (files.refuses first) (Some First) output outcome
+      ⊎ ((device : D) × files.opens first device × IsNotOpened (files.refuses second) (Some Second) output outcome)
+      ⊎ SomeFile (files.opens first) to_come failed (λ file. SomeFile (files.opens second) to_come failed (λ other.
+      IsCompared profile edition file other output outcome)))
+  IsDone files to_come failed taken write_failed (input_same profile edition second) input output outcome =
+      (IsUnread input × IsNotOpened (files.refuses second) (Some Second) output outcome)
+      ⊎ SomeFile (files.opens second) to_come failed (λ file. IsCompared profile edition input file output outcome)
+  IsDone files to_come failed taken write_failed (explain named) input output outcome = IsExplained input output outcome
 
 -- The status for words that clap refuses: 3 for want of memory, and for help or the version that can't be written, which
 -- else is 0; 2 for a mistake.
@@ -116,22 +166,23 @@ pub record IsRefused (words : List Text) (input : Reader) (writer : Writer) (sta
   pub unwritten : kind ≢ DisplayHelp → kind ≢ DisplayVersion → IsUnwritten writer
   pub told : status ≡ refusal_status kind writer.failed
 
-module _ {D : Type 0} where
+module _ {D T : Type 0} where
   -- what the words ask for is done, and the status is the outcome's
-  pub record IsObeyed (opens : Text → D → Type 0) (refuses : Text → Type 0) (to_come : D → Option (List ℕ)) (failed : D → Bool) (words : List Text) (input : Reader) (writer : Writer) (status : ℕ) : Type 0 where
+  pub record IsObeyed (files : Files D T) (to_come : D → Option (List ℕ)) (failed : D → Bool) (taken : T → Option (List ℕ)) (write_failed : T → Bool) (words : List Text) (input : Reader) (writer : Writer) (status : ℕ) : Type 0 where
     pub task : Task
     pub outcome : Outcome
     pub faultless : fault_of gedtool words ≡ []
     pub task_asked : asked words ≡ Some task
-    pub done : IsDone opens refuses to_come failed task input writer outcome
+    pub done : IsDone files to_come failed taken write_failed task input writer outcome
     pub told : status ≡ status_of outcome
 
   -- What the program does for the words of its command line. Words without a fault that ask for nothing are a mistake:
   -- those under which both files of `same` would be standard input, and a word
   -- of `explain` that is of no fault.
-  abbrev pub Performs : (opens : Text → D → Type 0) → (refuses : Text → Type 0) → (to_come : D → Option (List ℕ)) → (failed : D → Bool)
+  abbrev pub Performs : Files D T → (to_come : D → Option (List ℕ)) → (failed : D → Bool)
+      → (taken : T → Option (List ℕ)) → (write_failed : T → Bool)
       → (words : List Text) → (input : Reader) → Writer → (status : ℕ) → Type 0
-  Performs opens refuses to_come failed words input writer status =
+  Performs files to_come failed taken write_failed words input writer status =
       IsRefused words input writer status
-      ⊎ IsObeyed opens refuses to_come failed words input writer status
+      ⊎ IsObeyed files to_come failed taken write_failed words input writer status
       ⊎ ((fault_of gedtool words ≡ []) × (asked words ≡ None) × IsUnread input × IsUnwritten writer × (status ≡ 2))

@@ -12,10 +12,11 @@ use Rattle.ged_tool.specs.declared.runs.answer.Command.TheVariants.{Lines, Check
 use Rattle.ged_explain.specs.Names.{Named, named_faults}
 use Rattle.ged_cmd.specs.CommandLine.{gedtool}
 
--- a command over one file, or over standard input where none is named; or the comparison of a file with another, or with
+-- a command over one file, or over standard input where none is named, and the file that its answer goes into, or standard
+-- output where none is named; or the comparison of a file with another, or with
 -- standard input; or of standard input with a file; or what a fault means, or what all mean
 pub data Task : Type 0 where
-  run : Profile → Edition → Command → Option Text → Task
+  run : Profile → Edition → Command → (file into : Option Text) → Task
   same : Profile → Edition → Text → Option Text → Task
   input_same : Profile → Edition → Text → Task
   explain : Option Named → Task
@@ -38,15 +39,15 @@ command_of name =
     if bytes_eq name (codes "show") then Some Show else
     if bytes_eq name (codes "canon") then Some Canon else None
 
--- the file that a word names: none where the word is left out or is `-`, which both stand for standard input
+-- the file that a word names: none where the word is left out or is `-`, which both stand for standard input, or output
 abbrev pub file_named : Option Text → Option Text
 file_named None = None
 file_named (Some word) = if bytes_eq word (codes "-") then None else Some word
 
 abbrev pub run_asked : Text → List Row → Option Task
 run_asked name rows =
-    option_map (λ command. run (profile_asked rows) (edition_asked rows) command (file_named (first_of (codes "FILE") rows)))
-    (command_of name)
+    option_map (λ command. run (profile_asked rows) (edition_asked rows) command (file_named (first_of (codes "FILE") rows))
+    (file_named (first_of (codes "output") rows))) (command_of name)
 
 -- the comparison of two files, of which one at most may be standard input
 abbrev pub comparison : Profile → Edition → (first second : Option Text) → Option Task

@@ -1,8 +1,8 @@
 // One command over one input, or over two.
-ghost use Rattle.std.specs.Prelude.{◌≡◌, None, Some, false, option_map};
+ghost use Rattle.std.specs.Prelude.{◌≡◌, ◌⊎◌, None, Some, false, option_map};
 ghost use Rattle.ged_tool.specs.Profiles.{profile_of, edition_of};
 ghost use Rattle.ged_cmd.specs.inner.Flushes.{IsFlushed};
-ghost use Rattle.ged_cmd.specs.Program.{IsAnswered, IsCompared, IsDone, reader as reader_of, writer as writer_of};
+ghost use Rattle.ged_cmd.specs.Program.{IsAnswered, IsCompared, IsDone, IsOver, IsPut, IsWithheld, fate_of, reader as reader_of, writer as writer_of};
 ghost use Rattle.ged_cmd.specs.Tasks.{input_same as input_same_task, run as run_task, same as same_task};
 ghost use Rattle.ged_cmd.specs.inner.Tasks.{task_of};
 
@@ -10,7 +10,8 @@ use crate::meanings::tell_meanings;
 use crate::shelf::Shelf;
 use crate::words::Request;
 use ged_tool::{
-    Command, Fault, Outcome, Output, Settings, Sink, Source, Told, Which, run_same_told, run_told,
+    Command, Failed, Fault, Outcome, Output, Settings, Sink, Source, Told, Which, run_same_told,
+    run_told,
 };
 use std::alloc::Global;
 use std::io::Write;
@@ -38,6 +39,16 @@ fn not_opened(alloc: Global, which: Option<Which>) -> Told
     }
 }
 
+/// What is told where a file can't be replaced.
+fn not_answered(alloc: Global, fault: Fault) -> Told
+    ensures { result.outcome ≡ Outcome.Failed None fault }
+{
+    Told {
+        outcome: failed(fault),
+        bytes: Vec::new(alloc),
+    }
+}
+
 /// Does what a request asks for, and gives the outcome with the bytes of the file of which it tells.
 pub(crate) fn answer_request<S: Shelf, R: Source, W: Write>(
     alloc: Global,
@@ -48,7 +59,7 @@ pub(crate) fn answer_request<S: Shelf, R: Source, W: Write>(
 ) -> Told
     requires unread { R.reads input.old ≡ 0 }
     requires no_failure { (R.failed input.old ≡ false) × (⟦<Output<W> as Sink>⟧.failed output.old ≡ false) }
-    ensures { IsDone (S.opens shelf.now) (S.refuses shelf.now) S.Device.to_come S.Device.failed (task_of request.entry)
+    ensures { IsDone (S.files shelf.now) S.Device.to_come S.Device.failed S.Draft.taken S.Draft.failed (task_of request.entry)
         (reader_of R.to_come R.failed input.old input.new)
         (writer_of ⟦<Output<W> as Sink>⟧.taken ⟦<Output<W> as Sink>⟧.failed output.old output.new) result.outcome }
 {
@@ -57,7 +68,14 @@ pub(crate) fn answer_request<S: Shelf, R: Source, W: Write>(
             command,
             settings,
             file,
-        } => answer_file(alloc, shelf, settings, command, file, input, output),
+            into: None,
+        } => answer_output(alloc, shelf, settings, command, file, input, output),
+        Request::Run {
+            command,
+            settings,
+            file,
+            into: Some(name),
+        } => answer_into(alloc, shelf, settings, command, file, name, input),
         Request::Same {
             settings,
             first,
@@ -73,9 +91,9 @@ pub(crate) fn answer_request<S: Shelf, R: Source, W: Write>(
     }
 }
 
-/// Runs a command over a file, or over `input` where none is named. A file that can't be opened is
+/// Runs a command over a file, or over `input` where none is named, and flushes the answer. A file that can't be opened is
 /// ReadFailed.
-fn answer_file<S: Shelf, R: Source, W: Write>(
+fn answer_output<S: Shelf, R: Source, W: Write>(
     alloc: Global,
     shelf: &S,
     settings: Settings,
@@ -86,15 +104,69 @@ fn answer_file<S: Shelf, R: Source, W: Write>(
 ) -> Told
     requires unread { R.reads input.old ≡ 0 }
     requires no_failure { (R.failed input.old ≡ false) × (⟦<Output<W> as Sink>⟧.failed output.old ≡ false) }
-    ensures { IsDone (S.opens shelf.now) (S.refuses shelf.now) S.Device.to_come S.Device.failed
-        (run_task (profile_of settings) (edition_of settings) command (option_map (λ name. name.now) file.entry))
+    ensures { IsOver (S.files shelf.now) S.Device.to_come S.Device.failed (profile_of settings) (edition_of settings) command
+        (option_map (λ name. name.now) file.entry)
         (reader_of R.to_come R.failed input.old input.new)
         (writer_of ⟦<Output<W> as Sink>⟧.taken ⟦<Output<W> as Sink>⟧.failed output.old output.new) result.outcome }
 {
+    let told = answer_file(alloc, shelf, settings, command, file, input, output);
+    Told {
+        outcome: flushed(told.outcome, output),
+        bytes: told.bytes,
+    }
+}
+
+/// Runs a command over a file, or over `input` where none is named, and puts the answer in the place of the file called `name`,
+/// which stays as it is where the outcome is not Done.
+fn answer_into<S: Shelf, R: Source>(
+    alloc: Global,
+    shelf: &S,
+    settings: Settings,
+    command: Command,
+    file: Option<&str>,
+    name: &str,
+    input: &mut R,
+) -> Told
+    requires unread { R.reads input.old ≡ 0 }
+    requires no_failure { R.failed input.old ≡ false }
+    ensures { IsWithheld ((S.files shelf.now).withholds name.now) (reader_of R.to_come R.failed input.old input.new) result.outcome
+        ⊎ IsPut (S.files shelf.now) S.Draft.taken S.Draft.failed name.now (λ writer.
+        IsOver (S.files shelf.now) S.Device.to_come S.Device.failed (profile_of settings) (edition_of settings) command
+        (option_map (λ name. name.now) file.entry) (reader_of R.to_come R.failed input.old input.new) writer result.outcome)
+        result.outcome }
+{
+    let mut draft = match shelf.draft(alloc, name) {
+        Ok(draft) => draft,
+        Err(fault) => return not_answered(alloc, fault),
+    };
+    let told = answer_file(alloc, shelf, settings, command, file, input, &mut draft);
+    Told {
+        outcome: settled(shelf, told.outcome, &mut draft),
+        bytes: told.bytes,
+    }
+}
+
+/// Runs a command over a file, or over `input` where none is named, and writes the answer. A file that can't be opened is
+/// ReadFailed.
+fn answer_file<S: Shelf, R: Source, W: Sink>(
+    alloc: Global,
+    shelf: &S,
+    settings: Settings,
+    command: Command,
+    file: Option<&str>,
+    input: &mut R,
+    writer: &mut W,
+) -> Told
+    requires unread { R.reads input.old ≡ 0 }
+    requires no_failure { (R.failed input.old ≡ false) × (W.failed writer.old ≡ false) }
+    ensures { IsOver (S.files shelf.now) S.Device.to_come S.Device.failed (profile_of settings) (edition_of settings) command
+        (option_map (λ name. name.now) file.entry)
+        (reader_of R.to_come R.failed input.old input.new) (writer_of W.taken W.failed writer.old writer.new) result.outcome }
+{
     match file {
-        None => answer(alloc, settings, command, input, output),
+        None => answer(alloc, settings, command, input, writer),
         Some(name) => match shelf.open(name) {
-            Ok(mut device) => answer(alloc, settings, command, &mut device, output),
+            Ok(mut device) => answer(alloc, settings, command, &mut device, writer),
             Err(_) => not_opened(alloc, None),
         },
     }
@@ -113,7 +185,7 @@ fn compare_files<S: Shelf, R: Source, W: Write>(
 ) -> Told
     requires unread { R.reads input.old ≡ 0 }
     requires no_failure { (R.failed input.old ≡ false) × (⟦<Output<W> as Sink>⟧.failed output.old ≡ false) }
-    ensures { IsDone (S.opens shelf.now) (S.refuses shelf.now) S.Device.to_come S.Device.failed
+    ensures { IsDone (S.files shelf.now) S.Device.to_come S.Device.failed S.Draft.taken S.Draft.failed
         (same_task (profile_of settings) (edition_of settings) first.now (option_map (λ name. name.now) second.entry))
         (reader_of R.to_come R.failed input.old input.new)
         (writer_of ⟦<Output<W> as Sink>⟧.taken ⟦<Output<W> as Sink>⟧.failed output.old output.new) result.outcome }
@@ -143,7 +215,7 @@ fn compare_input<S: Shelf, R: Source, W: Write>(
 ) -> Told
     requires unread { R.reads input.old ≡ 0 }
     requires no_failure { (R.failed input.old ≡ false) × (⟦<Output<W> as Sink>⟧.failed output.old ≡ false) }
-    ensures { IsDone (S.opens shelf.now) (S.refuses shelf.now) S.Device.to_come S.Device.failed
+    ensures { IsDone (S.files shelf.now) S.Device.to_come S.Device.failed S.Draft.taken S.Draft.failed
         (input_same_task (profile_of settings) (edition_of settings) second.now)
         (reader_of R.to_come R.failed input.old input.new)
         (writer_of ⟦<Output<W> as Sink>⟧.taken ⟦<Output<W> as Sink>⟧.failed output.old output.new) result.outcome }
@@ -154,25 +226,20 @@ fn compare_input<S: Shelf, R: Source, W: Write>(
     }
 }
 
-/// Runs a command over what a reader gives, and flushes the answer.
-fn answer<R: Source, W: Write>(
+/// Runs a command over what a reader gives, and writes the answer.
+fn answer<R: Source, W: Sink>(
     alloc: Global,
     settings: Settings,
     command: Command,
     reader: &mut R,
-    output: &mut Output<W>,
+    writer: &mut W,
 ) -> Told
     requires unread { R.reads reader.old ≡ 0 }
-    requires no_failure { (R.failed reader.old ≡ false) × (⟦<Output<W> as Sink>⟧.failed output.old ≡ false) }
+    requires no_failure { (R.failed reader.old ≡ false) × (W.failed writer.old ≡ false) }
     ensures { IsAnswered (profile_of settings) (edition_of settings) command
-        (reader_of R.to_come R.failed reader.old reader.new)
-        (writer_of ⟦<Output<W> as Sink>⟧.taken ⟦<Output<W> as Sink>⟧.failed output.old output.new) result.outcome }
+        (reader_of R.to_come R.failed reader.old reader.new) (writer_of W.taken W.failed writer.old writer.new) result.outcome }
 {
-    let told = run_told(alloc, settings, LIMIT, command, reader, output);
-    Told {
-        outcome: flushed(told.outcome, output),
-        bytes: told.bytes,
-    }
+    run_told(alloc, settings, LIMIT, command, reader, writer)
 }
 
 /// Compares what two readers give, and flushes the answer.
@@ -209,5 +276,24 @@ fn flushed<W: Write>(outcome: Outcome, output: &mut Output<W>) -> Outcome
             Err(_) => failed(Fault::WriteFailed),
         },
         Outcome::Failed { which: _, fault: _ } => outcome,
+    }
+}
+
+/// The outcome once a new file has taken the other's place: WriteFailed where it can't. It does so where the outcome is Done,
+/// and else is given up.
+fn settled<S: Shelf>(shelf: &S, outcome: Outcome, draft: &mut S::Draft) -> Outcome
+    ensures flushed { IsFlushed (writer_of S.Draft.taken S.Draft.failed draft.old draft.new)
+        (S.Draft.failed draft.old) outcome result }
+    ensures fate { (S.files shelf.now).fate draft.new ≡ fate_of result }
+{
+    match outcome {
+        Outcome::Done => match shelf.place(draft) {
+            Ok(()) => outcome,
+            Err(Failed) => failed(Fault::WriteFailed),
+        },
+        Outcome::Different | Outcome::Failed { which: _, fault: _ } => {
+            shelf.give_up(draft);
+            outcome
+        }
     }
 }

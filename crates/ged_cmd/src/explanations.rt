@@ -46,9 +46,22 @@ fn explain<E: Write>(alloc: Global, request: Request<'_>, told: &Told, errors: &
 /// The name of the file of which a fault is told, or of the stream.
 fn name_of<'a>(request: Request<'a>, which: Option<Which>, fault: Fault) -> &'a str {
     if fault == Fault::WriteFailed {
-        return "standard output";
+        return into_of(request).unwrap_or("standard output");
     }
     file_of(request, which).unwrap_or("standard input")
+}
+
+/// The name of the file that the answer goes into.
+fn into_of<'a>(request: Request<'a>) -> Option<&'a str> {
+    match request {
+        Request::Run {
+            command: _,
+            settings: _,
+            file: _,
+            into,
+        } => into,
+        _ => None,
+    }
 }
 
 /// The name of the file with the fault, which is the first of two if none is named.
@@ -58,6 +71,7 @@ fn file_of<'a>(request: Request<'a>, which: Option<Which>) -> Option<&'a str> {
             command: _,
             settings: _,
             file,
+            into: _,
         } => file,
         Request::Same {
             settings: _,
@@ -84,6 +98,7 @@ fn explain_done<E: Write>(alloc: Global, request: Request<'_>, bytes: &[u8], err
         command: Command::Check,
         settings,
         file,
+        into: _,
     } = request
     {
         let name = file.unwrap_or("standard input");

@@ -7,7 +7,9 @@ ghost use Rattle.std.specs.Io.KnownBytes.{Keeps};
 ghost use Rattle.ged_cmd.specs.Tasks.{explains};
 ghost use Rattle.ged_cmd.specs.Program.{IsUnread, Performs, reader as reader_of, writer as writer_of};
 
+mod arguments;
 mod commands;
+mod drafts;
 mod explanations;
 mod meanings;
 mod shelf;
@@ -61,8 +63,8 @@ fn perform<S: Shelf, R: Source, W: Write, E: Write>(
     requires unread { R.reads streams.old.input ≡ 0 }
     requires no_failure { (R.failed streams.old.input ≡ false)
         × (⟦<Output<W> as Sink>⟧.failed streams.old.output ≡ false) }
-    ensures performs { IfOk words (λ words. Performs (S.opens shelf.now) (S.refuses shelf.now) S.Device.to_come
-        S.Device.failed (map string_bytes words.items)
+    ensures performs { IfOk words (λ words. Performs (S.files shelf.now) S.Device.to_come S.Device.failed S.Draft.taken
+        S.Draft.failed (map string_bytes words.items)
         (reader_of R.to_come R.failed streams.old.input streams.new.input)
         (writer_of ⟦<Output<W> as Sink>⟧.taken ⟦<Output<W> as Sink>⟧.failed streams.old.output streams.new.output)
         result) }

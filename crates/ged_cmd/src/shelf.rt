@@ -1,27 +1,58 @@
-// Where files are opened by their names.
-ghost use Rattle.std.specs.Prelude.{◌≡◌, ℕ, List, false, ⊤, IfOk, OnErr};
+// Where files are opened by their names, and replaced by new ones.
+ghost use Rattle.std.specs.Prelude.{◌≡◌, false, ⊤, IfErr, IfOk, OnErr, OnOk};
+ghost use Rattle.std.specs.Io.KnownBytes.{Keeps};
+ghost use Rattle.ged_tool.specs.Devices.{failed_after};
+ghost use Rattle.ged_cmd.specs.Program.{IsEmpty, Withholds};
 
-use ged_tool::{Failed, Input, Source};
+use crate::drafts::{Fate, NewFile};
+use ged_tool::{Failed, Fault, Input, Sink, Source};
+use std::alloc::{AllocError, Global};
 use std::fs::File;
+use std::io;
+use std::io::ErrorKind;
 use std::rt::Files;
 
-/// Opens files by their names. It says which files a name opens as far as that can be said.
+/// Opens files by their names, and puts new ones in their places. It says which files a name opens as far as that can be said.
 pub(crate) trait Shelf {
+    ghost use Rattle.ged_cmd.specs.Program.{Files};
+
     /// A file that was opened.
     type Device: Source + Drop;
 
-    // the device is the file of this name, as it was opened
-    ghost opens: { Self → List ℕ → Self.Device → Type 0 };
+    /// A new file, which is to take the place of another one.
+    type Draft: Sink + Drop;
 
-    // the file of this name can't be opened
-    ghost refuses: { Self → List ℕ → Type 0 };
+    // what is known of files by their names
+    ghost files: { Self → Files Self.Device Self.Draft };
 
     /// Opens a file, or answers Failed where it can't be opened.
     fn open(&self, name: &str) -> Result<Self::Device, Failed>
-        ensures opened { IfOk result (opens self.now name.now) }
+        ensures opened { IfOk result ((files self.now).opens name.now) }
         ensures unread { IfOk result (λ device. Self.Device.reads device ≡ 0) }
         ensures no_failure { IfOk result (λ device. Self.Device.failed device ≡ false) }
-        ensures refused { OnErr result (refuses self.now name.now) };
+        ensures refused { OnErr result ((files self.now).refuses name.now) };
+
+    /// Prepares a new file that is to take the place of the one of this name, where there is one. Nothing is created before it
+    /// is written to. The fault is WriteFailed where the file of this name can't be replaced, or Memory.
+    fn draft(&self, alloc: Global, name: &str) -> Result<Self::Draft, Fault>
+        ensures drafted { IfOk result ((files self.now).drafts name.now) }
+        ensures empty { IfOk result (λ draft. IsEmpty (Self.Draft.taken draft)) }
+        ensures no_failure { IfOk result (λ draft. Self.Draft.failed draft ≡ false) }
+        ensures withheld { OnErr result ((files self.now).withholds name.now) }
+        ensures fault { IfErr result Withholds };
+
+    /// Puts a new file in its place, with all that was written to it, or gives it up and answers Failed where that can't be.
+    fn place(&self, draft: &mut Self::Draft) -> Result<(), Failed>
+        ensures failure { Self.Draft.failed draft.new ≡ failed_after (Self.Draft.failed draft.old) result }
+        ensures bytes { Keeps (Self.Draft.taken draft.old) (Self.Draft.taken draft.new) }
+        ensures placed { OnOk result ((files self.now).fate draft.new ≡ Fate.Placed) }
+        ensures dropped { OnErr result ((files self.now).fate draft.new ≡ Fate.Dropped) };
+
+    /// Gives a new file up, so that the other one stays as it is.
+    fn give_up(&self, draft: &mut Self::Draft)
+        ensures failure { Self.Draft.failed draft.new ≡ Self.Draft.failed draft.old }
+        ensures bytes { Self.Draft.taken draft.new ≡ Self.Draft.taken draft.old }
+        ensures dropped { (files self.now).fate draft.new ≡ Fate.Dropped };
 }
 
 /// The files of the system. No contract can say what they hold.
@@ -37,17 +68,48 @@ impl<'a, F: Files> Disk<'a, F> {
     }
 }
 
-impl<F: Files> Shelf for Disk<'_, F> {
+impl<'a, F: Files> Shelf for Disk<'a, F> {
     type Device = Input<F::File>;
 
-    ghost opens = { λ _ _ _. ⊤ };
+    type Draft = NewFile<'a, F>;
 
-    ghost refuses = { λ _ _. ⊤ };
+    ghost files = { λ _. record {
+      opens = λ _ _. ⊤;
+      refuses = λ _. ⊤;
+      drafts = λ _ _. ⊤;
+      withholds = λ _. ⊤;
+      fate = λ draft. draft.fate;
+    } };
 
     fn open(&self, name: &str) -> Result<Input<F::File>, Failed> {
         match File::open(self.files, name) {
             Ok(file) => Ok(Input::new(file)),
             Err(_) => Err(Failed),
         }
+    }
+
+    fn draft(&self, alloc: Global, name: &str) -> Result<NewFile<'a, F>, Fault> {
+        match NewFile::new(alloc, self.files, name) {
+            Ok(draft) => Ok(draft),
+            Err(error) => Err(fault_of(&error)),
+        }
+    }
+
+    fn place(&self, draft: &mut NewFile<'a, F>) -> Result<(), Failed> {
+        draft.place()
+    }
+
+    fn give_up(&self, draft: &mut NewFile<'a, F>) {
+        draft.give_up();
+    }
+}
+
+/// The fault of a file that can't be replaced.
+fn fault_of(error: &io::Error) -> Fault
+    ensures { Withholds result }
+{
+    match error.kind() {
+        ErrorKind::OutOfMemory => Fault::Memory(AllocError),
+        _ => Fault::WriteFailed,
     }
 }

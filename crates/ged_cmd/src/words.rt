@@ -2,18 +2,22 @@
 ghost use Rattle.std.specs.Prelude.{◌≡◌, [], List, IfOk, IfErr, false, codes, map, option_and_then, option_map, string_bytes};
 ghost use Rattle.std.specs.Prelude.{if◌then◌else◌};
 ghost use Rattle.std.specs.Option.{option_map_or};
-ghost use Rattle.clap.specs.Words.{Row, Text, rows_of, found_of, subcommand_rows_of, fault_of, new_app, new_rule};
+ghost use Rattle.clap.specs.Words.{Row, Text, rows_of, found_of, subcommand_rows_of, fault_of, new_app};
 ghost use Rattle.clap.specs.Kinds.{HasKind};
 ghost use Rattle.ged_cmd.specs.CommandLine as line;
-ghost use Rattle.ged_cmd.specs.inner.CommandLine.{IsArg, IsCommand};
+ghost use Rattle.ged_cmd.specs.inner.CommandLine.{IsCommand};
 ghost use Rattle.ged_tool.specs.Profiles.{profile_of, edition_of};
 ghost use Rattle.ged_cmd.specs.Tasks.{explain_asked, explains, explanation as explanation_of};
 ghost use Rattle.ged_cmd.specs.Tasks.{asked, command_of, comparison as comparison_of, edition_asked, file_named as file_of, is_set};
 ghost use Rattle.ged_cmd.specs.Tasks.{profile_asked, run_asked, same_asked, task_of_match};
 ghost use Rattle.ged_cmd.specs.inner.Tasks.{task_of};
 
+use crate::arguments::{
+    EXPLAIN, OUTPUT, SECOND, STRICT, explain_flag, file_argument, first_argument, output_option,
+    second_flag, strict_flag,
+};
 use crate::meanings::meaning_called;
-use clap::{Arg, ArgAction, ArgMatches, Error};
+use clap::{ArgMatches, Error};
 use ged_explain::{Meaning, meanings};
 use ged_tool::{Command, Edition, Profile, Settings};
 use std::alloc::{AllocError, Global};
@@ -23,15 +27,6 @@ const NAME: &str = "gedtool";
 
 /// The version that `--version` tells: that of the file VERSION.
 const VERSION: &str = "0.1.0";
-
-/// The flag under which a notice refuses a file.
-const STRICT: &str = "strict";
-
-/// The flag for the second edition of the canonical form.
-const SECOND: &str = "second";
-
-/// The flag under which faults and notices are explained.
-const EXPLAIN: &str = "explain";
 
 /// What the words say.
 #[derive(Clone, Copy)]
@@ -56,11 +51,13 @@ pub(crate) enum Mistake {
 /// What the program is asked for.
 #[derive(Clone, Copy)]
 pub(crate) enum Request<'a> {
-    /// A command over one file, or over standard input where none is named.
+    /// A command over one file, or over standard input where none is named; its answer goes into a file, or to standard
+    /// output where none is named.
     Run {
         command: Command,
         settings: Settings,
         file: Option<&'a str>,
+        into: Option<&'a str>,
     },
     /// Whether two files are the same; the second is standard input where none is named.
     Same {
@@ -188,11 +185,12 @@ fn run_request<'a>(name: &str, matches: &ArgMatches<'a>) -> Option<Request<'a>>
         command: command_named(name)?,
         settings: settings_of(matches),
         file: file_named(matches.get_str("FILE")),
+        into: file_named(matches.get_str(OUTPUT)),
     })
 }
 
 /// The file that a word names: `None` where the word is left out or is `-`, which both stand for
-/// standard input.
+/// standard input, or output.
 fn file_named(word: Option<&str>) -> Option<&str>
     ensures { option_map (λ name. name.now) result ≡ file_of (option_map (λ word. word.now) word.entry) }
 {
@@ -275,7 +273,9 @@ fn lines_command<'a>(alloc: Global) -> Result<clap::Command<'a>, AllocError>
     ensures { IfOk result (IsCommand line.lines) }
 {
     let about = "Writes the lines of a file in their canonical spelling";
-    file_command(alloc, "lines", about)?.arg(explain_flag(alloc))
+    file_command(alloc, "lines", about)?
+        .arg(output_option(alloc))?
+        .arg(explain_flag(alloc))
 }
 
 fn check_command<'a>(alloc: Global) -> Result<clap::Command<'a>, AllocError>
@@ -293,6 +293,7 @@ fn show_command<'a>(alloc: Global) -> Result<clap::Command<'a>, AllocError>
     let about = "Writes the level, tag and kind of each structure of a file";
     file_command(alloc, "show", about)?
         .arg(strict_flag(alloc))?
+        .arg(output_option(alloc))?
         .arg(explain_flag(alloc))
 }
 
@@ -302,37 +303,8 @@ fn canon_command<'a>(alloc: Global) -> Result<clap::Command<'a>, AllocError>
     file_command(alloc, "canon", "Writes a file in its canonical form")?
         .arg(strict_flag(alloc))?
         .arg(second_flag(alloc))?
+        .arg(output_option(alloc))?
         .arg(explain_flag(alloc))
-}
-
-/// The flag under which files are judged by the strict profile.
-fn strict_flag<'a>(alloc: Global) -> Arg<'a>
-    ensures { IsArg line.strict_flag result }
-{
-    Arg::new(alloc, STRICT)
-        .long(STRICT)
-        .action(ArgAction::SetTrue)
-        .help("Refuses a file that has a notice")
-}
-
-/// The flag for the second edition of the canonical form.
-fn second_flag<'a>(alloc: Global) -> Arg<'a>
-    ensures { IsArg line.second_flag result }
-{
-    Arg::new(alloc, SECOND)
-        .long(SECOND)
-        .action(ArgAction::SetTrue)
-        .help("Leaves out the leading zeros of dates, ages and counts")
-}
-
-/// The flag under which faults and notices are explained.
-fn explain_flag<'a>(alloc: Global) -> Arg<'a>
-    ensures { IsArg line.explain_flag result }
-{
-    Arg::new(alloc, EXPLAIN)
-        .long(EXPLAIN)
-        .action(ArgAction::SetTrue)
-        .help("Explains faults and notices on standard error")
 }
 
 /// A subcommand over one file.
@@ -345,22 +317,6 @@ fn file_command<'a>(
 {
     let help = "The file to read; standard input where it is left out or '-'";
     named_command(alloc, name, about).arg(file_argument(alloc, "FILE", help))
-}
-
-/// An argument that may be left out.
-fn file_argument<'a>(alloc: Global, name: &'a str, help: &'a str) -> Arg<'a>
-    ensures { IsArg (new_rule name.entry.now) result }
-{
-    Arg::new(alloc, name).help(help)
-}
-
-/// The first of two files.
-fn first_argument<'a>(alloc: Global) -> Arg<'a>
-    ensures { IsArg line.first_file result }
-{
-    Arg::new(alloc, "A")
-        .required(true)
-        .help("The first file to read; standard input where it is '-'")
 }
 
 /// The subcommand about faults.

@@ -7,7 +7,13 @@ end
 
 function __gedtool_takes_file -d 'Whether the command takes a further file'
     set -l words (commandline -opc)
-    set -l files (string match -v -- '-*' $words[3..])
+    set -l files
+    set -l before
+    for word in $words[3..]
+        # what stands behind -o is no file to read
+        string match -q -- '-*' $word; or contains -- "$before" -o --output; or set -a files $word
+        set before $word
+    end
     if __gedtool_command lines check show canon
         test (count $files) -lt 1
     else
@@ -37,6 +43,7 @@ complete -c gedtool -n __gedtool_takes_command -a help -d 'Print this message or
 
 complete -c gedtool -n '__gedtool_command check show canon same' -l strict -d 'Refuses a file that has a notice'
 complete -c gedtool -n '__gedtool_command canon same' -l second -d 'Leaves out the leading zeros of dates, ages and counts'
+complete -c gedtool -n '__gedtool_command lines show canon' -r -F -s o -l output -d 'Writes the answer into a file, whole or not at all'
 complete -c gedtool -n '__gedtool_command lines check show canon same' -l explain -d 'Explains faults and notices on standard error'
 complete -c gedtool -n 'not __gedtool_command help' -s h -l help -d 'Print help'
 complete -c gedtool -n __gedtool_begins -s V -l version -d 'Print version'

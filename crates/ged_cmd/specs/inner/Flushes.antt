@@ -15,9 +15,10 @@ IsFlushedTo writer failed_before before after =
     ((after ≡ before) × IsKept writer failed_before)
     ⊎ ((after ≡ Failed None WriteFailed) × IsKept writer true)
 
--- The outcome once the answer is flushed. Where there is an answer and the flush fails the writer has failed, and the
--- outcome is WriteFailed; else both stay. What the writer holds stays.
+-- The outcome once the answer is flushed, or put in a file's place. Where there is an answer and that fails the writer has
+-- failed, and the outcome is WriteFailed; else both stay. What the writer holds stays.
 abbrev pub IsFlushed : Writer → (failed_before : Bool) → (before after : Outcome) → Type 0
-IsFlushed writer failed_before (Failed which fault) after = (after ≡ Failed which fault) × IsKept writer failed_before
+IsFlushed writer failed_before (Failed which fault) after =
+    (after ≡ Failed which fault) × (writer.holds ≡ writer.taken) × (writer.failed ≡ failed_before)
 IsFlushed writer failed_before Done after = IsFlushedTo writer failed_before Done after
 IsFlushed writer failed_before Different after = IsFlushedTo writer failed_before Different after

@@ -9,7 +9,8 @@ use Rattle.ged_cmd.specs.Tasks.{Task, explain, input_same, run, same}
 
 -- a request of the program, as a task
 abbrev pub task_of : Request → Task
-task_of (Run command settings file) = run (profile_of settings) (edition_of settings) command (option_map (λ name. name.now) file)
+task_of (Run command settings file into) =
+    run (profile_of settings) (edition_of settings) command (option_map (λ name. name.now) file) (option_map (λ name. name.now) into)
 task_of (Same settings first second) =
     same (profile_of settings) (edition_of settings) first.now (option_map (λ name. name.now) second)
 task_of (SameInput settings second) = input_same (profile_of settings) (edition_of settings) second.now

@@ -1,10 +1,8 @@
-use Rattle.ged_cmd.proofs.FlushLemmas.{flushed_answered}
 use Rattle.ged_cmd.proofs.commands.answer.Goals as goal
 
 pub returns : goal.returns
-returns g c =
-    flushed_answered _ _ _ _ _ _ _ _ _ c.run_told-told.result.outcome c.flushed.result (record {
-      bytes = c.run_told-told.ensures.bytes.run;
-      read_failed = c.run_told-told.ensures.read_failed;
-      write_failed = c.run_told-told.ensures.write_failed;
-    }) c.flushed.ensures
+returns g c = record {
+  bytes = c.run_told.ensures.bytes.run;
+  read_failed = c.run_told.ensures.read_failed;
+  write_failed = c.run_told.ensures.write_failed;
+}
