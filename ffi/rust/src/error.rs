@@ -48,9 +48,9 @@ macro_rules! file_faults {
 
 file_faults! {
     1 NotUtf8
-        "The line is not UTF-8 text. The file was saved in an older character set such as ANSEL, ANSI or \
-         Windows-1252. Export it once more from the program that wrote it, as GEDCOM 7 or with the character set \
-         UTF-8."
+        "The line is not UTF-8 text. The file was saved in another character set, such as ANSEL, ANSI, Windows-1252 or \
+         UTF-16. Export it once more from the program that wrote it, as GEDCOM 7 or with the character set UTF-8. At \
+         line 1 the file may be no text at all, but a packed file such as GEDZIP, or a picture."
     2 BannedCharacter
         "The line has a character that no line may have. A control character came in with a text that was pasted from \
          another program. Write that part of the text anew."
@@ -59,7 +59,8 @@ file_faults! {
          written twice. An empty line of a text is a CONT without a value."
     4 BadLevel
         "The line does not begin with a level and one space. A text of several lines was put into the file without \
-         CONT, so that its further lines have no level; or the lines were indented."
+         CONT, so that its further lines have no level; or the lines were indented. At line 1 the file may be no \
+         GEDCOM at all, but a web page."
     5 LevelTooLarge
         "The level is above 99. A text of several lines was put into the file without CONT, and one of its lines \
          begins with a number such as a year."
@@ -69,10 +70,12 @@ file_faults! {
          spaces in it."
     7 BadTag
         "What stands at the tag's place is no tag. A tag has capital letters, digits and _. It may have been written \
-         in small letters, or two spaces stand before it."
+         in small letters, or two spaces stand before it; or a text of several lines was put into the file without \
+         CONT, and one of its lines begins with a number."
     8 BadValue
         "The value begins with @ and is no pointer. A text that begins with @ is written with @@. If a pointer was \
-         meant, it has capital letters, digits and _ between two @, and nothing behind it."
+         meant, it has capital letters, digits and _ between two @, and nothing behind it. Older versions wrote the \
+         calendar of a date between two @; now @#DJULIAN@ 3 MAY 1671 is JULIAN 3 MAY 1671."
     9 LevelJump
         "The level is two or more above that of the line before. A line was taken out, or a level was changed by \
          hand. Each line stands at most one level deeper than the line before it."
@@ -84,8 +87,8 @@ file_faults! {
          continues, one level deeper, or behind another CONT of its level. Lines may have been put in order by their \
          tags."
     12 NoHeader
-        "The first line is not HEAD. The beginning of the file is missing, or the file is not GEDCOM: a packed file \
-         such as GEDZIP, a web page, or an empty file."
+        "The first line is not HEAD. The beginning of the file is missing, or other lines were put before it, or the \
+         file is empty. A command such as gedtool canon f > f empties f before it is read."
     13 SecondHeader
         "A second HEAD stands in the file. Two files were put into one by copying. Import both into a genealogy \
          program instead, and export them as one file."
@@ -110,7 +113,8 @@ file_faults! {
     20 BadPayload
         "What stands behind the tag is not of the kind that belongs there. A date, an age or a word was written as \
          people write it, or as an older version of GEDCOM wrote it. In a date the words are English and in capital \
-         letters; what does not fit can stand in a PHRASE below it."
+         letters; what does not fit can stand in a PHRASE below it. What older versions wrote as NOTE with a pointer \
+         is SNOTE now."
     21 WrongTarget
         "A pointer leads to a record of another sort. Two identifiers were confused, such as that of a person and \
          that of a family."
@@ -122,7 +126,8 @@ file_faults! {
          the program that wrote the file leaves it out where nothing was typed in."
     28 OneWayLink
         "A person names a family that does not name the person, or the other way round. One of the two records was \
-         changed by hand, or a person was taken out of a family in one of them only."
+         changed by hand, or a person was taken out of a family in one of them only. Add the line that is missing \
+         there, or take this one away."
     29 UnlistedTag
         "A tag of the standard stands where the standard does not have it. An older version of GEDCOM had the tag \
          there, or the program that wrote the file uses it in a way of its own. Tags of one's own begin with _."

@@ -14,8 +14,9 @@ FAULTS = {
     1: (
         "NotUtf8",
         "The line is not UTF-8 text. "
-        "The file was saved in an older character set such as ANSEL, ANSI or Windows-1252. Export it once more from the "
-        "program that wrote it, as GEDCOM 7 or with the character set UTF-8."
+        "The file was saved in another character set, such as ANSEL, ANSI, Windows-1252 or UTF-16. Export it once more "
+        "from the program that wrote it, as GEDCOM 7 or with the character set UTF-8. At line 1 the file may be no text "
+        "at all, but a packed file such as GEDZIP, or a picture."
     ),
     2: (
         "BannedCharacter",
@@ -32,7 +33,7 @@ FAULTS = {
         "BadLevel",
         "The line does not begin with a level and one space. "
         "A text of several lines was put into the file without CONT, so that its further lines have no level; or the "
-        "lines were indented."
+        "lines were indented. At line 1 the file may be no GEDCOM at all, but a web page."
     ),
     5: (
         "LevelTooLarge",
@@ -50,13 +51,14 @@ FAULTS = {
         "BadTag",
         "What stands at the tag's place is no tag. "
         "A tag has capital letters, digits and _. It may have been written in small letters, or two spaces stand before "
-        "it."
+        "it; or a text of several lines was put into the file without CONT, and one of its lines begins with a number."
     ),
     8: (
         "BadValue",
         "The value begins with @ and is no pointer. "
         "A text that begins with @ is written with @@. If a pointer was meant, it has capital letters, digits and _ "
-        "between two @, and nothing behind it."
+        "between two @, and nothing behind it. Older versions wrote the calendar of a date between two @; now "
+        "@#DJULIAN@ 3 MAY 1671 is JULIAN 3 MAY 1671."
     ),
     9: (
         "LevelJump",
@@ -78,8 +80,8 @@ FAULTS = {
     12: (
         "NoHeader",
         "The first line is not HEAD. "
-        "The beginning of the file is missing, or the file is not GEDCOM: a packed file such as GEDZIP, a web page, or an "
-        "empty file."
+        "The beginning of the file is missing, or other lines were put before it, or the file is empty. A command such "
+        "as gedtool canon f > f empties f before it is read."
     ),
     13: (
         "SecondHeader",
@@ -126,7 +128,8 @@ FAULTS = {
         "BadPayload",
         "What stands behind the tag is not of the kind that belongs there. "
         "A date, an age or a word was written as people write it, or as an older version of GEDCOM wrote it. In a date "
-        "the words are English and in capital letters; what does not fit can stand in a PHRASE below it."
+        "the words are English and in capital letters; what does not fit can stand in a PHRASE below it. What older "
+        "versions wrote as NOTE with a pointer is SNOTE now."
     ),
     21: (
         "WrongTarget",
@@ -160,7 +163,8 @@ FAULTS = {
     28: (
         "OneWayLink",
         "A person names a family that does not name the person, or the other way round. "
-        "One of the two records was changed by hand, or a person was taken out of a family in one of them only."
+        "One of the two records was changed by hand, or a person was taken out of a family in one of them only. Add the "
+        "line that is missing there, or take this one away."
     ),
     29: (
         "UnlistedTag",
