@@ -155,24 +155,31 @@ IsRespelledTo-kept bytes count rest after behind pending old out piece line p t 
           (sym (append_assoc out r.kept spelled)) r.read;
     }
 
--- a line that is respelled behind what was kept; more stands between the pending lines and those after it
+-- a line that is kept up to its end, and gets a line feed; more stands between it and what stands after it
 pub IsRespelledTo-made : (bytes : Bytes) (count : ℕ) (rest after behind pending left old out now piece more : Bytes) (line : LineParts)
-    → pieces_of rest ≡ piece ∷ pieces_of after → LineText line piece → rest ≡ more ++ after
-    → now ≡ out ++ (take (length pending - (length rest + length behind)) pending ++ (spelling line ++ (10 ∷ [])))
+    → pieces_of rest ≡ piece ∷ pieces_of after → LineText line piece → rest ≡ spelling line ++ (more ++ after)
+    → now ≡ out ++ (take (length pending - (length rest + length behind - length (spelling line))) pending ++ (10 ∷ []))
     → left ≡ drop (length pending - (length after + length behind)) pending
     → IsRespelledTo bytes count rest behind pending old out → IsRespelledTo bytes (count + 1) after behind left old now
 IsRespelledTo-made bytes count rest after behind pending left old out now piece more line p t m n d r =
-    let spelled = spelling line ++ (10 ∷ []) in
-    let both : length (rest ++ behind) ≡ length rest + length behind = length-append rest behind in
-    let behind_both : length (after ++ behind) ≡ length after + length behind = length-append after behind in
-    let front : take (length pending - (length rest + length behind)) pending ≡ r.kept = rw (← both) (rw r.split (take_front r.kept (rest ++ behind))) in
-    let whole : pending ≡ (r.kept ++ more) ++ (after ++ behind) =
-    r.split ∙ ap (λ x. r.kept ++ (x ++ behind)) m ∙ ap (λ x. r.kept ++ x) (append_assoc more after behind) ∙ sym (append_assoc r.kept more (after ++ behind)) in
-    let back : drop (length pending - (length after + length behind)) pending ≡ after ++ behind = rw (← behind_both) (rw whole (drop_front (r.kept ++ more) (after ++ behind))) in
-    let grown : now ≡ (out ++ r.kept) ++ spelled = n ∙ ap (λ x. out ++ (x ++ spelled)) front ∙ sym (append_assoc out r.kept spelled) in
+    let lf : Bytes = 10 ∷ [] in
+    let back = (more ++ after) ++ behind in
+    let rest_long : length rest ≡ length (spelling line) + length (more ++ after) = ap length m ∙ length-append (spelling line) (more ++ after) in
+    let back_long : length back ≡ length rest + length behind - length (spelling line) = omega (arith, length-append (more ++ after) behind) in
+    let after_long : length (after ++ behind) ≡ length after + length behind = length-append after behind in
+    let whole : pending ≡ (r.kept ++ spelling line) ++ back =
+    r.split ∙ ap (λ x. r.kept ++ (x ++ behind)) m ∙ ap (λ x. r.kept ++ x) (append_assoc (spelling line) (more ++ after) behind) ∙ sym (append_assoc r.kept (spelling line) back) in
+    let front : take (length pending - (length rest + length behind - length (spelling line))) pending ≡ r.kept ++ spelling line =
+    rw (← back_long) (rw whole (take_front (r.kept ++ spelling line) back)) in
+    let cut : pending ≡ ((r.kept ++ spelling line) ++ more) ++ (after ++ behind) =
+    whole ∙ ap (λ x. (r.kept ++ spelling line) ++ x) (append_assoc more after behind) ∙ sym (append_assoc (r.kept ++ spelling line) more (after ++ behind)) in
+    let end : drop (length pending - (length after + length behind)) pending ≡ after ++ behind =
+    rw (← after_long) (rw cut (drop_front ((r.kept ++ spelling line) ++ more) (after ++ behind))) in
+    let grown : now ≡ (out ++ r.kept) ++ (spelling line ++ lf) =
+    n ∙ ap (λ x. out ++ (x ++ lf)) front ∙ ap (λ x. out ++ x) (append_assoc r.kept (spelling line) lf) ∙ sym (append_assoc out r.kept (spelling line ++ lf)) in
     record {
       kept = [];
-      split = d ∙ back;
+      split = d ∙ end;
       read = subst (HaveRespelled bytes (count + 1) (pieces_of after) old) (sym (append-nil now))
           (HaveRespelled-more bytes count (pieces_of rest) (pieces_of after) piece old (out ++ r.kept) now line p t grown r.read);
     }

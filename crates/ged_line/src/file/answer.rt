@@ -1,6 +1,6 @@
 // The answer of respelling: slices of the file, and what was made between them.
 ghost use Rattle.std.specs.Prelude.{◌≡◌, ◌≤◌, ◌+◌, ◌-◌, ◌++◌, ◌∷◌, [], length, take, drop, IfOk, OnOk};
-ghost use Rattle.ged_line.specs.Bytes.{line_feed};
+ghost use Rattle.ged_line.specs.Bytes.{Bytes, line_feed};
 ghost use Rattle.ged_line.specs.Files.{joined};
 ghost use Rattle.ged_line.specs.Pieces.{IsBehindMark};
 ghost use Rattle.ged_line.specs.inner.Respelling.{EndsWith, text_before};
@@ -70,17 +70,29 @@ impl<'a> Answer<'a> {
     }
 
     /// Puts what is pending, but for its last bytes, of which there are so many, behind what is spelled.
-    pub(crate) fn keep(&mut self, left: usize) -> Result<(), AllocError>
+    #[inline(always)]
+    fn keep(&mut self, left: usize) -> Result<(), AllocError>
         requires { left ≤ length self.old.pending }
         ensures text { OnOk result (self.new.text ≡ self.old.text ++ take (length self.old.pending - left) self.old.pending) }
         ensures pending { OnOk result (self.new.pending ≡ drop (length self.old.pending - left) self.old.pending) }
     {
         let (kept, pending) = self.pending.split_at(self.pending.len() - left);
-        if kept.len() < LONG_RUN {
-            self.made.extend_from_slice(kept)?;
-            self.pending = pending;
-            return Ok(());
+        if kept.len() >= LONG_RUN {
+            return self.keep_run(left);
         }
+        self.made.extend_from_slice(kept)?;
+        self.pending = pending;
+        Ok(())
+    }
+
+    /// The same in a part of its own.
+    #[cold]
+    fn keep_run(&mut self, left: usize) -> Result<(), AllocError>
+        requires { left ≤ length self.old.pending }
+        ensures text { OnOk result (self.new.text ≡ self.old.text ++ take (length self.old.pending - left) self.old.pending) }
+        ensures pending { OnOk result (self.new.pending ≡ drop (length self.old.pending - left) self.old.pending) }
+    {
+        let (kept, pending) = self.pending.split_at(self.pending.len() - left);
         let alloc = *self.made.allocator();
         let made = mem::replace(&mut self.made, Vec::new(alloc));
         self.parts.push(SpelledPart { made, kept })?;
@@ -103,8 +115,9 @@ impl<'a> Answer<'a> {
         Ok(())
     }
 
-    /// The same of a line and a line feed. The rest is left, and other bytes behind it; then what stands after the line, and
-    /// those bytes.
+    /// Puts what is pending up to the end of a line, and a line feed, behind what is spelled. The line stands at the front of the
+    /// rest, which is left, and other bytes behind that; then what stands after the line, and those bytes.
+    #[inline(always)]
     pub(crate) fn push_line(
         &mut self,
         rest: &str,
@@ -113,18 +126,15 @@ impl<'a> Answer<'a> {
         behind: &[u8],
     ) -> Result<(), AllocError>
         requires left { length rest.now + length behind.now ≤ length self.old.pending }
-        requires after { length after.now ≤ length rest.now }
+        requires front { (more : Bytes) × (rest.now ≡ line.now ++ (more ++ after.now)) }
         ensures text { OnOk result (self.new.text ≡ self.old.text
-            ++ (take (length self.old.pending - (length rest.now + length behind.now)) self.old.pending ++ (line.now ++ line_feed ∷ []))) }
+            ++ (take (length self.old.pending - (length rest.now + length behind.now - length line.now)) self.old.pending ++ line_feed ∷ [])) }
         ensures pending { OnOk result (self.new.pending
             ≡ drop (length self.old.pending - (length after.now + length behind.now)) self.old.pending) }
     {
-        self.push(
-            rest.len() + behind.len(),
-            line.as_bytes(),
-            after.len() + behind.len(),
-        )?;
+        self.keep(rest.len() + behind.len() - line.len())?;
         self.made.push(b'\n')?;
+        self.pending = &self.pending[self.pending.len() - (after.len() + behind.len())..];
         Ok(())
     }
 

@@ -1,6 +1,6 @@
 use Rattle.std.proofs.Common.{rules}
 use Rattle.ged_line.proofs.file.Answering.{joined-closed}
-use Rattle.ged_line.proofs.file.answer.Answer.keep.Goals as goal
+use Rattle.ged_line.proofs.file.answer.Answer.keep_run.Goals as goal
 
 pub returns-clause-text : goal.returns-clause-text
 returns-clause-text c =
