@@ -3,8 +3,9 @@ use crate::answers::Answer;
 use crate::parts::{Parts, read_parts, say_line, say_line_fault, say_view};
 use ged_line::{
     Line, LineAt, LineView, ParseFault, RespellFault, Tag, Text, Xref, first_line, is_plain,
-    is_same_tag, parse_line, read_lines, respell_lines, split_pieces, tag_order, text_behind_mark,
-    view_line, view_lines, view_text, write_head, write_line, write_lines, write_parts, write_view,
+    is_same_tag, parse_line, read_lines, respell_lines, respell_parts, split_pieces, tag_order,
+    text_behind_mark, view_line, view_lines, view_text, write_head, write_line, write_lines,
+    write_parts, write_view,
 };
 use std::alloc::Global;
 use std::str;
@@ -77,12 +78,29 @@ fn answer_of_file(alloc: Global, call: &str, file: &[u8], answer: &mut Answer) -
             Err(RespellFault::At(at)) => say_line_at(answer, at),
             Err(RespellFault::Memory(_)) => answer.lack_memory(),
         },
+        "respell_parts" => say_parts(alloc, file, answer),
         "view_lines" => say_levels(file, answer),
         "SpelledLine::text" => say_texts(file, answer),
         "text_behind_mark" => answer.say(text_behind_mark(file).unwrap_or("None")),
         _ => return false,
     }
     true
+}
+
+/// Of each part of the lines' canonical spelling how many bytes were made, and how many are kept.
+fn say_parts(alloc: Global, file: &[u8], answer: &mut Answer) {
+    match respell_parts(alloc, file) {
+        Ok(parts) => {
+            for part in &parts {
+                answer.say_number(part.made.len() as u64);
+                answer.say(" ");
+                answer.say_number(part.kept.len() as u64);
+                answer.say("\n");
+            }
+        }
+        Err(RespellFault::At(at)) => say_line_at(answer, at),
+        Err(RespellFault::Memory(_)) => answer.lack_memory(),
+    }
 }
 
 fn say_pieces(file: &[u8], answer: &mut Answer) {
