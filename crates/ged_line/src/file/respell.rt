@@ -34,9 +34,9 @@ pub fn respell_lines(alloc: Global, bytes: &[u8]) -> Result<Vec<u8>, RespellFaul
     }
 }
 
-/// What [`respell_lines`] answers, in parts. Lines that are spelled as they should be are kept as slices of the bytes, where
-/// 16,384 bytes or more of them stand together; all else is made. There is a part for each of these slices, and one more. Grows
-/// for the parts and for what is made.
+/// What [`respell_lines`] answers, in parts. What stands in the bytes as it should be spelled, up to where a line differs, is kept
+/// as a slice of them where it has 16,384 bytes or more; all else is made. There is a part for each of these slices, and one
+/// more. Grows for the parts and for what is made.
 pub fn respell_parts(alloc: Global, bytes: &[u8]) -> Result<Vec<SpelledPart<'_>>, RespellFault>
     ensures spelled { IfOk result (λ parts. IsRespelling bytes.now (joined parts.items)) }
     ensures fault { IfErr result (λ fault. TellsRespell fault bytes.now) }
