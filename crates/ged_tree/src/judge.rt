@@ -1,5 +1,6 @@
 // The faults of a document's lines, found line by line.
 ghost use Rattle.std.specs.Prelude.{◌≡◌, ◌++◌, ◌∷◌, [], List, Some, None, IfOk, IfErr, option_map, Option};
+ghost use Rattle.std.specs.Bool.{OnTrue};
 ghost use Rattle.std.specs.List.{find};
 ghost use Rattle.ged_line.specs.Lines.{LineParts};
 ghost use Rattle.ged_tree.specs.TreeFaults.{has_trailer, fault_after, stands};
@@ -84,6 +85,36 @@ impl Judge {
     // The lowest fault that stands at the line.
     #[inline(always)]
     fn fault(&self, line: &LineView<'_>) -> Option<TreeFault>
+        ensures { (lines : List LineParts) → StandsFor self.now lines → result ≡ fault_after lines line.now }
+    {
+        if self.is_plain(line) {
+            return None;
+        }
+        self.any_fault(line)
+    }
+
+    // Whether the line begins a structure below another one, and follows one that is no CONT, as nearly all do: then it has no
+    // fault.
+    #[inline(always)]
+    fn is_plain(&self, line: &LineView<'_>) -> bool
+        ensures { (lines : List LineParts) → StandsFor self.now lines → OnTrue result (fault_after lines line.now ≡ None) }
+    {
+        match self.previous {
+            None => false,
+            Some(previous) => {
+                line.level() > 0
+                    && line.level() <= previous.level + 1
+                    && !previous.is_cont
+                    && !self.has_ended
+                    && line.xref().is_none()
+                    && !is_cont(line)
+            }
+        }
+    }
+
+    // The same for any line.
+    #[inline(always)]
+    fn any_fault(&self, line: &LineView<'_>) -> Option<TreeFault>
         ensures { (lines : List LineParts) → StandsFor self.now lines → result ≡ fault_after lines line.now }
     {
         if self.jumps(line) {

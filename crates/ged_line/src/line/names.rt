@@ -1,5 +1,6 @@
 // Tags and cross-reference identifiers.
 ghost use Rattle.std.specs.Prelude.{◌≡◌, ◌<◌, ◌≤◌, ℕ, length, slice_index, true, false};
+ghost use Rattle.std.specs.Bool.{OnTrue};
 ghost use Rattle.std.specs.List.{list_all};
 ghost use Rattle.std.specs.Str.{bytes_eq};
 ghost use Rattle.ged_line.specs.Characters.{is_tag_character as tests_tag_character};
@@ -13,13 +14,42 @@ fn is_tag_character(byte: u8) -> bool
     byte.is_ascii_uppercase() || byte.is_ascii_digit() || byte == b'_'
 }
 
-/// The number of tag characters that a text begins with.
+/// The number of tag characters that a text begins with. Most tags are four letters before a space.
+#[inline(always)]
 pub(crate) fn tag_characters(text: &str) -> usize
     ensures inside { result ≤ length text.now }
     ensures front { (at : ℕ) → at < result → tests_tag_character (slice_index text.now at) ≡ true }
     ensures stop { result < length text.now → tests_tag_character (slice_index text.now result) ≡ false }
 {
     let bytes = text.as_bytes();
+    if begins_with_four_letters(bytes) && (bytes.len() == 4 || bytes[4] == b' ') {
+        return 4;
+    }
+    any_tag_characters(bytes)
+}
+
+/// Whether bytes begin with four capital letters.
+#[inline(always)]
+fn begins_with_four_letters(bytes: &[u8]) -> bool
+    ensures { OnTrue result ((4 ≤ length bytes.now) × ((at : ℕ) → at < 4 → tests_tag_character (slice_index bytes.now at) ≡ true)) }
+{
+    match bytes {
+        [first, second, third, fourth, ..] => {
+            first.is_ascii_uppercase()
+                && second.is_ascii_uppercase()
+                && third.is_ascii_uppercase()
+                && fourth.is_ascii_uppercase()
+        }
+        _ => false,
+    }
+}
+
+/// What [`tag_characters`] answers, byte by byte.
+fn any_tag_characters(bytes: &[u8]) -> usize
+    ensures inside { result ≤ length bytes.now }
+    ensures front { (at : ℕ) → at < result → tests_tag_character (slice_index bytes.now at) ≡ true }
+    ensures stop { result < length bytes.now → tests_tag_character (slice_index bytes.now result) ≡ false }
+{
     bytes
         .iter()
         .position(|byte| !is_tag_character(*byte))
