@@ -147,7 +147,7 @@ fn say_place(site: &Site<'_>, told: &mut Told) {
     };
     told.say(match site.own() {
         Some(_) => "  place: ",
-        None => "  behind: ",
+        None => "  after: ",
     });
     site.path.say(last.level, told);
     told.say("\n");

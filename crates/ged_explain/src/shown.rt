@@ -17,7 +17,7 @@ pub(crate) fn shown_line(alloc: Global, bytes: &[u8], line: u64) -> Result<Strin
     ensures { IfOk result (λ text. ShowsPiece bytes.now line (string_bytes text)) }
 {
     let Some(piece) = piece_at(bytes, line) else {
-        let text = String::from_str(alloc, " is behind the last line\n")?;
+        let text = String::from_str(alloc, " is past the last line\n")?;
         return Ok(text);
     };
     shown_piece(alloc, piece)

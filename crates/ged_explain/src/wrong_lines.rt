@@ -17,7 +17,7 @@ pub(crate) fn say_wrong_line(kind: FileFault, piece: &[u8], told: &mut Told) {
         ),
         FileFault::BadXref => {
             told.say(
-                "behind the level belongs a tag, or an identifier such as @I7@, a space and a tag",
+                "after the level belongs a tag, or an identifier such as @I7@, a space and a tag",
             )
         }
         FileFault::BadTag => say_wrong_tag(piece, told),
@@ -43,7 +43,7 @@ fn say_wrong_byte(piece: &[u8], told: &mut Told) {
 fn say_banned(piece: &[u8], told: &mut Told) {
     let text = str::from_utf8(piece).unwrap_or("");
     if let Some(character) = text.chars().find(|character| is_banned(*character)) {
-        told.say("no line has the character ");
+        told.say("no line may have the character ");
         told.say_character_number(u32::from(character));
     }
 }
@@ -62,7 +62,7 @@ fn say_wrong_tag(piece: &[u8], told: &mut Told) {
         NAME_COLUMNS,
     );
     told.say(
-        "\" is no tag; a tag has capital letters and digits, such as SEX, or begins with _, such as _MILT",
+        "\" is not a tag; a tag has capital letters and digits, such as SEX, or begins with _, such as _MILT",
     );
 }
 

@@ -13,7 +13,7 @@ pub(crate) fn say_wrong_structure(
     match kind {
         FileFault::LevelJump => say_jump(site.path.before(), own.level, told),
         FileFault::XrefNotAllowed => told.say(
-            "only records have identifiers, and HEAD and TRLR are none",
+            "only records have identifiers; HEAD and TRLR are not records",
         ),
         FileFault::MisplacedCont => say_misplaced(own, told),
         FileFault::NoHeader => told.say("the first line has to be 0 HEAD"),
@@ -42,7 +42,7 @@ fn say_misplaced(own: Step<'_>, told: &mut Told) {
         return told.say("nothing stands below a CONT");
     }
     told.say(
-        "a CONT comes straight behind the text that it continues, one level deeper, and has a text itself",
+        "a CONT comes straight after the text that it continues, one level deeper, and has a text itself",
     )
 }
 
