@@ -2,6 +2,7 @@
 // answer is told behind the second: in some words that are the same for the same answer.
 use crate::agreement::say_fault;
 use crate::answers::Answer;
+use crate::growing_answers::call_of_answer;
 use crate::growing_explained::call_of_explained;
 use crate::growing_feeds::call_of_feed;
 use crate::growing_files::{call_of_accepted, call_of_file};
@@ -68,6 +69,7 @@ pub(crate) fn make_call(
     call_of_bytes(alloc, name, bytes, marks, answer)
         || call_of_explained(alloc, name, bytes, marks, answer)
         || call_of_file(alloc, settings, name, bytes, marks, answer)
+        || call_of_answer(alloc, settings, name, bytes, marks, answer)
         || call_of_feed(alloc, settings, name, bytes, marks, answer)
         || call_of_accepted(alloc, settings, name, bytes, marks, answer)
 }

@@ -16,7 +16,7 @@ use ged_tree::{Document, document_of, flatten, to_lines};
 use std::alloc::Global;
 
 /// More bytes than any file here has.
-const LIMIT: u64 = 1_073_741_824;
+pub(crate) const LIMIT: u64 = 1_073_741_824;
 
 /// Makes a call that judges whole files; false where there is none of this name.
 pub(crate) fn call_of_file(
@@ -34,6 +34,7 @@ pub(crate) fn call_of_file(
         "run_lines" => call_run(alloc, settings, Command::Lines, file, marks, answer),
         "run_check" => call_run(alloc, settings, Command::Check, file, marks, answer),
         "run_show" => call_run(alloc, settings, Command::Show, file, marks, answer),
+        "run_tidy" => call_run(alloc, settings, Command::Tidy, file, marks, answer),
         "run_canon" => call_run(alloc, settings, Command::Canon, file, marks, answer),
         "run_same" => call_run_same(alloc, settings, file, marks, answer),
         "resolve" => call_resolve(alloc, file, marks, answer),
@@ -255,10 +256,10 @@ fn call_same(
 }
 
 /// How many bytes a run can write.
-const ROOM: usize = 4096;
+pub(crate) const ROOM: usize = 4096;
 
 /// Says what a run ended with, and wrote.
-fn say_run(answer: &mut Answer, outcome: Outcome, written: &[u8]) {
+pub(crate) fn say_run(answer: &mut Answer, outcome: Outcome, written: &[u8]) {
     match outcome {
         Outcome::Failed {
             which,

@@ -7,13 +7,15 @@ use crate::agreement::{
     say_fault, say_outcome, show_ways, tidy_ways, two_parts,
 };
 use crate::answers::Answer;
+use crate::digests::digest_ways;
 use crate::feeding::answer_pieces;
 use crate::large;
 use crate::ranges::Ranges;
 use crate::respelling::lines_ways;
 use ged_tool::{
-    Accepted, Edition, Fault, FileFault, Input, Outcome, Output, Profile, SameFault, Settings,
-    Which, accept, run_same, run_same_as, same, same_as,
+    Accepted, Comparison, Edition, Fault, FileFault, Form, Input, Outcome, Output, Profile,
+    SameFault, Settings, Which, accept, run_same, run_same_as, run_same_told, same, same_as,
+    same_by,
 };
 use std::alloc::{AllocError, Global};
 use std::io::Write;
@@ -62,6 +64,7 @@ fn answer_by_ways(
         "show" => show_ways(alloc, settings, file),
         "canon" => canon_ways(alloc, settings, file),
         "tidy" => tidy_ways(alloc, settings, file),
+        "digest" => digest_ways(alloc, settings, file),
         "lines" => lines_ways(alloc, settings, file),
         "document" => document_ways(alloc, settings, file),
         _ => return false,
@@ -80,6 +83,7 @@ fn answer_other(
 ) -> bool {
     match name {
         "same" => answer_same(alloc, settings, argument, answer),
+        "tidy_same" => answer_tidy_same(alloc, settings, argument, answer),
         "cuts" => answer_cuts(alloc, settings, argument, answer),
         "agreeing_cuts" => answer_agreeing_cuts(alloc, settings, argument, answer),
         "record_named" => answer_record(alloc, argument, answer),
@@ -135,17 +139,38 @@ fn run_compared_plainly(alloc: Global, first: &[u8], second: &[u8]) -> Answered 
     told_outcome(alloc, outcome, &written)
 }
 
+/// The answers of the calls that compare two files in any form.
+fn compared_in_form(alloc: Global, comparison: Comparison, first: &[u8], second: &[u8]) -> Ways {
+    let compared = same_by(alloc, comparison, first, second);
+    let mut ways = Ways::of(told_compared(alloc, compared));
+    let mut written = Vec::new(alloc);
+    let (mut left, mut right) = (Input::new(first), Input::new(second));
+    let mut writer = Output::new(&mut written);
+    let told = run_same_told(alloc, comparison, LIMIT, &mut left, &mut right, &mut writer);
+    ways.add("run_same_told", told_outcome(alloc, told.outcome, &written));
+    ways
+}
+
 /// Whether two files are the same, by each call that compares them.
 fn answer_same(alloc: Global, settings: Settings, argument: &[u8], answer: &mut Answer) {
     let (first, second) = two_parts(argument);
+    let form = Form::Canonical;
+    let mut ways = compared_in_form(alloc, Comparison { settings, form }, first, second);
     let compared = same_as(alloc, settings, first, second);
-    let mut ways = Ways::of(told_compared(alloc, compared));
+    ways.add("same_as", told_compared(alloc, compared));
     ways.add("run_same_as", run_compared(alloc, settings, first, second));
     if are_plain(settings) {
         ways.add("same", told_compared(alloc, same(alloc, first, second)));
         ways.add("run_same", run_compared_plainly(alloc, first, second));
     }
     ways.say(answer);
+}
+
+/// Whether two files are the same in the tidy form.
+fn answer_tidy_same(alloc: Global, settings: Settings, argument: &[u8], answer: &mut Answer) {
+    let (first, second) = two_parts(argument);
+    let form = Form::Tidy;
+    compared_in_form(alloc, Comparison { settings, form }, first, second).say(answer);
 }
 
 /// The verdict on each front of a file.

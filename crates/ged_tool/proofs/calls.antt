@@ -1,6 +1,7 @@
 pub mod CanonLaws
 pub mod Feeding
 pub mod FileLaws
+pub mod Forms
 pub mod Judging
 pub mod Merging
 pub mod Noticing

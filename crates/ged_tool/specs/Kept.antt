@@ -1,11 +1,12 @@
 -- What a run keeps of the files that it read.
 use Rattle.std.specs.Prelude.{◌≡◌, ◌⊎◌, ℕ, [], Option, Some, None}
 use Rattle.ged_line.specs.Bytes.{Bytes}
+use Rattle.ged_tree.specs.Trees.{Trees}
 use Rattle.ged_schema.specs.declared.profile.Profile.{Profile}
 use Rattle.ged_canon.specs.declared.edition.Edition.{Edition}
 use Rattle.ged_tool.specs.Answers.{Answers, FaultAt}
 use Rattle.ged_tool.specs.Run.{IsRunOf}
-use Rattle.ged_tool.specs.SameRun.{IsSameRun}
+use Rattle.ged_tool.specs.SameRun.{IsSameRunOf}
 use Rattle.ged_tool.specs.declared.runs.answer.Command.{Command}
 use Rattle.ged_tool.specs.declared.faults.Which.TheVariants.{First, Second}
 use Rattle.ged_tool.specs.declared.faults.FileFault.{FileFault}
@@ -47,6 +48,6 @@ abbrev pub IsKeptRun : Profile → Edition → Command → ℕ → (to_come left
 IsKeptRun profile edition command = IsKeptRunOf (Answers profile edition command) (FaultAt profile command)
 
 -- a run over two files, and what is kept of the bytes that came of both
-pub record IsKeptSameRun (profile : Profile) (edition : Edition) (limit : ℕ) (first_to_come first_left second_to_come second_left taken holds : Option Bytes) (outcome : Outcome) (bytes : Bytes) : Type 0 where
-  pub run : IsSameRun profile edition limit first_to_come first_left second_to_come second_left taken holds outcome
+pub record IsKeptSameRunOf (profile : Profile) (Becomes : Trees → Trees → Type 0) (limit : ℕ) (first_to_come first_left second_to_come second_left taken holds : Option Bytes) (outcome : Outcome) (bytes : Bytes) : Type 0 where
+  pub run : IsSameRunOf profile Becomes limit first_to_come first_left second_to_come second_left taken holds outcome
   pub kept : IsKeptOf bytes run.first run.second outcome

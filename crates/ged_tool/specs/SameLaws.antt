@@ -8,7 +8,9 @@ use Rattle.ged_canon.specs.declared.edition.Edition.{Edition}
 use Rattle.ged_tool.specs.declared.faults.FileFault.{FileFault}
 use Rattle.ged_tool.specs.Accepted.{IsAccepted, FileFaultAt}
 use Rattle.ged_tool.specs.Canon.{IsCanon}
-use Rattle.ged_tool.specs.Same.{AreCompared}
+use Rattle.ged_tool.specs.Same.{AreCompared, AreComparedBy, IsInForm, relation_of}
+use Rattle.ged_tool.specs.declared.comparison.Form.{Form}
+use Rattle.ged_tool.specs.declared.comparison.Form.TheVariants.{Tidy}
 
 -- Two files are compared with one answer: what `same_as` answers is what the laws below say.
 abbrev pub OneComparison : Type 0
@@ -35,6 +37,17 @@ abbrev pub SameByCanon : Type 0
 SameByCanon = (profile : Profile) (edition : Edition) (first second first_canonical second_canonical : Bytes)
     → IsCanon profile edition first first_canonical → IsCanon profile edition second second_canonical
     → AreCompared profile edition first second true ↔ (first_canonical ≡ second_canonical)
+
+-- files are the same in a form exactly where their bytes in that form are equal
+abbrev pub SameByBytes : Type 0
+SameByBytes = (form : Form) (profile : Profile) (edition : Edition) (first second first_bytes second_bytes : Bytes)
+    → IsInForm form profile edition first first_bytes → IsInForm form profile edition second second_bytes
+    → AreComparedBy profile (relation_of form edition) first second true ↔ (first_bytes ≡ second_bytes)
+
+-- files that are the same in the tidy form are the same in the canonical form
+abbrev pub TidySameIsSame : Type 0
+TidySameIsSame = (profile : Profile) (edition : Edition) (first second : Bytes) → AreComparedBy profile (relation_of Tidy edition) first second true
+    → AreCompared profile edition first second true
 
 -- what `lines` writes is accepted exactly where the file is, with the same document
 abbrev pub LinesKeepAcceptance : Type 0

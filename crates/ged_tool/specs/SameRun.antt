@@ -3,10 +3,12 @@ use Rattle.std.specs.Prelude.{◌≡◌, ℕ, ◌≤◌, ◌<◌, Bool, true, fa
 use Rattle.std.specs.Io.{StartsWith}
 use Rattle.std.specs.Io.KnownBytes.{Consumes, Appends}
 use Rattle.ged_line.specs.Bytes.{Bytes, line_feed}
+use Rattle.ged_tree.specs.Trees.{Trees}
 use Rattle.ged_schema.specs.declared.profile.Profile.{Profile}
 use Rattle.ged_canon.specs.declared.edition.Edition.{Edition}
+use Rattle.ged_canon.specs.Steps.{Equivalent}
 use Rattle.ged_tool.specs.Run.{IsWhole}
-use Rattle.ged_tool.specs.Same.{AreCompared, IsSameRefusal}
+use Rattle.ged_tool.specs.Same.{AreComparedBy, IsSameRefusal}
 use Rattle.ged_tool.specs.declared.faults.Which.{Which}
 use Rattle.ged_tool.specs.declared.faults.Which.TheVariants.{First, Second}
 use Rattle.ged_tool.specs.declared.faults.Fault.{Fault}
@@ -40,27 +42,32 @@ TellsOfFile profile limit first second First (Memory error) = (length first.byte
 TellsOfFile profile limit first second Second (Memory error) = IsAllOf limit first × (length second.bytes ≤ limit)
 TellsOfFile profile limit first second which WriteFailed = ⊥
 
--- What an outcome says. Where a file has a fault nothing was written; where the writer failed, the front of the answer.
-abbrev pub SameMeans : Profile → Edition → ℕ → Came → Came → Bytes → Outcome → Type 0
-SameMeans profile edition limit first second written Done =
+-- What an outcome says, where `Becomes` says which files are the same. Where a file has a fault nothing was written; where the
+-- writer failed, the front of the answer.
+abbrev pub SameMeans : Profile → (Becomes : Trees → Trees → Type 0) → ℕ → Came → Came → Bytes → Outcome → Type 0
+SameMeans profile Becomes limit first second written Done =
     IsAllOf limit first × IsAllOf limit second
-    × AreCompared profile edition first.bytes second.bytes true × (written ≡ same_line true)
-SameMeans profile edition limit first second written Different =
+    × AreComparedBy profile Becomes first.bytes second.bytes true × (written ≡ same_line true)
+SameMeans profile Becomes limit first second written Different =
     IsAllOf limit first × IsAllOf limit second
-    × AreCompared profile edition first.bytes second.bytes false × (written ≡ same_line false)
-SameMeans profile edition limit first second written (Failed None fault) =
+    × AreComparedBy profile Becomes first.bytes second.bytes false × (written ≡ same_line false)
+SameMeans profile Becomes limit first second written (Failed None fault) =
     (fault ≡ WriteFailed) × IsAllOf limit first × IsAllOf limit second
-    × ((same : Bool) × AreCompared profile edition first.bytes second.bytes same × StartsWith (same_line same) written)
-SameMeans profile edition limit first second written (Failed (Some which) fault) =
+    × ((same : Bool) × AreComparedBy profile Becomes first.bytes second.bytes same × StartsWith (same_line same) written)
+SameMeans profile Becomes limit first second written (Failed (Some which) fault) =
     TellsOfFile profile limit first second which fault × (written ≡ [])
 
 -- A run over two files: some bytes came of each and some were written, and the outcome says what they are. A reader that
 -- tells the bytes to come gave these and has the others left; a writer that tells the bytes taken took these.
-pub record IsSameRun (profile : Profile) (edition : Edition) (limit : ℕ) (first_to_come first_left second_to_come second_left taken holds : Option Bytes) (outcome : Outcome) : Type 0 where
+pub record IsSameRunOf (profile : Profile) (Becomes : Trees → Trees → Type 0) (limit : ℕ) (first_to_come first_left second_to_come second_left taken holds : Option Bytes) (outcome : Outcome) : Type 0 where
   pub first : Bytes
   pub second : Bytes
   pub written : Bytes
   pub first_gave : Consumes first_to_come first_left first
   pub second_gave : Consumes second_to_come second_left second
   pub took : Appends taken holds written
-  pub means : SameMeans profile edition limit (record { bytes = first; left = first_left }) (record { bytes = second; left = second_left }) written outcome
+  pub means : SameMeans profile Becomes limit (record { bytes = first; left = first_left }) (record { bytes = second; left = second_left }) written outcome
+
+-- the same of files that are compared in the canonical form
+abbrev pub IsSameRun : Profile → Edition → ℕ → (first_to_come first_left second_to_come second_left taken holds : Option Bytes) → Outcome → Type 0
+IsSameRun profile edition = IsSameRunOf profile (Equivalent edition)

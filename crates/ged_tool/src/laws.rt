@@ -4,6 +4,7 @@ ghost use Rattle.ged_tool.specs.Laws.{OneAccepted, AcceptedIsFaultless, OneFileF
 ghost use Rattle.ged_tool.specs.Laws.{IsAcceptedOrFaulty, LinesFromOne, OneListOfNotices, OneVerdict, CanonIsPromised, SecondAgrees};
 ghost use Rattle.ged_tool.specs.Tidied.{TidyIsPromised};
 ghost use Rattle.ged_tool.specs.SameLaws.{OneComparison, SameAsItself, SameBothWays, SameOnward, SameByCanon};
+ghost use Rattle.ged_tool.specs.SameLaws.{SameByBytes, TidySameIsSame};
 ghost use Rattle.ged_tool.specs.DigestLaws.{OneDigest, SameDigest, CanonKeepsDigest};
 ghost use Rattle.ged_tool.specs.SameLaws.{LinesKeepAcceptance, LinesKeepFault, LinesKeepCanon};
 
@@ -72,6 +73,13 @@ pub fn same_is_an_equivalence()
     ensures symmetric { SameBothWays }
     ensures transitive { SameOnward }
     ensures by_canon { SameByCanon }
+{}
+
+/// Files are the same in a form exactly where their bytes in that form are equal. Those that are the same in the tidy form
+/// are the same in the canonical form: what keeps identifiers tells more files apart, and none fewer.
+pub fn same_in_each_form()
+    ensures by_bytes { SameByBytes }
+    ensures tidy_is_finer { TidySameIsSame }
 {}
 
 /// What [`Command::Lines`](crate::Command) writes of a file is accepted exactly where the file is, with the same document,

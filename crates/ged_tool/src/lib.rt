@@ -2,6 +2,7 @@
 #![tactic(auto)]
 
 mod calls;
+mod comparison;
 mod faults;
 mod laws;
 mod runs;
@@ -12,16 +13,17 @@ pub use calls::canonicalise::{canonicalise, canonicalise_as};
 pub use calls::digest::{digest, digest_as};
 pub use calls::feed::Feed;
 pub use calls::notices::notices;
-pub use calls::same::{SameFault, same, same_as};
+pub use calls::same::{SameFault, same, same_as, same_by};
 pub use calls::show::show_text;
 pub use calls::tidy::{tidy, tidy_as};
+pub use comparison::{Comparison, Form};
 pub use faults::{Fault, FileFault, Outcome, Which};
 pub use ged_canon::Edition;
 pub use ged_schema::Profile;
 pub use laws::{
     accepted_is_faultless, accepted_or_faulty, headline, lines_from_one, lines_keep_the_file,
     one_accepted, one_file_fault, one_list_of_notices, one_verdict, same_have_one_digest,
-    same_is_an_equivalence, strict_refuses_notices, tidy_headline,
+    same_in_each_form, same_is_an_equivalence, strict_refuses_notices, tidy_headline,
 };
 pub use runs::answer::{Command, answer};
 pub use runs::devices::{Failed, Sink, Source};

@@ -1,5 +1,5 @@
 -- What is promised of canonical bytes holds.
-use Rattle.std.proofs.Common.{◌≡◌, ◌↔◌, Bool, true, IsTrue, List, [], ◌∷◌, refl, sym, ap, ◌∙◌, subst}
+use Rattle.std.proofs.Common.{◌≡◌, ◌↔◌, true, List, [], ◌∷◌, refl, sym, ap, ◌∙◌, subst}
 use Rattle.std.specs.List.{AllByRecursion, list_all}
 use Rattle.std.proofs.lemmas.Bool.{and_parts}
 use Rattle.ged_line.specs.Bytes.{Bytes}
@@ -24,7 +24,6 @@ use Rattle.ged_canon.proofs.CallerLemmas.{symmetric, transitive, normal_form_is_
 use Rattle.ged_tool.specs.Accepted.{IsAccepted}
 use Rattle.ged_tool.specs.Canon.{IsCanon}
 use Rattle.ged_tool.specs.Headline.{IsOwnCanon, Headline, AgreesWithFirst}
-use Rattle.ged_tool.specs.Same.{AreCompared}
 use Rattle.ged_tool.proofs.calls.FileLaws.{one_of_file, of_document}
 
 each_line : (lines : List LineParts) → list_all is_line lines ≡ true → AllByRecursion (λ line. is_line line ≡ true) lines
@@ -68,7 +67,7 @@ pub one_spelling : (d e : Trees) (bytes other : Bytes) → d ≡ e → CanonText
 one_spelling d e bytes other same spelled other_spelled = spelled ∙ ap (λ (t : Trees). file_of (document_lines t)) same ∙ sym other_spelled
 
 -- of two files the canonical bytes are equal exactly when the one's document becomes the other's
-pub equal_canons : (profile : Profile) (edition : Edition) (file canonical other other_canonical : Bytes) → (h : IsCanon profile edition file canonical) → (k : IsCanon profile edition other other_canonical)
+equal_canons : (profile : Profile) (edition : Edition) (file canonical other other_canonical : Bytes) → (h : IsCanon profile edition file canonical) → (k : IsCanon profile edition other other_canonical)
     → (canonical ≡ other_canonical) ↔ Equivalent edition h.document k.document
 equal_canons profile edition file canonical other other_canonical h k = (
   λ same.
@@ -81,19 +80,6 @@ equal_canons profile edition file canonical other other_canonical h k = (
       (transitive edition h.document k.document k.normal steps k.normal_form.equivalent)) h.normal_form.normal k.normal_form.normal)
       h.spelled k.spelled,
 )
-
--- two files are compared by their canonical bytes
-pub are_compared : (profile : Profile) (edition : Edition) (first second first_canonical second_canonical : Bytes) (same : Bool) → IsCanon profile edition first first_canonical
-    → IsCanon profile edition second second_canonical → IsTrue same ↔ (first_canonical ≡ second_canonical) → AreCompared profile edition first second same
-are_compared profile edition first second first_canonical second_canonical same h k equal =
-    let steps = equal_canons profile edition first first_canonical second second_canonical h k in
-    record {
-      document = h.document;
-      other = k.document;
-      first_accepted = h.accepted;
-      second_accepted = k.accepted;
-      same_exactly_when = (λ t. steps.0 (equal.0 t), λ equivalent. equal.1 (steps.1 equivalent));
-    }
 
 -- the canonical spelling of a normal document, with which it is accepted, is its own canonical spelling alone
 own_canon : (profile : Profile) (edition : Edition) (d : Trees) (bytes : Bytes) → IsAccepted profile bytes d → Normal edition d → CanonText d bytes → IsOwnCanon profile edition bytes

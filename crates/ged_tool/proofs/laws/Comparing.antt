@@ -3,10 +3,11 @@ use Rattle.std.proofs.Common.{◌≡◌, ◌↔◌, Bool, true, false, refl, sym
 use Rattle.std.specs.Prelude.{IsTrue}
 use Rattle.ged_tree.specs.Trees.{Trees}
 use Rattle.ged_canon.specs.Steps.{Equivalent, done}
-use Rattle.ged_canon.proofs.CallerLemmas.{symmetric, transitive}
-use Rattle.ged_tool.specs.SameLaws.{OneComparison, SameAsItself, SameBothWays, SameOnward, SameByCanon}
+use Rattle.ged_canon.proofs.CallerLemmas.{symmetric, transitive, in_place_equivalent}
+use Rattle.ged_tool.specs.declared.comparison.Form.TheVariants.{Canonical}
+use Rattle.ged_tool.specs.SameLaws.{OneComparison, SameAsItself, SameBothWays, SameOnward, SameByBytes, SameByCanon, TidySameIsSame}
 use Rattle.ged_tool.proofs.calls.FileLaws.{one_accepted}
-use Rattle.ged_tool.proofs.calls.CanonLaws.{equal_canons}
+use Rattle.ged_tool.proofs.calls.Forms.{equal_in_form, are_compared}
 
 -- one truth value, by what it says
 one_truth : (a b : Bool) → (IsTrue a → IsTrue b) → (IsTrue b → IsTrue a) → a ≡ b
@@ -48,13 +49,20 @@ same_onward profile edition first second third h k =
       same_exactly_when = (λ t. transitive edition h.document k.document k.other onward (k.same_exactly_when.0 refl), λ steps. refl);
     }
 
+pub same_by_bytes : SameByBytes
+same_by_bytes form profile edition first second first_bytes second_bytes h k = (
+  λ c. (equal_in_form form profile edition first second first_bytes second_bytes c.document c.other h k c.first_accepted c.second_accepted).1 (c.same_exactly_when.0 refl),
+  λ same. are_compared form profile edition first second first_bytes second_bytes true h k (λ t. same, λ equal. refl),
+)
+
 pub same_by_canon : SameByCanon
-same_by_canon profile edition first second first_canonical second_canonical h k =
-    let equal = equal_canons profile edition first first_canonical second second_canonical h k in (
-      λ c.
-          let d : c.document ≡ h.document = one_accepted profile profile first c.document h.document c.first_accepted h.accepted in
-          let e : c.other ≡ k.document = one_accepted profile profile second c.other k.document c.second_accepted k.accepted in
-          let steps : Equivalent edition h.document k.document = rw (← d, ← e) (c.same_exactly_when.0 refl) in
-          equal.1 steps,
-      λ same. record { document = h.document; other = k.document; first_accepted = h.accepted; second_accepted = k.accepted; same_exactly_when = (λ t. equal.0 same, λ steps. refl) },
-    )
+same_by_canon = same_by_bytes Canonical
+
+pub tidy_same_is_same : TidySameIsSame
+tidy_same_is_same profile edition first second h = record {
+  document = h.document;
+  other = h.other;
+  first_accepted = h.first_accepted;
+  second_accepted = h.second_accepted;
+  same_exactly_when = (λ t. in_place_equivalent edition h.document h.other (h.same_exactly_when.0 refl), λ steps. refl);
+}

@@ -4,8 +4,8 @@ use Rattle.std.specs.Io.{StartsWith}
 use Rattle.std.specs.Io.KnownBytes.{Consumes, Appends}
 use Rattle.std.proofs.KnownBytes.{Consumes-nil, Appends-nil}
 use Rattle.ged_line.specs.Bytes.{Bytes}
+use Rattle.ged_tree.specs.Trees.{Trees}
 use Rattle.ged_schema.specs.declared.profile.Profile.{Profile}
-use Rattle.ged_canon.specs.declared.edition.Edition.{Edition}
 use Rattle.ged_tool.specs.declared.faults.Which.{Which}
 use Rattle.ged_tool.specs.declared.faults.Which.TheVariants.{First, Second}
 use Rattle.ged_tool.specs.declared.faults.FileFault.{FileFault}
@@ -18,7 +18,7 @@ use Rattle.ged_tool.specs.Run.{IsWhole, Tells}
 use Rattle.ged_tool.specs.inner.Steps.{StopsReading, StopsAnswering, of_which}
 use Rattle.ged_tool.specs.Same.{IsSameRefusal}
 use Rattle.ged_tool.specs.SameRun.{Came, TellsOfFile}
-use Rattle.ged_tool.specs.Kept.{IsKeptOf, IsKeptRunOf, IsKeptSameRun, IsKeptWith}
+use Rattle.ged_tool.specs.Kept.{IsKeptOf, IsKeptRunOf, IsKeptSameRunOf, IsKeptWith}
 
 abbrev came_of : Bytes → Option Bytes → Came
 came_of bytes left = record { bytes = bytes; left = left }
@@ -69,13 +69,13 @@ all_kept says came bytes WriteFailed h same = absurd h
 all_kept says came bytes (Memory error) h same = inl same
 
 -- nothing is written where a file has the fault
-stopped : (profile : Profile) (edition : Edition) (limit : ℕ) (first_to_come first_left second_to_come second_left taken : Option Bytes) (first second bytes : Bytes) (which : Which) (fault : Fault) (outcome : Outcome)
+stopped : (profile : Profile) (Becomes : Trees → Trees → Type 0) (limit : ℕ) (first_to_come first_left second_to_come second_left taken : Option Bytes) (first second bytes : Bytes) (which : Which) (fault : Fault) (outcome : Outcome)
     → Consumes first_to_come first_left first → Consumes second_to_come second_left second
     → TellsOfFile profile limit (came_of first first_left) (came_of second second_left) which fault
     → IsKeptOf bytes first second (Failed (Some which) fault) → outcome ≡ Failed (Some which) fault
-    → IsKeptSameRun profile edition limit first_to_come first_left second_to_come second_left taken taken outcome bytes
-stopped profile edition limit first_to_come first_left second_to_come second_left taken first second bytes which fault outcome first_gave second_gave told kept is =
-    subst (λ (o : Outcome). IsKeptSameRun profile edition limit first_to_come first_left second_to_come second_left taken taken o bytes) (sym is) (record {
+    → IsKeptSameRunOf profile Becomes limit first_to_come first_left second_to_come second_left taken taken outcome bytes
+stopped profile Becomes limit first_to_come first_left second_to_come second_left taken first second bytes which fault outcome first_gave second_gave told kept is =
+    subst (λ (o : Outcome). IsKeptSameRunOf profile Becomes limit first_to_come first_left second_to_come second_left taken taken o bytes) (sym is) (record {
       run = record {
         first = first;
         second = second;
@@ -89,30 +89,30 @@ stopped profile edition limit first_to_come first_left second_to_come second_lef
     })
 
 -- the first file did not come whole, and the second was not read
-pub first_stops : (profile : Profile) (edition : Edition) (limit : ℕ) (first_to_come first_left second_to_come taken : Option Bytes) (came bytes : Bytes) (fault : Fault) (outcome : Outcome)
+pub first_stops : (profile : Profile) (Becomes : Trees → Trees → Type 0) (limit : ℕ) (first_to_come first_left second_to_come taken : Option Bytes) (came bytes : Bytes) (fault : Fault) (outcome : Outcome)
     → Consumes first_to_come first_left came → StopsReading limit came fault → bytes ≡ [] → outcome ≡ Failed (Some First) fault
-    → IsKeptSameRun profile edition limit first_to_come first_left second_to_come second_to_come taken taken outcome bytes
-first_stops profile edition limit first_to_come first_left second_to_come taken came bytes fault outcome gave stops none is =
-    stopped profile edition limit first_to_come first_left second_to_come second_to_come taken came [] bytes First fault outcome gave (Consumes-nil second_to_come)
+    → IsKeptSameRunOf profile Becomes limit first_to_come first_left second_to_come second_to_come taken taken outcome bytes
+first_stops profile Becomes limit first_to_come first_left second_to_come taken came bytes fault outcome gave stops none is =
+    stopped profile Becomes limit first_to_come first_left second_to_come second_to_come taken came [] bytes First fault outcome gave (Consumes-nil second_to_come)
     (first_told profile limit came first_left second_to_come fault stops) (nothing_kept limit came bytes fault stops none) is
 
 -- the first file came whole, and the second did not
-pub second_stops : (profile : Profile) (edition : Edition) (limit : ℕ) (first_to_come first_left second_to_come second_left taken : Option Bytes) (first came bytes : Bytes) (fault : Fault) (outcome : Outcome)
+pub second_stops : (profile : Profile) (Becomes : Trees → Trees → Type 0) (limit : ℕ) (first_to_come first_left second_to_come second_left taken : Option Bytes) (first came bytes : Bytes) (fault : Fault) (outcome : Outcome)
     → IsWhole limit first first_left → Consumes first_to_come first_left first → Consumes second_to_come second_left came → StopsReading limit came fault → bytes ≡ [] → outcome ≡ Failed (Some Second) fault
-    → IsKeptSameRun profile edition limit first_to_come first_left second_to_come second_left taken taken outcome bytes
-second_stops profile edition limit first_to_come first_left second_to_come second_left taken first came bytes fault outcome whole first_gave gave stops none is =
-    stopped profile edition limit first_to_come first_left second_to_come second_left taken first came bytes Second fault outcome first_gave gave
+    → IsKeptSameRunOf profile Becomes limit first_to_come first_left second_to_come second_left taken taken outcome bytes
+second_stops profile Becomes limit first_to_come first_left second_to_come second_left taken first came bytes fault outcome whole first_gave gave stops none is =
+    stopped profile Becomes limit first_to_come first_left second_to_come second_left taken first came bytes Second fault outcome first_gave gave
     (second_told profile limit first came first_left second_left fault whole stops) (nothing_kept limit came bytes fault stops none) is
 
 -- both came whole, and one is not accepted, or memory was wanted
-pub judging_stops : (profile : Profile) (edition : Edition) (limit : ℕ) (first_to_come first_left second_to_come second_left taken : Option Bytes) (first second seen other_seen bytes : Bytes) (which : Which) (fault : Fault) (outcome : Outcome)
+pub judging_stops : (profile : Profile) (Becomes : Trees → Trees → Type 0) (limit : ℕ) (first_to_come first_left second_to_come second_left taken : Option Bytes) (first second seen other_seen bytes : Bytes) (which : Which) (fault : Fault) (outcome : Outcome)
     → IsWhole limit first first_left → Consumes first_to_come first_left first → IsWhole limit second second_left → Consumes second_to_come second_left second → seen ≡ first → other_seen ≡ second
     → IsSameRefusal profile seen other_seen which fault → bytes ≡ of_which which first second → outcome ≡ Failed (Some which) fault
-    → IsKeptSameRun profile edition limit first_to_come first_left second_to_come second_left taken taken outcome bytes
-judging_stops profile edition limit first_to_come first_left second_to_come second_left taken first second seen other_seen bytes which fault outcome whole first_gave other second_gave same other_same refused of is =
+    → IsKeptSameRunOf profile Becomes limit first_to_come first_left second_to_come second_left taken taken outcome bytes
+judging_stops profile Becomes limit first_to_come first_left second_to_come second_left taken first second seen other_seen bytes which fault outcome whole first_gave other second_gave same other_same refused of is =
     let told : IsSameRefusal profile first second which fault =
     subst (λ (bytes : Bytes). IsSameRefusal profile first bytes which fault) other_same (subst (λ (bytes : Bytes). IsSameRefusal profile bytes other_seen which fault) same refused) in
-    stopped profile edition limit first_to_come first_left second_to_come second_left taken first second bytes which fault outcome first_gave second_gave
+    stopped profile Becomes limit first_to_come first_left second_to_come second_left taken first second bytes which fault outcome first_gave second_gave
     (judged_told profile limit first second first_left second_left which fault whole other told) (keeps which told of) is
   where
     keeps : (which : Which) → IsSameRefusal profile first second which fault → bytes ≡ of_which which first second

@@ -1,9 +1,13 @@
 // Whether two files say the same.
-ghost use Rattle.std.specs.Prelude.{◌≡◌, ◌↔◌, IsTrue, IfOk, IfErr};
+ghost use Rattle.std.specs.Prelude.{◌≡◌, ◌↔◌, IsTrue, IfOk, IfErr, MatchResult};
 ghost use Rattle.ged_tool.specs.Profiles.{profile_of, edition_of};
-ghost use Rattle.ged_tool.specs.Same.{AreCompared, IsSameRefusal};
+ghost use Rattle.ged_tool.specs.Accepted.{FileFaultAt, IsRefusal};
+ghost use Rattle.ged_tool.specs.Same.{AreCompared, AreComparedBy, IsInForm, IsSameRefusal, relation_of};
 
+use crate::calls::accept::accept_as;
 use crate::calls::canonicalise::canonicalise_as;
+use crate::calls::tidy::tidy_as;
+use crate::comparison::{Comparison, Form};
 use crate::faults::{Fault, Which};
 use crate::settings::Settings;
 use ged_canon::Edition;
@@ -15,7 +19,7 @@ use std::alloc::Global;
 pub struct SameFault {
     /// The file with the fault.
     pub which: Which,
-    /// What [`canonicalise_as`] answers for that file.
+    /// What [`canonicalise_as`] and [`tidy_as`] answer for that file.
     pub fault: Fault,
 }
 
@@ -28,11 +32,7 @@ pub fn same(alloc: Global, first: &[u8], second: &[u8]) -> Result<bool, SameFaul
 }
 
 /// Whether two files that are accepted under the profile of the settings have the same canonical bytes in their edition,
-/// so whether one's document becomes the other's by steps.
-///
-/// The first file is put into its canonical form, then the second. Answers InFile with the first file's first fault, or
-/// where that file is accepted with the second's, or Memory for the file for which none was found; no other fault.
-/// Grows; the comparison takes no memory.
+/// so whether one's document becomes the other's by steps: what [`same_by`] answers in [`Form::Canonical`]. Grows.
 pub fn same_as(
     alloc: Global,
     settings: Settings,
@@ -42,15 +42,64 @@ pub fn same_as(
     ensures compared { IfOk result (AreCompared (profile_of settings) (edition_of settings) first.now second.now) }
     ensures refused { IfErr result (λ at. IsSameRefusal (profile_of settings) first.now second.now at.which at.fault) }
 {
-    let first_bytes = match canonicalise_as(alloc, settings, first) {
+    let form = Form::Canonical;
+    same_by(alloc, Comparison { settings, form }, first, second)
+}
+
+/// Whether two files that are accepted under the profile of the comparison have the same bytes in its form and edition: in
+/// the canonical form whether one's document becomes the other's by steps, in the tidy form whether it does by steps at
+/// places, which leave each identifier as it is.
+///
+/// The first file is put into the form, then the second, but for two files of equal bytes, which are judged once. Answers InFile with the first file's first fault, or where that
+/// file is accepted with the second's, or Memory for the file for which none was found; no other fault. Grows; the
+/// comparison takes no memory.
+pub fn same_by(
+    alloc: Global,
+    comparison: Comparison,
+    first: &[u8],
+    second: &[u8],
+) -> Result<bool, SameFault>
+    ensures compared { IfOk result (AreComparedBy (profile_of comparison.settings)
+        (relation_of comparison.form (edition_of comparison.settings)) first.now second.now) }
+    ensures refused { IfErr result (λ at. IsSameRefusal (profile_of comparison.settings) first.now second.now at.which at.fault) }
+{
+    if are_equal(first, second) {
+        return is_as_its_copy(alloc, comparison, first);
+    }
+    let first_bytes = match bytes_in_form(alloc, comparison, first) {
         Ok(bytes) => bytes,
         Err(fault) => return Err(fault_of(Which::First, fault)),
     };
-    let second_bytes = match canonicalise_as(alloc, settings, second) {
+    let second_bytes = match bytes_in_form(alloc, comparison, second) {
         Ok(bytes) => bytes,
         Err(fault) => return Err(fault_of(Which::Second, fault)),
     };
     Ok(are_equal(&first_bytes, &second_bytes))
+}
+
+/// What [`same_by`] answers for a file and a copy of it: they are the same where the file is accepted, so neither is put into
+/// the form.
+fn is_as_its_copy(alloc: Global, comparison: Comparison, bytes: &[u8]) -> Result<bool, SameFault>
+    ensures compared { IfOk result (AreComparedBy (profile_of comparison.settings)
+        (relation_of comparison.form (edition_of comparison.settings)) bytes.now bytes.now) }
+    ensures refused { IfErr result (λ at. IsSameRefusal (profile_of comparison.settings) bytes.now bytes.now at.which at.fault) }
+{
+    match accept_as(alloc, comparison.settings, bytes) {
+        Ok(_) => Ok(true),
+        Err(fault) => Err(fault_of(Which::First, fault)),
+    }
+}
+
+/// The bytes of a file in the form of a comparison.
+fn bytes_in_form(alloc: Global, comparison: Comparison, bytes: &[u8]) -> Result<Vec<u8>, Fault>
+    ensures { MatchResult result
+        (λ text. IsInForm comparison.form (profile_of comparison.settings) (edition_of comparison.settings) bytes.now text.items)
+        (IsRefusal (FileFaultAt (profile_of comparison.settings) bytes.now)) }
+{
+    match comparison.form {
+        Form::Canonical => canonicalise_as(alloc, comparison.settings, bytes),
+        Form::Tidy => tidy_as(alloc, comparison.settings, bytes),
+    }
 }
 
 fn fault_of(which: Which, fault: Fault) -> SameFault

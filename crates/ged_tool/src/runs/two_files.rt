@@ -1,11 +1,13 @@
 // One run over two files: read both, judge both, write whether they are the same.
 ghost use Rattle.std.specs.Prelude.{◌≡◌, ◌+◌, ◌≤◌, ◌↔◌, None, Some, false, IsTrue};
 ghost use Rattle.ged_tool.specs.Profiles.{profile_of, edition_of};
+ghost use Rattle.ged_tool.specs.Same.{relation_of};
 ghost use Rattle.ged_tool.specs.SameRun.{IsSameRun, same_line as line_of_same};
-ghost use Rattle.ged_tool.specs.Kept.{IsKeptSameRun};
+ghost use Rattle.ged_tool.specs.Kept.{IsKeptSameRunOf};
 ghost use Rattle.ged_tool.specs.inner.Steps.{of_which};
 
-use crate::calls::same::{SameFault, same_as};
+use crate::calls::same::{SameFault, same_by};
+use crate::comparison::{Comparison, Form};
 use crate::faults::{Fault, Outcome, Which};
 use crate::runs::devices::{Failed, Sink, Source};
 use crate::runs::one_file::read_whole;
@@ -77,16 +79,18 @@ pub fn run_same_as<R: Source, S: Source, W: Sink>(
     ensures bytes { IsSameRun (profile_of settings) (edition_of settings) limit (R.to_come first.old) (R.to_come first.new)
         (S.to_come second.old) (S.to_come second.new) (W.taken writer.old) (W.taken writer.new) result }
 {
-    let told = run_same_told(alloc, settings, limit, first, second, writer);
+    let form = Form::Canonical;
+    let comparison = Comparison { settings, form };
+    let told = run_same_told(alloc, comparison, limit, first, second, writer);
     told.outcome
 }
 
-/// What [`run_same_as`] does, and the bytes of the file with the fault: they are kept where that file came whole, and none are
-/// where it did not, or where neither file has a fault. Where memory was wanting they may be kept or not. Nothing is copied
-/// for that, and no memory taken.
+/// What [`run_same_as`] does, in the form of the comparison, and the bytes of the file with the fault: they are kept where that
+/// file came whole, and none are where it did not, or where neither file has a fault. Where memory was wanting they may be kept
+/// or not. Nothing is copied for that, and no memory taken.
 pub fn run_same_told<R: Source, S: Source, W: Sink>(
     alloc: Global,
-    settings: Settings,
+    comparison: Comparison,
     limit: u64,
     first: &mut R,
     second: &mut S,
@@ -102,8 +106,9 @@ pub fn run_same_told<R: Source, S: Source, W: Sink>(
         ↔ (result.outcome ≡ Outcome.Failed (Some Which.Second) Fault.ReadFailed) }
     ensures write_failed { IsTrue (W.failed writer.new)
         ↔ (result.outcome ≡ Outcome.Failed None Fault.WriteFailed) }
-    ensures bytes { IsKeptSameRun (profile_of settings) (edition_of settings) limit (R.to_come first.old) (R.to_come first.new)
-        (S.to_come second.old) (S.to_come second.new) (W.taken writer.old) (W.taken writer.new) result.outcome result.bytes.items }
+    ensures bytes { IsKeptSameRunOf (profile_of comparison.settings) (relation_of comparison.form (edition_of comparison.settings))
+        limit (R.to_come first.old) (R.to_come first.new) (S.to_come second.old) (S.to_come second.new)
+        (W.taken writer.old) (W.taken writer.new) result.outcome result.bytes.items }
 {
     let first_bytes = match read_whole(alloc, limit, first) {
         Ok(bytes) => bytes,
@@ -113,7 +118,7 @@ pub fn run_same_told<R: Source, S: Source, W: Sink>(
         Ok(bytes) => bytes,
         Err(fault) => return told_without(alloc, failed_at(Which::Second, fault)),
     };
-    let same = match same_as(alloc, settings, &first_bytes, &second_bytes) {
+    let same = match same_by(alloc, comparison, &first_bytes, &second_bytes) {
         Ok(same) => same,
         Err(at) => return told_of(at, first_bytes, second_bytes),
     };

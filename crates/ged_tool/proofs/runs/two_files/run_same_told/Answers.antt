@@ -13,8 +13,8 @@ returns-in-Err-read_whole-clause-bytes g c =
     second_stops _ _ _ _ _ _ _ _ c.in-Ok.bytes.items came _ c.in-Err-read_whole.fault _ c.in-Ok.ensures.whole.0 c.in-Ok.ensures.whole.1 gave stops
     c.told_without-in-Err-read_whole.ensures.bytes (c.told_without-in-Err-read_whole.ensures.outcome ∙ c.failed_at-in-Err-read_whole.ensures)
 
-pub returns-in-Err-same_as-clause-bytes : goal.returns-in-Err-same_as-clause-bytes
-returns-in-Err-same_as-clause-bytes g c =
-    judging_stops _ _ _ _ _ _ _ _ c.in-Ok.bytes.items c.in-Ok-read_whole.bytes.items c.deref.result.now c.deref-2.result.now _ c.in-Err-same_as.at.which c.in-Err-same_as.at.fault _
+pub returns-in-Err-same_by-clause-bytes : goal.returns-in-Err-same_by-clause-bytes
+returns-in-Err-same_by-clause-bytes g c =
+    judging_stops _ _ _ _ _ _ _ _ c.in-Ok.bytes.items c.in-Ok-read_whole.bytes.items c.deref.result.now c.deref-2.result.now _ c.in-Err-same_by.at.which c.in-Err-same_by.at.fault _
     c.in-Ok.ensures.whole.0 c.in-Ok.ensures.whole.1 c.in-Ok-read_whole.ensures.whole.0 c.in-Ok-read_whole.ensures.whole.1 c.deref.ensures.value c.deref-2.ensures.value
-    c.in-Err-same_as.ensures.refused c.told_of.ensures.bytes c.told_of.ensures.outcome
+    c.in-Err-same_by.ensures.refused c.told_of.ensures.bytes c.told_of.ensures.outcome

@@ -1,0 +1,8 @@
+use Rattle.std.proofs.Common.{rules}
+use Rattle.ged_tool.proofs.calls.same.bytes_in_form.Goals as goal
+
+pub returns-in-Canonical : goal.returns-in-Canonical
+returns-in-Canonical c = search rules
+
+pub returns-in-Tidy : goal.returns-in-Tidy
+returns-in-Tidy c = search rules
