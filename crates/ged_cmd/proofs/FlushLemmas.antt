@@ -5,8 +5,11 @@ use Rattle.std.specs.Io.KnownBytes.{Appends, Keeps}
 use Rattle.std.proofs.Math.Seq.{take-length}
 use Rattle.ged_tool.specs.declared.Profile.{Profile}
 use Rattle.ged_tool.specs.declared.Edition.{Edition}
-use Rattle.ged_tool.specs.Same.{AreCompared}
+use Rattle.ged_tool.specs.Answers.{Answers, FaultAt}
+use Rattle.ged_tool.specs.Same.{AreComparedBy, relation_of}
 use Rattle.ged_tool.specs.SameRun.{IsAllOf, same_line}
+use Rattle.ged_tool.specs.declared.comparison.Form.{Form}
+use Rattle.ged_tool.specs.declared.faults.FileFault.{FileFault}
 use Rattle.ged_tool.specs.declared.faults.Which.{Which}
 use Rattle.ged_tool.specs.declared.faults.Which.TheVariants.{First, Second}
 use Rattle.ged_tool.specs.declared.faults.Fault.{Fault}
@@ -14,7 +17,7 @@ use Rattle.ged_tool.specs.declared.faults.Fault.TheVariants.{ReadFailed, WriteFa
 use Rattle.ged_tool.specs.declared.faults.Outcome.{Outcome}
 use Rattle.ged_tool.specs.declared.faults.Outcome.TheVariants.{Done, Different, Failed}
 use Rattle.ged_tool.specs.declared.runs.answer.Command.{Command}
-use Rattle.ged_cmd.specs.Program.{Files, IsAnswered, IsCompared, IsOver, Reader, Writer, limit, reader as reader_of}
+use Rattle.ged_cmd.specs.Program.{Files, IsAnswerOf, IsCompared, IsOver, Reader, Writer, limit, reader as reader_of}
 use Rattle.ged_cmd.specs.inner.Flushes.{IsFlushed}
 
 -- what a writer took stays taken where what it holds is kept
@@ -30,13 +33,13 @@ keeps_same None after same = tt
 keeps_same (Some x) after same = subst (Keeps (Some x)) (sym same) refl
 
 -- the flush went well, or nothing was to be flushed
-kept_answered : (profile : Profile) (edition : Edition) (command : Command) (reader : Reader) (taken between holds : Option (List ℕ)) (failed_before failed : Bool)
+kept_answered : (Answer : List ℕ → List ℕ → Type 0) (Wrong : List ℕ → ℕ → FileFault → Type 0) (reader : Reader) (taken between holds : Option (List ℕ)) (failed_before failed : Bool)
     (before after : Outcome)
-    → IsAnswered profile edition command reader (record { taken = taken; holds = between; failed = failed_before }) before
+    → IsAnswerOf Answer Wrong reader (record { taken = taken; holds = between; failed = failed_before }) before
     → Keeps between holds → failed ≡ failed_before → after ≡ before
-    → IsAnswered profile edition command reader (record { taken = taken; holds = holds; failed = failed }) after
-kept_answered profile edition command reader taken between holds failed_before failed before after answered keeps stays same =
-    subst (IsAnswered profile edition command reader (record { taken = taken; holds = holds; failed = failed })) (sym same) (record {
+    → IsAnswerOf Answer Wrong reader (record { taken = taken; holds = holds; failed = failed }) after
+kept_answered Answer Wrong reader taken between holds failed_before failed before after answered keeps stays same =
+    subst (IsAnswerOf Answer Wrong reader (record { taken = taken; holds = holds; failed = failed })) (sym same) (record {
       bytes = record {
         came = answered.bytes.came;
         written = answered.bytes.written;
@@ -49,15 +52,15 @@ kept_answered profile edition command reader taken between holds failed_before f
     })
 
 -- the flush failed: what was written is the whole answer
-unflushed_answered : (profile : Profile) (edition : Edition) (command : Command) (reader : Reader) (taken between holds : Option (List ℕ)) (failed_before failed : Bool)
+unflushed_answered : (Answer : List ℕ → List ℕ → Type 0) (Wrong : List ℕ → ℕ → FileFault → Type 0) (reader : Reader) (taken between holds : Option (List ℕ)) (failed_before failed : Bool)
     (after : Outcome)
-    → IsAnswered profile edition command reader (record { taken = taken; holds = between; failed = failed_before }) Done
+    → IsAnswerOf Answer Wrong reader (record { taken = taken; holds = between; failed = failed_before }) Done
     → Keeps between holds → failed ≡ true → after ≡ Failed None WriteFailed
-    → IsAnswered profile edition command reader (record { taken = taken; holds = holds; failed = failed }) after
-unflushed_answered profile edition command reader taken between holds failed_before failed after answered keeps fails gave =
+    → IsAnswerOf Answer Wrong reader (record { taken = taken; holds = holds; failed = failed }) after
+unflushed_answered Answer Wrong reader taken between holds failed_before failed after answered keeps fails gave =
     let (whole, answers) = answered.bytes.means in
     let written = answered.bytes.written in
-    subst (IsAnswered profile edition command reader (record { taken = taken; holds = holds; failed = failed })) (sym gave) (record {
+    subst (IsAnswerOf Answer Wrong reader (record { taken = taken; holds = holds; failed = failed })) (sym gave) (record {
       bytes = record {
         came = answered.bytes.came;
         written = written;
@@ -73,18 +76,18 @@ unflushed_answered profile edition command reader taken between holds failed_bef
     not_done e = cc
 
 -- one file answered, once the answer is flushed
-pub flushed_answered : (profile : Profile) (edition : Edition) (command : Command) (reader : Reader) (taken between holds : Option (List ℕ)) (failed_before failed : Bool)
+pub flushed_answered : (Answer : List ℕ → List ℕ → Type 0) (Wrong : List ℕ → ℕ → FileFault → Type 0) (reader : Reader) (taken between holds : Option (List ℕ)) (failed_before failed : Bool)
     (before after : Outcome)
-    → IsAnswered profile edition command reader (record { taken = taken; holds = between; failed = failed_before }) before
+    → IsAnswerOf Answer Wrong reader (record { taken = taken; holds = between; failed = failed_before }) before
     → IsFlushed (record { taken = between; holds = holds; failed = failed }) failed_before before after
-    → IsAnswered profile edition command reader (record { taken = taken; holds = holds; failed = failed }) after
-flushed_answered profile edition command reader taken between holds failed_before failed Done after answered (inl (same, (keeps, stays))) =
-    kept_answered profile edition command reader taken between holds failed_before failed Done after answered keeps stays same
-flushed_answered profile edition command reader taken between holds failed_before failed Done after answered (inr (gave, (keeps, fails))) =
-    unflushed_answered profile edition command reader taken between holds failed_before failed after answered keeps fails gave
-flushed_answered profile edition command reader taken between holds failed_before failed Different after answered flushed = absurd answered.bytes.means
-flushed_answered profile edition command reader taken between holds failed_before failed (Failed which fault) after answered (same, kept, stays) =
-    kept_answered profile edition command reader taken between holds failed_before failed (Failed which fault) after answered
+    → IsAnswerOf Answer Wrong reader (record { taken = taken; holds = holds; failed = failed }) after
+flushed_answered Answer Wrong reader taken between holds failed_before failed Done after answered (inl (same, (keeps, stays))) =
+    kept_answered Answer Wrong reader taken between holds failed_before failed Done after answered keeps stays same
+flushed_answered Answer Wrong reader taken between holds failed_before failed Done after answered (inr (gave, (keeps, fails))) =
+    unflushed_answered Answer Wrong reader taken between holds failed_before failed after answered keeps fails gave
+flushed_answered Answer Wrong reader taken between holds failed_before failed Different after answered flushed = absurd answered.bytes.means
+flushed_answered Answer Wrong reader taken between holds failed_before failed (Failed which fault) after answered (same, kept, stays) =
+    kept_answered Answer Wrong reader taken between holds failed_before failed (Failed which fault) after answered
     (keeps_same between holds kept) stays same
 
 -- an outcome that is a fault stays, and so does the writer
@@ -102,7 +105,7 @@ module _ {D T : Type 0} where
       → IsFlushed (record { taken = between; holds = holds; failed = failed }) failed_before before after
       → IsOver files to_come read_failed profile edition command file input (record { taken = taken; holds = holds; failed = failed }) after
   flushed_over files to_come read_failed profile edition command None input taken between holds failed_before failed before after over flushed =
-      flushed_answered profile edition command input taken between holds failed_before failed before after over flushed
+      flushed_answered (Answers profile edition command) (FaultAt profile command) input taken between holds failed_before failed before after over flushed
   flushed_over files to_come read_failed profile edition command (Some name) input taken between holds failed_before failed before after
       (unread, inl (refuses, (kept, none), gave)) flushed =
       let (same, holds_same, stays) = stays_failed (record { taken = between; holds = holds; failed = failed }) failed_before before after
@@ -115,19 +118,19 @@ module _ {D T : Type 0} where
           device,
           left,
           opens,
-          flushed_answered profile edition command (reader_of to_come read_failed device left) taken between holds failed_before failed before after
+          flushed_answered (Answers profile edition command) (FaultAt profile command) (reader_of to_come read_failed device left) taken between holds failed_before failed before after
               answered flushed,
         ),
       )
 
 -- the same of two files
-kept_compared : (profile : Profile) (edition : Edition) (first second : Reader) (taken between holds : Option (List ℕ)) (failed_before failed : Bool)
+kept_compared : (form : Form) (profile : Profile) (edition : Edition) (first second : Reader) (taken between holds : Option (List ℕ)) (failed_before failed : Bool)
     (before after : Outcome)
-    → IsCompared profile edition first second (record { taken = taken; holds = between; failed = failed_before }) before
+    → IsCompared form profile edition first second (record { taken = taken; holds = between; failed = failed_before }) before
     → Keeps between holds → failed ≡ failed_before → after ≡ before
-    → IsCompared profile edition first second (record { taken = taken; holds = holds; failed = failed }) after
-kept_compared profile edition first second taken between holds failed_before failed before after compared keeps stays same =
-    subst (IsCompared profile edition first second (record { taken = taken; holds = holds; failed = failed })) (sym same) (record {
+    → IsCompared form profile edition first second (record { taken = taken; holds = holds; failed = failed }) after
+kept_compared form profile edition first second taken between holds failed_before failed before after compared keeps stays same =
+    subst (IsCompared form profile edition first second (record { taken = taken; holds = holds; failed = failed })) (sym same) (record {
       bytes = record {
         first = compared.bytes.first;
         second = compared.bytes.second;
@@ -143,16 +146,16 @@ kept_compared profile edition first second taken between holds failed_before fai
     })
 
 -- the flush failed: what was written is the whole line
-unflushed_compared : (profile : Profile) (edition : Edition) (first second : Reader) (taken between holds : Option (List ℕ)) (failed_before failed : Bool)
+unflushed_compared : (form : Form) (profile : Profile) (edition : Edition) (first second : Reader) (taken between holds : Option (List ℕ)) (failed_before failed : Bool)
     (before after : Outcome) (same : Bool)
-    → (compared : IsCompared profile edition first second (record { taken = taken; holds = between; failed = failed_before }) before)
+    → (compared : IsCompared form profile edition first second (record { taken = taken; holds = between; failed = failed_before }) before)
     → IsAllOf limit (record { bytes = compared.bytes.first; left = first.left }) × IsAllOf limit (record { bytes = compared.bytes.second; left = second.left })
-    × AreCompared profile edition compared.bytes.first compared.bytes.second same × (compared.bytes.written ≡ same_line same)
+    × AreComparedBy profile (relation_of form edition) compared.bytes.first compared.bytes.second same × (compared.bytes.written ≡ same_line same)
     → ((which : Which) → before ≡ Failed (Some which) ReadFailed → ⊥)
     → Keeps between holds → failed ≡ true → after ≡ Failed None WriteFailed
-    → IsCompared profile edition first second (record { taken = taken; holds = holds; failed = failed }) after
-unflushed_compared profile edition first second taken between holds failed_before failed before after same compared (whole, other_whole, are, line) no_read keeps fails gave =
-    subst (IsCompared profile edition first second (record { taken = taken; holds = holds; failed = failed })) (sym gave) (record {
+    → IsCompared form profile edition first second (record { taken = taken; holds = holds; failed = failed }) after
+unflushed_compared form profile edition first second taken between holds failed_before failed before after same compared (whole, other_whole, are, line) no_read keeps fails gave =
+    subst (IsCompared form profile edition first second (record { taken = taken; holds = holds; failed = failed })) (sym gave) (record {
       bytes = record {
         first = compared.bytes.first;
         second = compared.bytes.second;
@@ -168,21 +171,21 @@ unflushed_compared profile edition first second taken between holds failed_befor
     })
 
 -- two files compared, once the line is flushed
-pub flushed_compared : (profile : Profile) (edition : Edition) (first second : Reader) (taken between holds : Option (List ℕ)) (failed_before failed : Bool)
+pub flushed_compared : (form : Form) (profile : Profile) (edition : Edition) (first second : Reader) (taken between holds : Option (List ℕ)) (failed_before failed : Bool)
     (before after : Outcome)
-    → IsCompared profile edition first second (record { taken = taken; holds = between; failed = failed_before }) before
+    → IsCompared form profile edition first second (record { taken = taken; holds = between; failed = failed_before }) before
     → IsFlushed (record { taken = between; holds = holds; failed = failed }) failed_before before after
-    → IsCompared profile edition first second (record { taken = taken; holds = holds; failed = failed }) after
-flushed_compared profile edition first second taken between holds failed_before failed Done after compared (inl (same, (keeps, stays))) =
-    kept_compared profile edition first second taken between holds failed_before failed Done after compared keeps stays same
-flushed_compared profile edition first second taken between holds failed_before failed Done after compared (inr (gave, (keeps, fails))) =
-    unflushed_compared profile edition first second taken between holds failed_before failed Done after true compared compared.bytes.means
+    → IsCompared form profile edition first second (record { taken = taken; holds = holds; failed = failed }) after
+flushed_compared form profile edition first second taken between holds failed_before failed Done after compared (inl (same, (keeps, stays))) =
+    kept_compared form profile edition first second taken between holds failed_before failed Done after compared keeps stays same
+flushed_compared form profile edition first second taken between holds failed_before failed Done after compared (inr (gave, (keeps, fails))) =
+    unflushed_compared form profile edition first second taken between holds failed_before failed Done after true compared compared.bytes.means
     (λ which e. cc) keeps fails gave
-flushed_compared profile edition first second taken between holds failed_before failed Different after compared (inl (same, (keeps, stays))) =
-    kept_compared profile edition first second taken between holds failed_before failed Different after compared keeps stays same
-flushed_compared profile edition first second taken between holds failed_before failed Different after compared (inr (gave, (keeps, fails))) =
-    unflushed_compared profile edition first second taken between holds failed_before failed Different after false compared compared.bytes.means
+flushed_compared form profile edition first second taken between holds failed_before failed Different after compared (inl (same, (keeps, stays))) =
+    kept_compared form profile edition first second taken between holds failed_before failed Different after compared keeps stays same
+flushed_compared form profile edition first second taken between holds failed_before failed Different after compared (inr (gave, (keeps, fails))) =
+    unflushed_compared form profile edition first second taken between holds failed_before failed Different after false compared compared.bytes.means
     (λ which e. cc) keeps fails gave
-flushed_compared profile edition first second taken between holds failed_before failed (Failed which fault) after compared (same, kept, stays) =
-    kept_compared profile edition first second taken between holds failed_before failed (Failed which fault) after compared
+flushed_compared form profile edition first second taken between holds failed_before failed (Failed which fault) after compared (same, kept, stays) =
+    kept_compared form profile edition first second taken between holds failed_before failed (Failed which fault) after compared
     (keeps_same between holds kept) stays same

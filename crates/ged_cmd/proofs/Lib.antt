@@ -1,2 +1,3 @@
 pub mod ClapLemmas
+pub mod DigestLemmas
 pub mod FlushLemmas

@@ -2,7 +2,7 @@
 use Rattle.std.specs.Prelude.{Some, true, codes}
 use Rattle.clap.specs.Words.{App, Rule, Text, new_app, new_rule, with_rule, with_subcommand}
 use Rattle.clap.specs.Simple.{on_top}
-use Rattle.clap.specs.declared.builder.action.ArgAction.TheVariants.{SetTrue}
+use Rattle.clap.specs.declared.builder.action.ArgAction.TheVariants.{Append, SetTrue}
 
 -- a flag `--name`
 abbrev pub flag : Text → Rule
@@ -16,6 +16,9 @@ second_flag = flag (codes "second")
 
 abbrev pub explain_flag : Rule
 explain_flag = flag (codes "explain")
+
+abbrev pub keep_names_flag : Rule
+keep_names_flag = flag (codes "keep-names")
 
 -- `-o FILE` or `--output FILE`: 111 is the character o
 abbrev pub output_option : Rule
@@ -36,7 +39,8 @@ show = with_rule (with_rule (with_rule (over_file (codes "show")) strict_flag) o
 
 abbrev pub canon : App
 canon =
-    with_rule (with_rule (with_rule (with_rule (over_file (codes "canon")) strict_flag) second_flag) output_option) explain_flag
+    with_rule (with_rule (with_rule (with_rule (with_rule (over_file (codes "canon")) strict_flag) second_flag) keep_names_flag) output_option)
+    explain_flag
 
 -- the first of two files, which may not be left out
 abbrev pub first_file : Rule
@@ -47,7 +51,7 @@ abbrev pub over_two_files : App
 over_two_files = with_rule (with_rule (new_app (codes "same")) first_file) (new_rule (codes "B"))
 
 abbrev pub same : App
-same = with_rule (with_rule (with_rule over_two_files strict_flag) second_flag) explain_flag
+same = with_rule (with_rule (with_rule (with_rule over_two_files strict_flag) second_flag) keep_names_flag) explain_flag
 
 -- the program without its commands, of which it needs one; it has a version, and so a flag that asks for it
 abbrev pub bare_program : App
@@ -57,7 +61,17 @@ bare_program = on_top (λ top. record top { subcommand_required = true; has_vers
 abbrev pub explain : App
 explain = with_rule (new_app (codes "explain")) (new_rule (codes "FAULT"))
 
--- one of these six commands
+-- files, of which there is one at least
+abbrev pub files : Rule
+files = record (new_rule (codes "FILE")) { required = true; action = Some Append }
+
+abbrev pub over_files : App
+over_files = with_rule (new_app (codes "digest")) files
+
+abbrev pub digest : App
+digest = with_rule (with_rule (with_rule over_files strict_flag) second_flag) explain_flag
+
+-- one of these seven commands
 abbrev pub gedtool : App
-gedtool = with_subcommand (with_subcommand (with_subcommand (with_subcommand (with_subcommand (with_subcommand bare_program
-    lines.top) check.top) show.top) canon.top) same.top) explain.top
+gedtool = with_subcommand (with_subcommand (with_subcommand (with_subcommand (with_subcommand (with_subcommand (with_subcommand bare_program
+    lines.top) check.top) show.top) canon.top) same.top) explain.top) digest.top

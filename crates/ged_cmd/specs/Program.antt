@@ -1,15 +1,21 @@
 -- What the program does, for the words, the files and the streams that it has.
-use Rattle.std.specs.Prelude.{◌≡◌, ◌≢◌, ◌↔◌, ◌⊎◌, ℕ, List, [], Bool, false, ⊤, IsTrue, Option, Some, None, if◌then◌else◌}
+use Rattle.std.specs.Prelude.{◌≡◌, ◌≢◌, ◌↔◌, ◌⊎◌, ℕ, nat_lt, List, [], ◌∷◌, ◌++◌, Bool, true, false, ⊤, IsTrue, Option, Some, None, if◌then◌else◌}
 use Rattle.clap.specs.Words.{Text, fault_of}
 use Rattle.clap.specs.Kinds.{IsAmong}
 use Rattle.clap.specs.declared.error.kind.ErrorKind.{ErrorKind}
 use Rattle.clap.specs.declared.error.kind.ErrorKind.TheVariants.{DisplayHelp, DisplayVersion, OutOfMemory}
 use Rattle.ged_tool.specs.declared.Profile.{Profile}
 use Rattle.ged_tool.specs.declared.Edition.{Edition}
-use Rattle.ged_tool.specs.Run.{IsRun}
-use Rattle.ged_tool.specs.SameRun.{IsSameRun}
+use Rattle.ged_tool.specs.Accepted.{FileFaultAt}
+use Rattle.ged_tool.specs.Answers.{Answers, FaultAt}
+use Rattle.ged_tool.specs.DigestRun.{TellsDigest}
+use Rattle.ged_tool.specs.Run.{IsRunOf}
+use Rattle.ged_tool.specs.Same.{relation_of}
+use Rattle.ged_tool.specs.SameRun.{IsSameRunOf}
+use Rattle.ged_tool.specs.declared.comparison.Form.{Form}
 use Rattle.ged_tool.specs.Faults.{status_of}
 use Rattle.ged_tool.specs.declared.runs.answer.Command.{Command}
+use Rattle.ged_tool.specs.declared.faults.FileFault.{FileFault}
 use Rattle.ged_tool.specs.declared.faults.Which.{Which}
 use Rattle.ged_tool.specs.declared.faults.Which.TheVariants.{First, Second}
 use Rattle.ged_tool.specs.declared.faults.Fault.{Fault}
@@ -19,7 +25,7 @@ use Rattle.ged_tool.specs.declared.faults.Outcome.TheVariants.{Done, Failed}
 use Rattle.ged_cmd.specs.declared.drafts.Fate.{Fate}
 use Rattle.ged_cmd.specs.declared.drafts.Fate.TheVariants.{Placed, Dropped}
 use Rattle.ged_cmd.specs.CommandLine.{gedtool}
-use Rattle.ged_cmd.specs.Tasks.{Task, asked, explain, input_same, run, same}
+use Rattle.ged_cmd.specs.Tasks.{Task, asked, digest, explain, input_same, is_input, run, same}
 
 -- the most bytes that a file may have
 abbrev pub limit : ℕ
@@ -52,16 +58,25 @@ IsUnread reader = (reader.left ≡ reader.to_come) × (reader.failed ≡ false)
 abbrev pub IsUnwritten : Writer → Type 0
 IsUnwritten writer = (writer.holds ≡ writer.taken) × (writer.failed ≡ false)
 
--- A command over one input, its answer written and flushed. The reader has failed exactly where the outcome says so, and
--- so has the writer, by a write or by the flush.
-pub record IsAnswered (profile : Profile) (edition : Edition) (command : Command) (reader : Reader) (writer : Writer) (outcome : Outcome) : Type 0 where
-  pub bytes : IsRun profile edition command limit reader.to_come reader.left writer.taken writer.holds outcome
+-- A run over one input, its answer written and flushed: `Answer` says which text answers the bytes that came, and `Wrong` which
+-- fault they have at which line. The reader has failed exactly where the outcome says so, and so has the writer, by a write
+-- or by the flush.
+pub record IsAnswerOf (Answer : List ℕ → List ℕ → Type 0) (Wrong : List ℕ → ℕ → FileFault → Type 0) (reader : Reader) (writer : Writer) (outcome : Outcome) : Type 0 where
+  pub bytes : IsRunOf Answer Wrong limit reader.to_come reader.left writer.taken writer.holds outcome
   pub read_failed : IsTrue reader.failed ↔ (outcome ≡ Failed None ReadFailed)
   pub write_failed : IsTrue writer.failed ↔ (outcome ≡ Failed None WriteFailed)
 
--- two files compared, in the same way
-pub record IsCompared (profile : Profile) (edition : Edition) (first second : Reader) (writer : Writer) (outcome : Outcome) : Type 0 where
-  pub bytes : IsSameRun profile edition limit first.to_come first.left second.to_come second.left writer.taken writer.holds outcome
+-- the run of a command
+abbrev pub IsAnswered : Profile → Edition → Command → Reader → Writer → Outcome → Type 0
+IsAnswered profile edition command = IsAnswerOf (Answers profile edition command) (FaultAt profile command)
+
+-- and one that tells the digest of a file of this name
+abbrev pub IsDigested : Profile → Edition → (name : Text) → Reader → Writer → Outcome → Type 0
+IsDigested profile edition name = IsAnswerOf (TellsDigest profile edition name) (FileFaultAt profile)
+
+-- two files compared in a form, in the same way
+pub record IsCompared (form : Form) (profile : Profile) (edition : Edition) (first second : Reader) (writer : Writer) (outcome : Outcome) : Type 0 where
+  pub bytes : IsSameRunOf profile (relation_of form edition) limit first.to_come first.left second.to_come second.left writer.taken writer.holds outcome
   pub first_failed : IsTrue first.failed ↔ (outcome ≡ Failed (Some First) ReadFailed)
   pub second_failed : IsTrue second.failed ↔ (outcome ≡ Failed (Some Second) ReadFailed)
   pub write_failed : IsTrue writer.failed ↔ (outcome ≡ Failed None WriteFailed)
@@ -109,6 +124,44 @@ abbrev pub fate_of : Outcome → Fate
 fate_of Done = Placed
 fate_of outcome = Dropped
 
+-- the graver of two outcomes, by their statuses; the later one where these are the same
+abbrev pub graver : (before later : Outcome) → Outcome
+graver before later = if nat_lt (status_of later) (status_of before) then before else later
+
+-- a reader goes on from where it was left, and what was done with it in all
+abbrev pub IsReadOn : (before next : Reader) → Type 0
+IsReadOn before next = (before.failed ≡ false) × (next.to_come ≡ before.left)
+
+abbrev pub read_in_all : (before next : Reader) → Reader
+read_in_all before next = record { to_come = before.to_come; left = next.left; failed = next.failed }
+
+-- the same of a writer
+abbrev pub IsWrittenOn : (before next : Writer) → Type 0
+IsWrittenOn before next = (before.failed ≡ false) × (next.taken ≡ before.holds)
+
+abbrev pub written_in_all : (before next : Writer) → Writer
+written_in_all before next = record { taken = before.taken; holds = next.holds; failed = next.failed }
+
+-- Digests are told of files, one after the other: at first nothing is read or written; each file that has a name is opened
+-- and its digest told, or it can't be opened; and one whose name stands for standard input is read from there. Once the
+-- output has failed nothing more is done. The outcome is the gravest of all.
+pub data AreDigested {D T : Type 0} (files : Files D T) (to_come : D → Option (List ℕ)) (failed : D → Bool) (profile : Profile) (edition : Edition) : List Text → (input : Reader) → Writer → Outcome → Type 0 where
+  at_first : {input : Reader} {writer : Writer} → IsUnread input → IsUnwritten writer
+      → AreDigested files to_come failed profile edition [] input writer Done
+  and_file : {names : List Text} {input : Reader} {writer : Writer} {before : Outcome} (name : Text) (next : Writer) (outcome : Outcome)
+      → AreDigested files to_come failed profile edition names input writer before
+      → IsWrittenOn writer next → is_input name ≡ false
+      → IsNotOpened (files.refuses name) None next outcome
+      ⊎ SomeFile (files.opens name) to_come failed (λ file. IsDigested profile edition name file next outcome)
+      → AreDigested files to_come failed profile edition (names ++ name ∷ []) input (written_in_all writer next) (graver before outcome)
+  and_input : {names : List Text} {input : Reader} {writer : Writer} {before : Outcome} (name : Text) (reader : Reader) (next : Writer) (outcome : Outcome)
+      → AreDigested files to_come failed profile edition names input writer before
+      → IsWrittenOn writer next → is_input name ≡ true → IsReadOn input reader → IsDigested profile edition name reader next outcome
+      → AreDigested files to_come failed profile edition (names ++ name ∷ []) (read_in_all input reader) (written_in_all writer next) (graver before outcome)
+  and_nothing : {names : List Text} {input : Reader} {writer : Writer} {before : Outcome} (name : Text)
+      → AreDigested files to_come failed profile edition names input writer before → IsTrue writer.failed
+      → AreDigested files to_come failed profile edition (names ++ name ∷ []) input writer before
+
 module _ {D T : Type 0} where
   -- a command over the file of a name, or over standard input where none is named
   abbrev pub IsOver : Files D T → (to_come : D → Option (List ℕ)) → (failed : D → Bool) → Profile → Edition → Command
@@ -136,18 +189,20 @@ module _ {D T : Type 0} where
       IsUnwritten output × (IsWithheld (files.withholds name) input outcome
       ⊎ IsPut files taken write_failed name (λ writer. IsOver files to_come failed profile edition command file input writer outcome)
       outcome)
-  IsDone files to_come failed taken write_failed (same profile edition first None) input output outcome =
+  IsDone files to_come failed taken write_failed (same form profile edition first None) input output outcome =
       (IsUnread input × IsNotOpened (files.refuses first) (Some First) output outcome)
-      ⊎ SomeFile (files.opens first) to_come failed (λ file. IsCompared profile edition file input output outcome)
-  IsDone files to_come failed taken write_failed (same profile edition first (Some second)) input output outcome =
+      ⊎ SomeFile (files.opens first) to_come failed (λ file. IsCompared form profile edition file input output outcome)
+  IsDone files to_come failed taken write_failed (same form profile edition first (Some second)) input output outcome =
       IsUnread input × (IsNotOpened (files.refuses first) (Some First) output outcome
       ⊎ ((device : D) × files.opens first device × IsNotOpened (files.refuses second) (Some Second) output outcome)
       ⊎ SomeFile (files.opens first) to_come failed (λ file. SomeFile (files.opens second) to_come failed (λ other.
-      IsCompared profile edition file other output outcome)))
-  IsDone files to_come failed taken write_failed (input_same profile edition second) input output outcome =
+      IsCompared form profile edition file other output outcome)))
+  IsDone files to_come failed taken write_failed (input_same form profile edition second) input output outcome =
       (IsUnread input × IsNotOpened (files.refuses second) (Some Second) output outcome)
-      ⊎ SomeFile (files.opens second) to_come failed (λ file. IsCompared profile edition input file output outcome)
+      ⊎ SomeFile (files.opens second) to_come failed (λ file. IsCompared form profile edition input file output outcome)
   IsDone files to_come failed taken write_failed (explain named) input output outcome = IsExplained input output outcome
+  IsDone files to_come failed taken write_failed (digest profile edition names) input output outcome =
+      AreDigested files to_come failed profile edition names input output outcome
 
 -- The status for words that clap refuses: 3 for want of memory, and for help or the version that can't be written, which
 -- else is 0; 2 for a mistake.

@@ -1,3 +1,4 @@
 pub mod CommandLine
 pub mod Flushes
+pub mod Obeying
 pub mod Tasks

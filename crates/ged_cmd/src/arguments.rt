@@ -12,6 +12,9 @@ pub(crate) const STRICT: &str = "strict";
 /// The flag for the second edition of the canonical form.
 pub(crate) const SECOND: &str = "second";
 
+/// The flag for the form that keeps the names of identifiers.
+pub(crate) const KEEP_NAMES: &str = "keep-names";
+
 /// The option that names the file that an answer goes into.
 pub(crate) const OUTPUT: &str = "output";
 
@@ -36,6 +39,16 @@ pub(crate) fn second_flag<'a>(alloc: Global) -> Arg<'a>
         .long(SECOND)
         .action(ArgAction::SetTrue)
         .help("Leaves out the leading zeros of dates, ages and counts")
+}
+
+/// The flag for the form that keeps the names of identifiers.
+pub(crate) fn keep_names_flag<'a>(alloc: Global) -> Arg<'a>
+    ensures { IsArg line.keep_names_flag result }
+{
+    Arg::new(alloc, KEEP_NAMES)
+        .long(KEEP_NAMES)
+        .action(ArgAction::SetTrue)
+        .help("Leaves identifiers as they are")
 }
 
 /// The option that names the file that the answer goes into.

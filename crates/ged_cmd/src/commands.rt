@@ -10,14 +10,14 @@ use crate::meanings::tell_meanings;
 use crate::shelf::Shelf;
 use crate::words::Request;
 use ged_tool::{
-    Command, Failed, Fault, Outcome, Output, Settings, Sink, Source, Told, Which, run_same_told,
-    run_told,
+    Command, Comparison, Failed, Fault, Outcome, Output, Settings, Sink, Source, Told, Which,
+    run_same_told, run_told,
 };
 use std::alloc::Global;
 use std::io::Write;
 
 /// The most bytes that are read of one input.
-const LIMIT: u64 = 1_073_741_824;
+pub(crate) const LIMIT: u64 = 1_073_741_824;
 
 /// The outcome of a fault that names no file.
 pub(crate) fn failed(fault: Fault) -> Outcome
@@ -27,7 +27,7 @@ pub(crate) fn failed(fault: Fault) -> Outcome
 }
 
 /// What is told where a file can't be opened.
-fn not_opened(alloc: Global, which: Option<Which>) -> Told
+pub(crate) fn not_opened(alloc: Global, which: Option<Which>) -> Told
     ensures { result.outcome ≡ Outcome.Failed which Fault.ReadFailed }
 {
     Told {
@@ -77,12 +77,12 @@ pub(crate) fn answer_request<S: Shelf, R: Source, W: Write>(
             into: Some(name),
         } => answer_into(alloc, shelf, settings, command, file, name, input),
         Request::Same {
-            settings,
+            comparison,
             first,
             second,
-        } => compare_files(alloc, shelf, settings, first, second, input, output),
-        Request::SameInput { settings, second } => {
-            compare_input(alloc, shelf, settings, second, input, output)
+        } => compare_files(alloc, shelf, comparison, first, second, input, output),
+        Request::SameInput { comparison, second } => {
+            compare_input(alloc, shelf, comparison, second, input, output)
         }
         Request::Explain { meaning } => Told {
             outcome: tell_meanings(meaning, output),
@@ -177,7 +177,7 @@ fn answer_file<S: Shelf, R: Source, W: Sink>(
 fn compare_files<S: Shelf, R: Source, W: Write>(
     alloc: Global,
     shelf: &S,
-    settings: Settings,
+    comparison: Comparison,
     first: &str,
     second: Option<&str>,
     input: &mut R,
@@ -186,7 +186,7 @@ fn compare_files<S: Shelf, R: Source, W: Write>(
     requires unread { R.reads input.old ≡ 0 }
     requires no_failure { (R.failed input.old ≡ false) × (⟦<Output<W> as Sink>⟧.failed output.old ≡ false) }
     ensures { IsDone (S.files shelf.now) S.Device.to_come S.Device.failed S.Draft.taken S.Draft.failed
-        (same_task (profile_of settings) (edition_of settings) first.now (option_map (λ name. name.now) second.entry))
+        (same_task comparison.form (profile_of comparison.settings) (edition_of comparison.settings) first.now (option_map (λ name. name.now) second.entry))
         (reader_of R.to_come R.failed input.old input.new)
         (writer_of ⟦<Output<W> as Sink>⟧.taken ⟦<Output<W> as Sink>⟧.failed output.old output.new) result.outcome }
 {
@@ -195,9 +195,9 @@ fn compare_files<S: Shelf, R: Source, W: Write>(
         Err(_) => return not_opened(alloc, Some(Which::First)),
     };
     match second {
-        None => compare(alloc, settings, &mut first, input, output),
+        None => compare(alloc, comparison, &mut first, input, output),
         Some(name) => match shelf.open(name) {
-            Ok(mut second) => compare(alloc, settings, &mut first, &mut second, output),
+            Ok(mut second) => compare(alloc, comparison, &mut first, &mut second, output),
             Err(_) => not_opened(alloc, Some(Which::Second)),
         },
     }
@@ -208,7 +208,7 @@ fn compare_files<S: Shelf, R: Source, W: Write>(
 fn compare_input<S: Shelf, R: Source, W: Write>(
     alloc: Global,
     shelf: &S,
-    settings: Settings,
+    comparison: Comparison,
     second: &str,
     input: &mut R,
     output: &mut Output<W>,
@@ -216,12 +216,12 @@ fn compare_input<S: Shelf, R: Source, W: Write>(
     requires unread { R.reads input.old ≡ 0 }
     requires no_failure { (R.failed input.old ≡ false) × (⟦<Output<W> as Sink>⟧.failed output.old ≡ false) }
     ensures { IsDone (S.files shelf.now) S.Device.to_come S.Device.failed S.Draft.taken S.Draft.failed
-        (input_same_task (profile_of settings) (edition_of settings) second.now)
+        (input_same_task comparison.form (profile_of comparison.settings) (edition_of comparison.settings) second.now)
         (reader_of R.to_come R.failed input.old input.new)
         (writer_of ⟦<Output<W> as Sink>⟧.taken ⟦<Output<W> as Sink>⟧.failed output.old output.new) result.outcome }
 {
     match shelf.open(second) {
-        Ok(mut second) => compare(alloc, settings, input, &mut second, output),
+        Ok(mut second) => compare(alloc, comparison, input, &mut second, output),
         Err(_) => not_opened(alloc, Some(Which::Second)),
     }
 }
@@ -245,7 +245,7 @@ fn answer<R: Source, W: Sink>(
 /// Compares what two readers give, and flushes the answer.
 fn compare<R: Source, S: Source, W: Write>(
     alloc: Global,
-    settings: Settings,
+    comparison: Comparison,
     first: &mut R,
     second: &mut S,
     output: &mut Output<W>,
@@ -253,11 +253,11 @@ fn compare<R: Source, S: Source, W: Write>(
     requires unread { (R.reads first.old ≡ 0) × (S.reads second.old ≡ 0) }
     requires no_failure { (R.failed first.old ≡ false) × (S.failed second.old ≡ false)
         × (⟦<Output<W> as Sink>⟧.failed output.old ≡ false) }
-    ensures { IsCompared (profile_of settings) (edition_of settings)
+    ensures { IsCompared comparison.form (profile_of comparison.settings) (edition_of comparison.settings)
         (reader_of R.to_come R.failed first.old first.new) (reader_of S.to_come S.failed second.old second.new)
         (writer_of ⟦<Output<W> as Sink>⟧.taken ⟦<Output<W> as Sink>⟧.failed output.old output.new) result.outcome }
 {
-    let told = run_same_told(alloc, settings, LIMIT, first, second, output);
+    let told = run_same_told(alloc, comparison, LIMIT, first, second, output);
     Told {
         outcome: flushed(told.outcome, output),
         bytes: told.bytes,
@@ -266,7 +266,7 @@ fn compare<R: Source, S: Source, W: Write>(
 
 /// The outcome once the answer is flushed: WriteFailed where it can't be. An outcome without an
 /// answer stays, and nothing is flushed.
-fn flushed<W: Write>(outcome: Outcome, output: &mut Output<W>) -> Outcome
+pub(crate) fn flushed<W: Write>(outcome: Outcome, output: &mut Output<W>) -> Outcome
     ensures { IsFlushed (writer_of ⟦<Output<W> as Sink>⟧.taken ⟦<Output<W> as Sink>⟧.failed output.old output.new)
         (⟦<Output<W> as Sink>⟧.failed output.old) outcome result }
 {

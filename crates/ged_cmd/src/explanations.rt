@@ -74,7 +74,7 @@ fn file_of<'a>(request: Request<'a>, which: Option<Which>) -> Option<&'a str> {
             into: _,
         } => file,
         Request::Same {
-            settings: _,
+            comparison: _,
             first,
             second,
         } => match which {
@@ -82,7 +82,7 @@ fn file_of<'a>(request: Request<'a>, which: Option<Which>) -> Option<&'a str> {
             _ => Some(first),
         },
         Request::SameInput {
-            settings: _,
+            comparison: _,
             second,
         } => match which {
             Some(Which::Second) => Some(second),
@@ -125,7 +125,7 @@ fn explain_notices<E: Write>(
 }
 
 /// Writes a text, if there is one. One that can't be written changes no status.
-fn write_text<E: Write>(text: Result<String, AllocError>, errors: &mut E) {
+pub(crate) fn write_text<E: Write>(text: Result<String, AllocError>, errors: &mut E) {
     if let Ok(text) = text {
         let _ = errors.write_all(text.as_bytes());
     }

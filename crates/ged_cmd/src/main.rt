@@ -2,30 +2,40 @@
 //! line on standard error.
 #![tactic(auto)]
 
-ghost use Rattle.std.specs.Prelude.{◌≡◌, ◌≤◌, false, IfOk, IsErr, map, string_bytes};
+ghost use Rattle.std.specs.Prelude.{◌≡◌, ◌≤◌, List, codes, false, IfOk, IfSome, IsErr, MatchOption, map, option_and_then, option_map, string_bytes};
+ghost use Rattle.std.specs.Option.{option_map_or};
 ghost use Rattle.std.specs.Io.KnownBytes.{Keeps};
-ghost use Rattle.ged_cmd.specs.Tasks.{explains};
-ghost use Rattle.ged_cmd.specs.Program.{IsUnread, Performs, reader as reader_of, writer as writer_of};
+ghost use Rattle.clap.specs.Words.{Row, Text, subcommand_rows_of};
+ghost use Rattle.ged_cmd.specs.Tasks.{explains, is_set, task_of_match};
+ghost use Rattle.ged_tool.specs.Faults.{status_of};
+ghost use Rattle.ged_cmd.specs.inner.Obeying.{IsMistaken};
+ghost use Rattle.ged_cmd.specs.inner.Tasks.{IsReadOnce, wanted_task};
+ghost use Rattle.ged_cmd.specs.Program.{IsDone, IsUnread, Performs, reader as reader_of, writer as writer_of};
 
 mod arguments;
 mod commands;
+mod digest_words;
+mod digests;
 mod drafts;
 mod explanations;
 mod meanings;
 mod shelf;
 mod tells;
+mod wanted;
 mod words;
 
+use clap::ArgMatches;
 use commands::answer_request;
+use digests::tell_digests;
 use explanations::finish_told;
-use ged_tool::{Input, Output, Sink, Source};
+use ged_tool::{Input, Outcome, Output, Sink, Source};
 use shelf::{Disk, Shelf};
 use std::alloc::Global;
 use std::io::Write;
 use std::process::ExitCode;
 use std::{env, io};
 use tells::{refuse, refuse_unread, refuse_words};
-use words::read_words;
+use wanted::{Asked, Wanted, asked_of, read_words};
 
 /// The streams of a program.
 #[derive(Drop)]
@@ -76,19 +86,100 @@ fn perform<S: Shelf, R: Source, W: Write, E: Write>(
     ensures usage { result ≡ 2 → Keeps (⟦<Output<W> as Sink>⟧.taken streams.old.output)
         (⟦<Output<W> as Sink>⟧.taken streams.new.output) }
 {
-    let words = match words {
-        Ok(words) => words,
-        Err(error) => return refuse_unread(&error, &mut streams.errors),
-    };
-    match read_words(alloc, words.as_slice()) {
-        Ok(asked) => match asked.request {
-            Some(request) => {
-                let (input, output) = (&mut streams.input, &mut streams.output);
-                let told = answer_request(alloc, shelf, request, input, output);
-                finish_told(alloc, request, asked.explains, &told, &mut streams.errors)
-            }
-            None => refuse_words(asked.mistake, &mut streams.errors),
-        },
+    match words {
+        Ok(words) => perform_words(alloc, shelf, words.as_slice(), streams),
+        Err(error) => refuse_unread(&error, &mut streams.errors),
+    }
+}
+
+/// Does what words ask for, and gives the program's status.
+fn perform_words<S: Shelf, R: Source, W: Write, E: Write>(
+    alloc: Global,
+    shelf: &S,
+    words: &[String],
+    streams: &mut Streams<R, W, E>,
+) -> u8
+    requires unread { R.reads streams.old.input ≡ 0 }
+    requires no_failure { (R.failed streams.old.input ≡ false)
+        × (⟦<Output<W> as Sink>⟧.failed streams.old.output ≡ false) }
+    ensures performs { Performs (S.files shelf.now) S.Device.to_come S.Device.failed S.Draft.taken S.Draft.failed
+        (map string_bytes words.now)
+        (reader_of R.to_come R.failed streams.old.input streams.new.input)
+        (writer_of ⟦<Output<W> as Sink>⟧.taken ⟦<Output<W> as Sink>⟧.failed streams.old.output streams.new.output)
+        result }
+    ensures range { result ≤ 3 }
+    ensures quiet { result ≡ 0 → explains (map string_bytes words.now) ≡ false
+        → Keeps (E.contents streams.old.errors) (E.contents streams.new.errors) }
+    ensures usage { result ≡ 2 → Keeps (⟦<Output<W> as Sink>⟧.taken streams.old.output)
+        (⟦<Output<W> as Sink>⟧.taken streams.new.output) }
+{
+    match read_words(alloc, words) {
+        Ok(matches) => obey_matches(alloc, shelf, &matches, streams),
         Err(error) => refuse(&error, &mut streams.output, &mut streams.errors),
+    }
+}
+
+/// Does what the matches of words ask for, and gives the program's status.
+fn obey_matches<S: Shelf, R: Source, W: Write, E: Write>(
+    alloc: Global,
+    shelf: &S,
+    matches: &ArgMatches<'_>,
+    streams: &mut Streams<R, W, E>,
+) -> u8
+    requires unread { R.reads streams.old.input ≡ 0 }
+    requires no_failure { (R.failed streams.old.input ≡ false)
+        × (⟦<Output<W> as Sink>⟧.failed streams.old.output ≡ false) }
+    ensures obeyed { MatchOption (option_and_then task_of_match (subcommand_rows_of matches.now))
+        (IsMistaken (reader_of R.to_come R.failed streams.old.input streams.new.input)
+        (writer_of ⟦<Output<W> as Sink>⟧.taken ⟦<Output<W> as Sink>⟧.failed streams.old.output streams.new.output) result)
+        (λ task. (outcome : Outcome) × (result ≡ status_of outcome)
+        × IsDone (S.files shelf.now) S.Device.to_come S.Device.failed S.Draft.taken S.Draft.failed task
+        (reader_of R.to_come R.failed streams.old.input streams.new.input)
+        (writer_of ⟦<Output<W> as Sink>⟧.taken ⟦<Output<W> as Sink>⟧.failed streams.old.output streams.new.output) outcome) }
+    ensures range { result ≤ 3 }
+    ensures quiet { result ≡ 0
+        → option_map_or (λ (found : Text × List Row). is_set (codes "explain") found.1) (subcommand_rows_of matches.now) false ≡ false
+        → Keeps (E.contents streams.old.errors) (E.contents streams.new.errors) }
+    ensures usage { result ≡ 2 → Keeps (⟦<Output<W> as Sink>⟧.taken streams.old.output)
+        (⟦<Output<W> as Sink>⟧.taken streams.new.output) }
+{
+    let asked = asked_of(matches);
+    obey(alloc, shelf, asked, streams)
+}
+
+/// Does what is asked for, and gives the program's status.
+fn obey<S: Shelf, R: Source, W: Write, E: Write>(
+    alloc: Global,
+    shelf: &S,
+    asked: Asked<'_, '_>,
+    streams: &mut Streams<R, W, E>,
+) -> u8
+    requires once { IfSome asked.wanted IsReadOnce }
+    requires unread { R.reads streams.old.input ≡ 0 }
+    requires no_failure { (R.failed streams.old.input ≡ false)
+        × (⟦<Output<W> as Sink>⟧.failed streams.old.output ≡ false) }
+    ensures obeyed { MatchOption (option_map wanted_task asked.entry.wanted)
+        (IsMistaken (reader_of R.to_come R.failed streams.old.input streams.new.input)
+        (writer_of ⟦<Output<W> as Sink>⟧.taken ⟦<Output<W> as Sink>⟧.failed streams.old.output streams.new.output) result)
+        (λ task. (outcome : Outcome) × (result ≡ status_of outcome)
+        × IsDone (S.files shelf.now) S.Device.to_come S.Device.failed S.Draft.taken S.Draft.failed task
+        (reader_of R.to_come R.failed streams.old.input streams.new.input)
+        (writer_of ⟦<Output<W> as Sink>⟧.taken ⟦<Output<W> as Sink>⟧.failed streams.old.output streams.new.output) outcome) }
+    ensures range { result ≤ 3 }
+    ensures quiet { result ≡ 0 → asked.entry.explains ≡ false → Keeps (E.contents streams.old.errors) (E.contents streams.new.errors) }
+    ensures usage { result ≡ 2 → Keeps (⟦<Output<W> as Sink>⟧.taken streams.old.output)
+        (⟦<Output<W> as Sink>⟧.taken streams.new.output) }
+{
+    let (input, output, errors) = (&mut streams.input, &mut streams.output, &mut streams.errors);
+    match asked.wanted {
+        Some(Wanted::Request(request)) => {
+            let told = answer_request(alloc, shelf, request, input, output);
+            finish_told(alloc, request, asked.explains, &told, errors)
+        }
+        Some(Wanted::Digests(digests)) => {
+            let explains = asked.explains;
+            tell_digests(alloc, shelf, digests, explains, input, output, errors).status()
+        }
+        None => refuse_words(asked.mistake, errors),
     }
 }

@@ -7,7 +7,7 @@ ghost use Rattle.ged_tool.specs.Faults.{status_of};
 ghost use Rattle.ged_cmd.specs.Program.{IsUnwritten, refusal_status, writer as writer_of};
 
 use crate::commands::failed;
-use crate::words::Mistake;
+use crate::wanted::Mistake;
 use clap::Error;
 use clap::error::ErrorKind;
 use ged_tool::{Failed, Fault, Outcome, Output, Sink, Which};
@@ -23,6 +23,14 @@ const USAGE_STATUS: u8 = 2;
 const TWO_INPUTS: &str = "error: only one of <A> and [B] can be standard input
 
 Usage: gedtool same [OPTIONS] <A> [B]
+
+For more information, try '--help'.
+";
+
+/// What is told where two files of `digest` would be standard input, in clap's form.
+const INPUT_TWICE: &str = "error: only one <FILE> can be standard input
+
+Usage: gedtool digest [OPTIONS] <FILE>...
 
 For more information, try '--help'.
 ";
@@ -140,6 +148,7 @@ pub(crate) fn refuse_words<E: Write>(mistake: Mistake, errors: &mut E) -> u8
 {
     let text = match mistake {
         Mistake::TwoInputs => TWO_INPUTS,
+        Mistake::InputTwice => INPUT_TWICE,
         Mistake::NoFault => NO_FAULT,
     };
     tell_mistake(&text, errors)

@@ -7,19 +7,20 @@ ghost use Rattle.clap.specs.Kinds.{HasKind};
 ghost use Rattle.ged_cmd.specs.CommandLine as line;
 ghost use Rattle.ged_cmd.specs.inner.CommandLine.{IsCommand};
 ghost use Rattle.ged_tool.specs.Profiles.{profile_of, edition_of};
-ghost use Rattle.ged_cmd.specs.Tasks.{explain_asked, explains, explanation as explanation_of};
-ghost use Rattle.ged_cmd.specs.Tasks.{asked, command_of, comparison as comparison_of, edition_asked, file_named as file_of, is_set};
-ghost use Rattle.ged_cmd.specs.Tasks.{profile_asked, run_asked, same_asked, task_of_match};
+ghost use Rattle.ged_cmd.specs.Tasks.{explain_asked, explanation as explanation_of, single_asked};
+ghost use Rattle.ged_cmd.specs.Tasks.{canon_keeping as canon_keeping_of, command_of, comparison as comparison_task, edition_asked, file_named as file_of, is_set};
+ghost use Rattle.ged_cmd.specs.Tasks.{form_asked, form_keeping as form_keeping_of, profile_asked, run_asked, same_asked};
 ghost use Rattle.ged_cmd.specs.inner.Tasks.{task_of};
 
 use crate::arguments::{
-    EXPLAIN, OUTPUT, SECOND, STRICT, explain_flag, file_argument, first_argument, output_option,
-    second_flag, strict_flag,
+    EXPLAIN, KEEP_NAMES, OUTPUT, SECOND, STRICT, explain_flag, file_argument, first_argument,
+    keep_names_flag, output_option, second_flag, strict_flag,
 };
+use crate::digest_words::digest_command;
 use crate::meanings::meaning_called;
 use clap::{ArgMatches, Error};
 use ged_explain::{Meaning, meanings};
-use ged_tool::{Command, Edition, Profile, Settings};
+use ged_tool::{Command, Comparison, Edition, Form, Profile, Settings};
 use std::alloc::{AllocError, Global};
 
 /// The name that help and usage give the program, whatever file it lies in.
@@ -28,27 +29,7 @@ const NAME: &str = "gedtool";
 /// The version that `--version` tells: that of the file VERSION.
 const VERSION: &str = "0.1.0";
 
-/// What the words say.
-#[derive(Clone, Copy)]
-pub(crate) struct Asked<'a> {
-    /// What the program is asked for; `None` where that is a mistake that clap doesn't know.
-    pub(crate) request: Option<Request<'a>>,
-    /// Whether faults and notices are explained.
-    pub(crate) explains: bool,
-    /// What is wrong with the words where there is no request.
-    pub(crate) mistake: Mistake,
-}
-
-/// What is wrong with words that clap takes.
-#[derive(Clone, Copy)]
-pub(crate) enum Mistake {
-    /// Both files of `same` would be standard input.
-    TwoInputs,
-    /// The word of `explain` is of no fault.
-    NoFault,
-}
-
-/// What the program is asked for.
+/// What has one answer.
 #[derive(Clone, Copy)]
 pub(crate) enum Request<'a> {
     /// A command over one file, or over standard input where none is named; its answer goes into a file, or to standard
@@ -61,13 +42,13 @@ pub(crate) enum Request<'a> {
     },
     /// Whether two files are the same; the second is standard input where none is named.
     Same {
-        settings: Settings,
+        comparison: Comparison,
         first: &'a str,
         second: Option<&'a str>,
     },
     /// Whether standard input is the same as a file.
     SameInput {
-        settings: Settings,
+        comparison: Comparison,
         second: &'a str,
     },
     /// What a fault means, or what all mean where none is named.
@@ -76,55 +57,17 @@ pub(crate) enum Request<'a> {
     },
 }
 
-/// Reads the words, of which the first is the program's name. The error is clap's: a mistake in
-/// the words, a request for help or the version, or want of memory. No request is a mistake that
-/// clap doesn't know: `same` where both files would be standard input, or `explain` where the word
-/// is of no fault. Words without a mistake have a subcommand, since clap requires one, so that there is a request for all others.
-pub(crate) fn read_words<'a>(alloc: Global, words: &'a [String]) -> Result<Asked<'a>, Error>
-    ensures no_mistake { IfOk result (λ _. fault_of line.gedtool (map string_bytes words.entry.now) ≡ []) }
-    ensures asked { IfOk result (λ said. option_map task_of said.request ≡ asked (map string_bytes words.entry.now)) }
-    ensures explained { IfOk result (λ said. said.explains ≡ explains (map string_bytes words.entry.now)) }
-    ensures refused { IfErr result (HasKind (fault_of line.gedtool (map string_bytes words.entry.now))) }
+/// What a subcommand asks for that has one answer.
+pub(crate) fn request_of<'a>(name: &str, matches: &ArgMatches<'a>) -> Option<Request<'a>>
+    ensures { option_map task_of result ≡ single_asked name.now (rows_of (found_of matches.now)) }
 {
-    let matches = command_line(alloc)?.try_get_matches_from(words)?;
-    Ok(Asked {
-        request: request_of(&matches),
-        explains: is_explained(&matches),
-        mistake: mistake_of(&matches),
-    })
-}
-
-/// What is wrong with words that ask for nothing.
-fn mistake_of(matches: &ArgMatches<'_>) -> Mistake {
-    match matches.subcommand() {
-        Some((name, _)) if name == "explain" => Mistake::NoFault,
-        _ => Mistake::TwoInputs,
-    }
-}
-
-/// Whether the subcommand is asked for explanations.
-fn is_explained(matches: &ArgMatches<'_>) -> bool
-    ensures { result ≡ option_map_or (λ (found : Text × List Row). is_set (codes "explain") found.1)
-        (subcommand_rows_of matches.now) false }
-{
-    match matches.subcommand() {
-        Some((_, inner)) => is_flagged(inner, EXPLAIN),
-        None => false,
-    }
-}
-
-/// What the matches of the words ask for.
-fn request_of<'a>(matches: &ArgMatches<'a>) -> Option<Request<'a>>
-    ensures { option_map task_of result ≡ option_and_then task_of_match (subcommand_rows_of matches.now) }
-{
-    let (name, inner) = matches.subcommand()?;
     if name == "same" {
-        return same_request(inner);
+        return same_request(matches);
     }
     if name == "explain" {
-        return explain_request(inner);
+        return explain_request(matches);
     }
-    run_request(name, inner)
+    run_request(name, matches)
 }
 
 /// What `same` asks for, or `None` where both files would be standard input.
@@ -133,26 +76,45 @@ fn same_request<'a>(matches: &ArgMatches<'a>) -> Option<Request<'a>>
 {
     let first = file_named(matches.get_str("A"));
     let second = file_named(matches.get_str("B"));
-    comparison(settings_of(matches), first, second)
+    comparing(comparison_of(matches), first, second)
+}
+
+/// How the flags of `same` ask for its files to be compared.
+fn comparison_of(matches: &ArgMatches<'_>) -> Comparison
+    ensures form { result.form ≡ form_asked (rows_of (found_of matches.now)) }
+    ensures profile { profile_of result.settings ≡ profile_asked (rows_of (found_of matches.now)) }
+    ensures edition { edition_of result.settings ≡ edition_asked (rows_of (found_of matches.now)) }
+{
+    Comparison {
+        settings: settings_of(matches),
+        form: form_keeping(is_flagged(matches, KEEP_NAMES)),
+    }
+}
+
+/// The form in which files are compared: that in which identifiers count, where their names are to be kept.
+fn form_keeping(names: bool) -> Form
+    ensures { result ≡ form_keeping_of names }
+{
+    if names { Form::Tidy } else { Form::Canonical }
 }
 
 /// The request to compare two files, or `None` where both would be standard input.
-fn comparison<'a>(
-    settings: Settings,
+fn comparing<'a>(
+    comparison: Comparison,
     first: Option<&'a str>,
     second: Option<&'a str>,
 ) -> Option<Request<'a>>
-    ensures { option_map task_of result ≡ comparison_of (profile_of settings) (edition_of settings)
+    ensures { option_map task_of result ≡ comparison_task comparison.form (profile_of comparison.settings) (edition_of comparison.settings)
         (option_map (λ name. name.now) first.entry) (option_map (λ name. name.now) second.entry) }
 {
     match first {
         Some(first) => Some(Request::Same {
-            settings,
+            comparison,
             first,
             second,
         }),
         None => Some(Request::SameInput {
-            settings,
+            comparison,
             second: second?,
         }),
     }
@@ -182,7 +144,7 @@ fn run_request<'a>(name: &str, matches: &ArgMatches<'a>) -> Option<Request<'a>>
     ensures { option_map task_of result ≡ run_asked name.now (rows_of (found_of matches.now)) }
 {
     Some(Request::Run {
-        command: command_named(name)?,
+        command: command_named(name, is_flagged(matches, KEEP_NAMES))?,
         settings: settings_of(matches),
         file: file_named(matches.get_str("FILE")),
         into: file_named(matches.get_str(OUTPUT)),
@@ -200,22 +162,29 @@ fn file_named(word: Option<&str>) -> Option<&str>
     }
 }
 
-/// The command over one file that has this name.
-fn command_named(name: &str) -> Option<Command>
-    ensures { result ≡ command_of name.now }
+/// The command over one file that has this name. The flag asks `canon` to keep the names of identifiers.
+fn command_named(name: &str, keeps_names: bool) -> Option<Command>
+    ensures { result ≡ command_of name.now keeps_names }
 {
     match name {
         "lines" => Some(Command::Lines),
         "check" => Some(Command::Check),
         "show" => Some(Command::Show),
-        "canon" => Some(Command::Canon),
+        "canon" => Some(canon_keeping(keeps_names)),
         _ => None,
     }
 }
 
+/// `canon`, which keeps the names of identifiers or gives them new ones.
+fn canon_keeping(names: bool) -> Command
+    ensures { result ≡ canon_keeping_of names }
+{
+    if names { Command::Tidy } else { Command::Canon }
+}
+
 /// The settings that the flags of a subcommand ask for: lenient and of the first edition where it
 /// has none.
-fn settings_of(matches: &ArgMatches<'_>) -> Settings
+pub(crate) fn settings_of(matches: &ArgMatches<'_>) -> Settings
     ensures profile { profile_of result ≡ profile_asked (rows_of (found_of matches.now)) }
     ensures edition { edition_of result ≡ edition_asked (rows_of (found_of matches.now)) }
 {
@@ -233,14 +202,14 @@ fn settings_asked(strict: bool, second: bool) -> Settings
 }
 
 /// Whether a flag is set.
-fn is_flagged(matches: &ArgMatches<'_>, flag: &str) -> bool
+pub(crate) fn is_flagged(matches: &ArgMatches<'_>, flag: &str) -> bool
     ensures { result ≡ is_set flag.now (rows_of (found_of matches.now)) }
 {
     matches.get_one::<bool>(flag).unwrap_or(false)
 }
 
 /// What the program understands.
-fn command_line<'a>(alloc: Global) -> Result<clap::Command<'a>, AllocError>
+pub(crate) fn command_line<'a>(alloc: Global) -> Result<clap::Command<'a>, AllocError>
     ensures { IfOk result (IsCommand line.gedtool) }
 {
     bare_program(alloc)?
@@ -249,7 +218,8 @@ fn command_line<'a>(alloc: Global) -> Result<clap::Command<'a>, AllocError>
         .subcommand(show_command(alloc)?)?
         .subcommand(canon_command(alloc)?)?
         .subcommand(same_command(alloc)?)?
-        .subcommand(explain_command(alloc)?)
+        .subcommand(explain_command(alloc)?)?
+        .subcommand(digest_command(alloc)?)
 }
 
 /// The program without its commands, of which it needs one. It tells its version.
@@ -263,7 +233,7 @@ fn bare_program<'a>(alloc: Global) -> Result<clap::Command<'a>, AllocError>
 }
 
 /// A command that takes nothing.
-fn named_command<'a>(alloc: Global, name: &'a str, about: &'a str) -> clap::Command<'a>
+pub(crate) fn named_command<'a>(alloc: Global, name: &'a str, about: &'a str) -> clap::Command<'a>
     ensures { IsCommand (new_app name.entry.now) result }
 {
     clap::Command::new(alloc, name).about(about)
@@ -303,6 +273,7 @@ fn canon_command<'a>(alloc: Global) -> Result<clap::Command<'a>, AllocError>
     file_command(alloc, "canon", "Writes a file in its canonical form")?
         .arg(strict_flag(alloc))?
         .arg(second_flag(alloc))?
+        .arg(keep_names_flag(alloc))?
         .arg(output_option(alloc))?
         .arg(explain_flag(alloc))
 }
@@ -335,6 +306,7 @@ fn same_command<'a>(alloc: Global) -> Result<clap::Command<'a>, AllocError>
     two_files_command(alloc)?
         .arg(strict_flag(alloc))?
         .arg(second_flag(alloc))?
+        .arg(keep_names_flag(alloc))?
         .arg(explain_flag(alloc))
 }
 

@@ -16,8 +16,10 @@ function __gedtool_takes_file -d 'Whether the command takes a further file'
     end
     if __gedtool_command lines check show canon
         test (count $files) -lt 1
+    else if __gedtool_command same
+        test (count $files) -lt 2
     else
-        __gedtool_command same; and test (count $files) -lt 2
+        __gedtool_command digest
     end
 end
 
@@ -39,11 +41,13 @@ complete -c gedtool -n __gedtool_takes_command -a show -d 'Writes the level, tag
 complete -c gedtool -n __gedtool_takes_command -a canon -d 'Writes a file in its canonical form'
 complete -c gedtool -n __gedtool_takes_command -a same -d 'Tells whether two files have one canonical form'
 complete -c gedtool -n __gedtool_takes_command -a explain -d 'Explains a fault, by its number or its name'
+complete -c gedtool -n __gedtool_takes_command -a digest -d 'Writes a line with the digest of the canonical form of each file'
 complete -c gedtool -n __gedtool_takes_command -a help -d 'Print this message or the help of the given subcommand(s)'
 
-complete -c gedtool -n '__gedtool_command check show canon same' -l strict -d 'Refuses a file that has a notice'
-complete -c gedtool -n '__gedtool_command canon same' -l second -d 'Leaves out the leading zeros of dates, ages and counts'
+complete -c gedtool -n '__gedtool_command check show canon same digest' -l strict -d 'Refuses a file that has a notice'
+complete -c gedtool -n '__gedtool_command canon same digest' -l second -d 'Leaves out the leading zeros of dates, ages and counts'
+complete -c gedtool -n '__gedtool_command canon same' -l keep-names -d 'Leaves identifiers as they are'
 complete -c gedtool -n '__gedtool_command lines show canon' -r -F -s o -l output -d 'Writes the answer into a file, whole or not at all'
-complete -c gedtool -n '__gedtool_command lines check show canon same' -l explain -d 'Explains faults and notices on standard error'
+complete -c gedtool -n '__gedtool_command lines check show canon same digest' -l explain -d 'Explains faults and notices on standard error'
 complete -c gedtool -n 'not __gedtool_command help' -s h -l help -d 'Print help'
 complete -c gedtool -n __gedtool_begins -s V -l version -d 'Print version'

@@ -7,4 +7,4 @@ pub returns : goal.returns
 returns c =
     let first = first_found (found_of c.args.matches.now) (codes "A") c.get_str.result c.get_str.ensures in
     let second = first_found (found_of c.args.matches.now) (codes "B") c.get_str-2.result c.get_str-2.ensures in
-    rw (c.comparison.ensures, c.file_named-first.ensures, c.file_named-second.ensures, first, second, c.settings_of.ensures.profile, c.settings_of.ensures.edition) refl
+    rw (c.comparing.ensures, c.file_named-first.ensures, c.file_named-second.ensures, first, second, c.comparison_of.ensures.form, c.comparison_of.ensures.profile, c.comparison_of.ensures.edition) refl

@@ -1,0 +1,10 @@
+use Rattle.ged_cmd.proofs.FlushLemmas.{flushed_answered}
+use Rattle.ged_cmd.proofs.digests.digest.Goals as goal
+
+pub returns : goal.returns
+returns g c =
+    flushed_answered _ _ _ _ _ _ _ _ c.run_digest-told.result.outcome c.flushed.result (record {
+      bytes = c.run_digest-told.ensures.bytes.run;
+      read_failed = c.run_digest-told.ensures.read_failed;
+      write_failed = c.run_digest-told.ensures.write_failed;
+    }) c.flushed.ensures

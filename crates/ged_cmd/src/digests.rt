@@ -1,0 +1,152 @@
+// The digests of files, told one after the other.
+ghost use Rattle.std.specs.Prelude.{◌≡◌, ◌≤◌, ◌⊎◌, ◌<◌, None, count_by, true, false};
+ghost use Rattle.std.specs.Io.KnownBytes.{Keeps};
+ghost use Rattle.ged_tool.specs.Profiles.{profile_of, edition_of};
+ghost use Rattle.ged_cmd.specs.Program.{AreDigested, IsDigested, IsNotOpened, SomeFile, graver as graver_of};
+ghost use Rattle.ged_cmd.specs.Program.{reader as reader_of, writer as writer_of};
+ghost use Rattle.ged_cmd.specs.Tasks.{is_input as is_input_word};
+ghost use Rattle.ged_cmd.specs.inner.Tasks.{names_of};
+
+use crate::commands::{LIMIT, flushed, not_opened};
+use crate::digest_words::{Digests, is_input};
+use crate::explanations::write_text;
+use crate::shelf::Shelf;
+use crate::tells::tell;
+use ged_explain::explain_fault;
+use ged_tool::{Fault, Outcome, Output, Settings, Sink, Source, Told, run_digest};
+use std::alloc::Global;
+use std::io;
+use std::io::Write;
+
+/// Tells the digest of each file on the output, and its fault, if it has one, on the errors; gives the gravest outcome. Once the
+/// output has failed it stops.
+pub(crate) fn tell_digests<S: Shelf, R: Source, W: Write, E: Write>(
+    alloc: Global,
+    shelf: &S,
+    digests: Digests<'_, '_>,
+    explains: bool,
+    input: &mut R,
+    output: &mut Output<W>,
+    errors: &mut E,
+) -> Outcome
+    requires once { count_by is_input_word (names_of digests.files.now) ≤ 1 }
+    requires unread { R.reads input.old ≡ 0 }
+    requires no_failure { (R.failed input.old ≡ false) × (⟦<Output<W> as Sink>⟧.failed output.old ≡ false) }
+    ensures told { AreDigested (S.files shelf.now) S.Device.to_come S.Device.failed (profile_of digests.entry.settings)
+        (edition_of digests.entry.settings) (names_of digests.entry.files.now)
+        (reader_of R.to_come R.failed input.old input.new)
+        (writer_of ⟦<Output<W> as Sink>⟧.taken ⟦<Output<W> as Sink>⟧.failed output.old output.new) result }
+    ensures quiet { result ≡ Outcome.Done → Keeps (E.contents errors.old) (E.contents errors.new) }
+{
+    let mut gravest = Outcome::Done;
+    for name in digests.files {
+        let told = tell_digest(alloc, shelf, digests.settings, name, input, output);
+        tell_outcome(alloc, name, explains, &told, errors);
+        gravest = graver(gravest, told.outcome);
+        if output.failed() {
+            return gravest;
+        }
+    }
+    gravest
+}
+
+/// The graver of two outcomes, by their statuses; the later one where these are the same.
+fn graver(before: Outcome, later: Outcome) -> Outcome
+    ensures { result ≡ graver_of before later }
+{
+    if later.status() < before.status() {
+        before
+    } else {
+        later
+    }
+}
+
+/// Tells the digest of the file of a name, or of `input` where the name stands for it. A file that can't be opened is
+/// ReadFailed.
+fn tell_digest<S: Shelf, R: Source, W: Write>(
+    alloc: Global,
+    shelf: &S,
+    settings: Settings,
+    name: &str,
+    input: &mut R,
+    output: &mut Output<W>,
+) -> Told
+    requires unread { is_input_word name.now ≡ true → (R.reads input.old ≡ 0) × (R.failed input.old ≡ false) }
+    requires no_failure { ⟦<Output<W> as Sink>⟧.failed output.old ≡ false }
+    ensures named { is_input_word name.now ≡ false → (input.new ≡ input.old)
+        × (IsNotOpened ((S.files shelf.now).refuses name.now) None
+        (writer_of ⟦<Output<W> as Sink>⟧.taken ⟦<Output<W> as Sink>⟧.failed output.old output.new) result.outcome
+        ⊎ SomeFile ((S.files shelf.now).opens name.now) S.Device.to_come S.Device.failed (λ file.
+        IsDigested (profile_of settings) (edition_of settings) name.now file
+        (writer_of ⟦<Output<W> as Sink>⟧.taken ⟦<Output<W> as Sink>⟧.failed output.old output.new) result.outcome)) }
+    ensures input { is_input_word name.now ≡ true → IsDigested (profile_of settings) (edition_of settings) name.now
+        (reader_of R.to_come R.failed input.old input.new)
+        (writer_of ⟦<Output<W> as Sink>⟧.taken ⟦<Output<W> as Sink>⟧.failed output.old output.new) result.outcome }
+{
+    if is_input(name) {
+        return digest(alloc, settings, name, input, output);
+    }
+    match shelf.open(name) {
+        Ok(mut device) => digest(alloc, settings, name, &mut device, output),
+        Err(_) => not_opened(alloc, None),
+    }
+}
+
+/// Tells the digest of what a reader gives, and flushes its line.
+fn digest<R: Source, W: Write>(
+    alloc: Global,
+    settings: Settings,
+    name: &str,
+    reader: &mut R,
+    output: &mut Output<W>,
+) -> Told
+    requires unread { R.reads reader.old ≡ 0 }
+    requires no_failure { (R.failed reader.old ≡ false) × (⟦<Output<W> as Sink>⟧.failed output.old ≡ false) }
+    ensures { IsDigested (profile_of settings) (edition_of settings) name.now
+        (reader_of R.to_come R.failed reader.old reader.new)
+        (writer_of ⟦<Output<W> as Sink>⟧.taken ⟦<Output<W> as Sink>⟧.failed output.old output.new) result.outcome }
+{
+    let told = run_digest(alloc, settings, LIMIT, name, reader, output);
+    Told {
+        outcome: flushed(told.outcome, output),
+        bytes: told.bytes,
+    }
+}
+
+/// Tells the fault of a file, if it has one, behind the file's name, and explains it, where that is asked for. A fault of the
+/// output is told without a name.
+fn tell_outcome<E: Write>(alloc: Global, name: &str, explains: bool, told: &Told, errors: &mut E)
+    ensures { told.now.outcome ≡ Outcome.Done → Keeps (E.contents errors.old) (E.contents errors.new) }
+{
+    if let Outcome::Failed { which: _, fault } = told.outcome {
+        // a line that can't be written changes no status
+        let _ = tell_behind(name, &fault, errors);
+        if explains {
+            explain_digest(alloc, name, &fault, &told.bytes, errors);
+        }
+    }
+}
+
+/// Explains a fault of a file that stands under a name, or of the output.
+fn explain_digest<E: Write>(
+    alloc: Global,
+    name: &str,
+    fault: &Fault,
+    bytes: &[u8],
+    errors: &mut E,
+) {
+    let place = match fault {
+        Fault::WriteFailed => "standard output",
+        _ if is_input(name) => "standard input",
+        _ => name,
+    };
+    write_text(explain_fault(alloc, bytes, fault, place), errors);
+}
+
+/// Writes the line that tells a fault, behind the name of the file that has it.
+fn tell_behind<E: Write>(name: &str, fault: &Fault, errors: &mut E) -> io::Result<()> {
+    if *fault != Fault::WriteFailed {
+        write!(errors, "{name}: ")?;
+    }
+    tell(None, fault, errors)
+}
