@@ -8,73 +8,18 @@
 //   calls bounds                            lengths of 0 and above the limit, and numbers without a meaning
 //   calls threads FILE                      all calls from four threads on the same bytes
 //
-// The status is 9 where something is not as gedtool.h says. `malloc`, `realloc` and `free` are counted: the linker hands the
-// library's calls of them over (--wrap).
+// The status is 9 where something is not as gedtool.h says.
 #define _GNU_SOURCE
-#include "../ffi/c/gedtool.h"
+#include "rooms.h"
 
 #include <inttypes.h>
 #include <pthread.h>
-#include <stdio.h>
-#include <stdlib.h>
-#include <string.h>
 #include <sys/mman.h>
 
 typedef uint32_t one_file(uint32_t, const uint8_t *, size_t, uint8_t *, size_t, size_t *, uint64_t *);
 
 static one_file *const calls[] = {gedtool_lines, gedtool_check, gedtool_show, gedtool_canon};
 static const char *const names[] = {"lines", "check", "show", "canon"};
-
-struct bytes {
-    uint8_t *at;
-    size_t length;
-};
-
-enum { MARK = 0xA5, BEHIND = 16 };
-
-static _Thread_local long requests, refused_at, held;
-
-void *__real_malloc(size_t size);
-void *__real_realloc(void *block, size_t size);
-void __real_free(void *block);
-
-void *__wrap_malloc(size_t size) {
-    void *block = ++requests == refused_at ? NULL : __real_malloc(size);
-    held += block != NULL;
-    return block;
-}
-
-void *__wrap_realloc(void *block, size_t size) {
-    return ++requests == refused_at ? NULL : __real_realloc(block, size);
-}
-
-void __wrap_free(void *block) {
-    held -= block != NULL;
-    __real_free(block);
-}
-
-static void expect(int holds, const char *what) {
-    if (!holds) {
-        fprintf(stderr, "calls: not so: %s\n", what);
-        exit(9);
-    }
-}
-
-static struct bytes with_room(size_t length) {
-    struct bytes room = {__real_malloc(length + 1), length};
-    expect(room.at != NULL, "the test has memory");
-    memset(room.at, MARK, length + 1);
-    return room;
-}
-
-static int is_marked(const uint8_t *at, size_t length) {
-    for (size_t i = 0; i < length; i++) {
-        if (at[i] != MARK) {
-            return 0;
-        }
-    }
-    return 1;
-}
 
 static struct bytes read_file(const char *name) {
     struct bytes file = {NULL, 0};

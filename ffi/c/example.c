@@ -1,4 +1,4 @@
-/* Writes the canonical form of a file to standard output, or tells on standard error why it has none:
+/* Writes the canonical form of a file to standard output, or tells on standard error why it has none, and what that means:
  *
  *     example FILE
  *
@@ -56,6 +56,22 @@ static uint8_t *canon(const uint8_t *file, size_t file_length, size_t *length, u
     }
 }
 
+/* Tells a fault as the program does, and what it means. */
+static void tell(uint32_t status, uint64_t line) {
+    uint8_t name[32], meaning[128];
+    size_t name_length = 0, meaning_length = 0;
+    if (gedtool_fault_name(status, name, sizeof name, &name_length) != GEDTOOL_OK ||
+        gedtool_explain(status, GEDTOOL_MEANING, meaning, sizeof meaning, &meaning_length) != GEDTOOL_OK) {
+        fprintf(stderr, "status %" PRIu32 "\n", status);
+        return;
+    }
+    fprintf(stderr, "fault %" PRIu32, status);
+    if (line) {
+        fprintf(stderr, " at line %" PRIu64, line);
+    }
+    fprintf(stderr, ": %.*s\n%.*s\n", (int)name_length, (const char *)name, (int)meaning_length, (const char *)meaning);
+}
+
 int main(int count, char **words) {
     size_t file_length, length = 0;
     uint64_t line = 0;
@@ -73,7 +89,7 @@ int main(int count, char **words) {
     text = canon(file, file_length, &length, &status, &line);
     free(file);
     if (!text) {
-        fprintf(stderr, "fault %" PRIu32 " at line %" PRIu64 "\n", status, line);
+        tell(status, line);
         return line ? 1 : 2;
     }
     count = fwrite(text, 1, length, stdout) == length && !fflush(stdout);

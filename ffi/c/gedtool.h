@@ -1,14 +1,14 @@
 /* gedtool: judge, canonicalise and compare FamilySearch GEDCOM 7.0 files.
  *
- * Each call is given the bytes of whole files, and answers a status: GEDTOOL_OK, or why there is no answer. What it answers is
- * proved; docs/C.md says how far.
+ * Each call is given the bytes of whole files, or the number of a fault, and answers a status: GEDTOOL_OK, or why there is no answer.
+ * What it answers is proved; docs/C.md says how far.
  *
  * Memory. Each file, each room and each place for a number is the caller's, before the call and behind it. No call keeps a
  * pointer, and what it takes of the C library's memory it gives back before it returns. A file is only read, and may be shared. As
  * many bytes must be there as a length says; where it is 0 the pointer may be null. A room must be no part of a file, and a place
  * for a number must not be null, and lie in no file, no room and no other place.
  *
- * Room. `lines`, `check`, `show` and `canon` write their answer into `room`. It has no zero at its end.
+ * Room. `lines`, `check`, `show`, `canon`, `fault_name` and `explain` write their answer into `room`. It has no zero at its end.
  * - GEDTOOL_OK: the answer is the first *length bytes of the room; what stood behind them is left as it was.
  * - GEDTOOL_ROOM_TOO_SMALL: there is an answer, but it is longer than the room. *length is its length, and the room is left as it
  *   was: come again with that much room.
@@ -72,7 +72,15 @@ enum {
     GEDTOOL_ONE_WAY_LINK = 28,  /* GEDTOOL_STRICT only */
     GEDTOOL_UNLISTED_TAG = 29,  /* GEDTOOL_STRICT only */
     GEDTOOL_ROOM_TOO_SMALL = 64,
-    GEDTOOL_BAD_SETTINGS = 65
+    GEDTOOL_BAD_SETTINGS = 65,
+    GEDTOOL_NOT_FOUND = 66      /* no fault has the number, or no part of what it means */
+};
+
+/* Parts of what a fault means. */
+enum {
+    GEDTOOL_MEANING = 0, /* what is wrong, in a sentence */
+    GEDTOOL_CAUSE = 1,   /* what usually causes it, and what helps, in a few sentences */
+    GEDTOOL_EXAMPLE = 2  /* lines of a file that has it, with line feeds between them; for 24 to 27 a command that meets it */
 };
 
 /* A byte order mark and the file's lines in their canonical spelling; only faults 1 to 8 are told. */
@@ -103,6 +111,12 @@ uint32_t gedtool_same(uint32_t settings, const uint8_t *first, size_t first_leng
                       const uint8_t *second, size_t second_length,
                       uint32_t *same, uint32_t *which, uint64_t *line);
 
+/* The name of a fault, by its number, 1 to 29, such as `LevelJump`; and a part of what it means. Both are English, in UTF-8. For a fault
+ * that a call told, the number is the call's status. The parts are what the program prints of `gedtool explain NUMBER`. Neither call
+ * takes memory. */
+uint32_t gedtool_fault_name(uint32_t fault, uint8_t *room, size_t room_length, size_t *length);
+uint32_t gedtool_explain(uint32_t fault, uint32_t part, uint8_t *room, size_t room_length, size_t *length);
+
 /* GEDTOOL_ABI and GEDTOOL_VERSION of the library: major * 10000 + minor * 100 + patch. */
 uint32_t gedtool_abi(void);
 uint32_t gedtool_version(void);
@@ -131,6 +145,10 @@ static inline uint8_t *gedtool_room_(uint8_t *room) {
     gedtool_digest(settings, gedtool_file_(file), file_length, gedtool_room_(digest), digest_length, line)
 #define gedtool_same(settings, first, first_length, second, second_length, same, which, line) \
     gedtool_same(settings, gedtool_file_(first), first_length, gedtool_file_(second), second_length, same, which, line)
+#define gedtool_fault_name(fault, room, room_length, length) \
+    gedtool_fault_name(fault, gedtool_room_(room), room_length, length)
+#define gedtool_explain(fault, part, room, room_length, length) \
+    gedtool_explain(fault, part, gedtool_room_(room), room_length, length)
 
 #ifdef __cplusplus
 }

@@ -21,7 +21,7 @@ HERE = Path(__file__).resolve().parent
 ROOT = HERE.parent.parent
 # Linux on x86-64-v2, and no more of Python than the stable ABI
 TAG = "py3-none-linux_x86_64"
-MODULES = ("__init__.py", "_faults.py", "_library.py", "py.typed")
+MODULES = ("__init__.py", "_calls.py", "_faults.py", "_library.py", "py.typed")
 
 
 def build_wheel(wheel_directory, config_settings=None, metadata_directory=None):

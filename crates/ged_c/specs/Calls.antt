@@ -11,7 +11,7 @@ use Rattle.ged_tool.specs.declared.faults.Fault.{Fault}
 use Rattle.ged_tool.specs.declared.faults.Fault.TheVariants.{InFile, TooLong, ReadFailed, WriteFailed, Memory}
 use Rattle.ged_c.specs.Settings.{settings_number, last_settings, limit}
 use Rattle.ged_c.specs.declared.answering.Ended.{Ended}
-use Rattle.ged_c.specs.declared.answering.Ended.TheVariants.{Answered, NoRoom, Refused, BadSettings}
+use Rattle.ged_c.specs.declared.answering.Ended.TheVariants.{Answered, NoRoom, Refused, BadSettings, NotFound}
 
 -- the status by which C is told how a call ended: 0, or the number of a fault, or one above all of them
 abbrev pub status_of : Ended → ℕ
@@ -19,6 +19,7 @@ status_of (Answered length) = 0
 status_of (NoRoom length) = 64
 status_of (Refused fault) = fault_number fault
 status_of BadSettings = 65
+status_of NotFound = 66
 
 -- the length of the answer, where there is one
 abbrev pub length_of : Ended → ℕ
@@ -26,6 +27,7 @@ length_of (Answered length) = length
 length_of (NoRoom length) = length
 length_of (Refused fault) = 0
 length_of BadSettings = 0
+length_of NotFound = 0
 
 -- the line of a fault of the file; anything else stands at none
 abbrev pub line_of_fault : Fault → ℕ
@@ -40,6 +42,7 @@ line_of (Answered length) = 0
 line_of (NoRoom length) = 0
 line_of (Refused fault) = line_of_fault fault
 line_of BadSettings = 0
+line_of NotFound = 0
 
 -- an answer in a room: it stands at the front, and what stood behind stays, or where it is too long all stays as it was
 abbrev pub IsPut : Bytes → Bytes → Bytes → Ended → Type 0
@@ -48,6 +51,7 @@ IsPut text before after (Answered count) =
 IsPut text before after (NoRoom count) = (count ≡ length text) × (length before < length text) × (after ≡ before)
 IsPut text before after (Refused fault) = ⊥
 IsPut text before after BadSettings = ⊥
+IsPut text before after NotFound = ⊥
 
 -- why a command has no answer to a file: it is too long; or it has this fault at this line, or memory was wanting
 abbrev pub TellsOf : Profile → Command → Bytes → Fault → Type 0
@@ -65,6 +69,7 @@ MeansAs profile edition command file before after (NoRoom count) = (length file 
     × ((text : Bytes) × Answers profile edition command file text × IsPut text before after (NoRoom count))
 MeansAs profile edition command file before after (Refused fault) = TellsOf profile command file fault × (after ≡ before)
 MeansAs profile edition command file before after BadSettings = ⊥
+MeansAs profile edition command file before after NotFound = ⊥
 
 -- What one end of a call means: for the number of its settings, the file's bytes, and those of the room before it and after it.
 abbrev pub Means : Command → ℕ → Bytes → Bytes → Bytes → Ended → Type 0

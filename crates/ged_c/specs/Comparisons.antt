@@ -1,5 +1,5 @@
 -- What a call on two files answers.
-use Rattle.std.specs.Prelude.{◌≡◌, ℕ, ◌≤◌, ◌<◌, Bool, true, false, length}
+use Rattle.std.specs.Prelude.{◌≡◌, ℕ, ◌≤◌, ◌<◌, true, false, length}
 use Rattle.ged_line.specs.Bytes.{Bytes}
 use Rattle.ged_schema.specs.declared.profile.Profile.{Profile}
 use Rattle.ged_canon.specs.declared.edition.Edition.{Edition}

@@ -8,7 +8,7 @@ use Rattle.ged_tool.specs.declared.runs.answer.Command.TheVariants.{Canon}
 use Rattle.ged_c.specs.Settings.{settings_number, last_settings, limit}
 use Rattle.ged_c.specs.Calls.{IsPut, TellsOf, status_of, line_of}
 use Rattle.ged_c.specs.declared.answering.Ended.{Ended}
-use Rattle.ged_c.specs.declared.answering.Ended.TheVariants.{Answered, NoRoom, Refused, BadSettings}
+use Rattle.ged_c.specs.declared.answering.Ended.TheVariants.{Answered, NoRoom, Refused, BadSettings, NotFound}
 
 -- what one end of the call means, under a profile and in an edition; its faults are those of the canonical form
 abbrev pub DigestMeansAs : Profile → Edition → Bytes → Bytes → Bytes → Ended → Type 0
@@ -17,6 +17,7 @@ DigestMeansAs profile edition file before after (Answered count) = (length file 
 DigestMeansAs profile edition file before after (NoRoom count) = (length before < 32) × (after ≡ before)
 DigestMeansAs profile edition file before after (Refused fault) = TellsOf profile Canon file fault × (after ≡ before)
 DigestMeansAs profile edition file before after BadSettings = ⊥
+DigestMeansAs profile edition file before after NotFound = ⊥
 
 -- what one end of the call means, for the number of its settings
 abbrev pub DigestMeans : ℕ → Bytes → Bytes → Bytes → Ended → Type 0

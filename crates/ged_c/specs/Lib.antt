@@ -2,3 +2,4 @@ pub mod Settings
 pub mod Calls
 pub mod Comparisons
 pub mod Digests
+pub mod Texts

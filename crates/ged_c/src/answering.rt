@@ -1,4 +1,4 @@
-// An answer about one file, in a room that the caller hands.
+// How a call ended, and an answer about one file in a room that the caller hands.
 ghost use Rattle.std.specs.Prelude.{◌≡◌, ◌↔◌};
 ghost use Rattle.ged_c.specs.Calls.{IsPut, Means, IsCall, status_of, length_of, line_of, line_of_fault as line_told};
 
@@ -6,7 +6,7 @@ use crate::settings::{is_too_long, settings_of};
 use ged_tool::{Command, Fault, answer};
 use std::alloc::Global;
 
-/// How a call on one file ended.
+/// How a call on one file, or for a text about a fault, ended.
 #[derive(Clone, Copy, PartialEq, Eq, Debug)]
 pub enum Ended {
     /// The answer stands at the front of the room, and has this many bytes.
@@ -17,6 +17,8 @@ pub enum Ended {
     Refused(Fault),
     /// The number of the settings has no meaning.
     BadSettings,
+    /// There is no such text: no fault has the number, or no part of what it means.
+    NotFound,
 }
 
 impl Ended {
@@ -29,16 +31,17 @@ impl Ended {
             Ended::NoRoom(_) => 64,
             Ended::Refused(fault) => u32::from(fault.number()),
             Ended::BadSettings => 65,
+            Ended::NotFound => 66,
         }
     }
 
     /// The length of the answer in bytes, or 0 where there is none.
-    fn length(&self) -> usize
+    pub fn length(&self) -> usize
         ensures { result ≡ length_of self.now }
     {
         match self {
             Ended::Answered(length) | Ended::NoRoom(length) => *length,
-            Ended::Refused(_) | Ended::BadSettings => 0,
+            Ended::Refused(_) | Ended::BadSettings | Ended::NotFound => 0,
         }
     }
 
@@ -48,7 +51,7 @@ impl Ended {
     {
         match self {
             Ended::Refused(fault) => line_of_fault(fault),
-            Ended::Answered(_) | Ended::NoRoom(_) | Ended::BadSettings => 0,
+            _ => 0,
         }
     }
 }

@@ -4,10 +4,12 @@ ghost use Rattle.std.specs.Prelude.{◌≡◌};
 ghost use Rattle.ged_c.specs.Calls.{IsCall};
 ghost use Rattle.ged_c.specs.Comparisons.{IsComparison};
 ghost use Rattle.ged_c.specs.Digests.{IsDigestCall};
+ghost use Rattle.ged_c.specs.Texts.{IsNameCall, IsPartCall};
 
 use crate::answering::call;
 use crate::comparing::compare;
 use crate::digesting::digest_into;
+use crate::explaining::{name_into, part_into};
 use ged_tool::Command;
 use std::alloc::Global;
 
@@ -132,6 +134,35 @@ pub extern "C" fn gedtool_digest(
 {
     let ended = digest_into(alloc, settings, file, room);
     *line = ended.line();
+    ended.status()
+}
+
+/// The name of the fault with a number, as `LevelJump`.
+///
+/// Answers 0 where the name, of `length` bytes, stands at the front of the room; 64 where it has `length` bytes, for which the
+/// room is too small; 66 where no fault has the number, and then `length` is 0. Behind the name, and after any other status, the
+/// room is as it was. Takes no memory.
+#[unsafe(no_mangle)]
+pub extern "C" fn gedtool_fault_name(fault: u32, room: &mut [u8], length: &mut usize) -> u32
+    ensures { IsNameCall fault room.old room.new result length.new }
+{
+    let ended = name_into(fault, room);
+    *length = ended.length();
+    ended.status()
+}
+
+/// A part of what the fault with a number means: for 0 what is wrong, for 1 what usually causes it and what helps, for 2 lines of a
+/// file that has it.
+///
+/// Answers 0 where the part, of `length` bytes, stands at the front of the room; 64 where it has `length` bytes, for which the
+/// room is too small; 66 where no fault has the number, or the part is above 2, and then `length` is 0. Behind the part, and after
+/// any other status, the room is as it was. Takes no memory.
+#[unsafe(no_mangle)]
+pub extern "C" fn gedtool_explain(fault: u32, part: u32, room: &mut [u8], length: &mut usize) -> u32
+    ensures { IsPartCall fault part room.old room.new result length.new }
+{
+    let ended = part_into(fault, part, room);
+    *length = ended.length();
     ended.status()
 }
 

@@ -4,12 +4,14 @@
 mod answering;
 mod comparing;
 mod digesting;
+mod explaining;
 mod exports;
 mod settings;
 
 pub use answering::Ended;
 pub use comparing::Compared;
+pub use explaining::Part;
 pub use exports::{
-    gedtool_abi, gedtool_canon, gedtool_check, gedtool_digest, gedtool_lines, gedtool_same,
-    gedtool_show, gedtool_version,
+    gedtool_abi, gedtool_canon, gedtool_check, gedtool_digest, gedtool_explain, gedtool_fault_name,
+    gedtool_lines, gedtool_same, gedtool_show, gedtool_version,
 };

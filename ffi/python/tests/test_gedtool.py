@@ -77,13 +77,11 @@ class BesideTheProgram(unittest.TestCase):
         self.assertEqual(gedtool.digest(FAMILY), hashlib.sha256(told("canon", FAMILY_PATH)).hexdigest())
 
     def test_explanations(self):
-        from gedtool._faults import FAULTS
-
-        self.assertEqual([*FAULTS], [*range(1, 25), *range(27, 30)])
-        for number, (name, explanation) in FAULTS.items():
+        for number in range(1, 30):
+            fault = gedtool.GedtoolError(number)
             head, meaning, cause = told("explain", number).decode().split("\n")[:3]
-            self.assertEqual(head, f"fault {number}: {name}")
-            self.assertEqual(f"  meaning: {explanation}", f"{meaning} {cause.replace('  cause: ', '', 1)}")
+            self.assertEqual(head, f"fault {number}: {fault.name}")
+            self.assertEqual(f"  meaning: {fault.explanation}", f"{meaning} {cause.replace('  cause: ', '', 1)}")
 
 
 class Files(unittest.TestCase):
@@ -184,7 +182,7 @@ class Faults(unittest.TestCase):
         fault = caught.exception
         self.assertEqual((fault.number, fault.name, fault.line, fault.which), (22, "TooMany", 6, "second"))
         self.assertEqual(str(fault), "second file: fault 22 at line 6: TooMany")
-        self.assertTrue(fault.explanation.startswith("A line stands there twice that may stand there once. Two records"))
+        self.assertTrue(fault.explanation.startswith("A line that may stand once stands twice. Two records"))
         self.assertIsInstance(fault, (gedtool.GedtoolError, ValueError))
         again = pickle.loads(pickle.dumps(fault))
         self.assertEqual((type(again), str(again), vars(again)), (gedtool.FileFault, str(fault), vars(fault)))

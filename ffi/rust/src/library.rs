@@ -5,6 +5,10 @@ use crate::{Error, SameError, Settings, Which, LIMIT};
 const OK: u32 = 0;
 const ROOM_TOO_SMALL: u32 = 64;
 
+/// Parts of what a fault means.
+const MEANING: u32 = 0;
+const CAUSE: u32 = 1;
+
 /// The calls that write an answer into room.
 macro_rules! writing_calls {
     ($($name:ident)*) => {
@@ -43,6 +47,9 @@ extern "C" {
         digest_length: usize,
         line: *mut u64,
     ) -> u32;
+    #[cfg(test)]
+    fn gedtool_fault_name(fault: u32, room: *mut u8, room_length: usize, length: *mut usize) -> u32;
+    fn gedtool_explain(fault: u32, part: u32, room: *mut u8, room_length: usize, length: *mut usize) -> u32;
     fn gedtool_version() -> u32;
     #[cfg(test)]
     fn gedtool_abi() -> u32;
@@ -136,6 +143,44 @@ pub(crate) fn same(settings: Settings, first: &[u8], second: &[u8]) -> Result<bo
         which: if which == 1 { Which::First } else { Which::Second },
         error: Error::of_status(status, line),
     })
+}
+
+/// What the library's `explain` tells of a fault: what it means, and what usually causes it.
+pub(crate) fn explanation(fault: u32) -> String {
+    let mut explanation = part(fault, MEANING);
+    explanation.push(' ');
+    explanation + &part(fault, CAUSE)
+}
+
+/// A part of what a fault means. There is a text for each number that an error has.
+fn part(fault: u32, part: u32) -> String {
+    // SAFETY: the room is there with the length that is handed, and the length has a place of its own. The library writes both, and
+    // keeps nothing.
+    let text = text(|room, length| unsafe { gedtool_explain(fault, part, room.as_mut_ptr(), room.len(), length) });
+    text.unwrap_or_default()
+}
+
+/// The name of a fault, or `None` where no fault has the number.
+#[cfg(test)]
+pub(crate) fn name(fault: u32) -> Option<String> {
+    // SAFETY: as in `part`.
+    text(|room, length| unsafe { gedtool_fault_name(fault, room.as_mut_ptr(), room.len(), length) })
+}
+
+/// The text that a call writes into room, telling its length; `None` where there is none.
+fn text(call: impl Fn(&mut [u8], &mut usize) -> u32) -> Option<String> {
+    let mut room = vec![0; 256];
+    loop {
+        let mut length = 0;
+        match call(&mut room, &mut length) {
+            OK => {
+                room.truncate(length);
+                return String::from_utf8(room).ok();
+            }
+            ROOM_TOO_SMALL => room.resize(length, 0),
+            _ => return None,
+        }
+    }
 }
 
 /// The version of the library: major, minor and patch.

@@ -25,7 +25,7 @@ from __future__ import annotations
 
 from typing import NamedTuple, Optional
 
-from . import _library
+from . import _calls, _library
 from ._faults import FileFault, GedtoolError, OutOfMemory, TooLong
 from ._library import LIMIT, Data
 
@@ -45,7 +45,7 @@ __all__ = [
     "show",
 ]
 
-__version__ = _library.version()
+__version__ = _calls.version()
 
 
 class Notice(NamedTuple):

@@ -1,4 +1,4 @@
-"""The shared object by ctypes: memory that is handed to it, and how its statuses are read.
+"""Memory that is handed to the calls of the shared object, and how their statuses are read.
 
 Nothing is copied: a file is read where its bytes stand, and an answer is written into the `bytes` that the caller gets.
 """
@@ -10,9 +10,9 @@ import os
 from collections.abc import Iterator
 from contextlib import contextmanager
 from ctypes import POINTER, byref, c_char_p, c_int, c_size_t, c_ssize_t, c_uint32, c_uint64, c_void_p
-from pathlib import Path
-from typing import Any, Optional, Union
+from typing import Union
 
+from ._calls import HOLDING, OK, RELEASING, ROOM_TOO_SMALL, Calls, bound
 from ._faults import TOO_LONG, Which, fault
 
 Data = Union[bytes, bytearray, memoryview, str, "os.PathLike[str]"]
@@ -20,10 +20,6 @@ Data = Union[bytes, bytearray, memoryview, str, "os.PathLike[str]"]
 
 LIMIT = 1_073_741_824
 """The most bytes that a file may have."""
-
-ABI = 1
-OK = 0
-ROOM_TOO_SMALL = 64
 
 
 class _Buffer(ctypes.Structure):
@@ -49,69 +45,22 @@ class _Buffer(ctypes.Structure):
         return self.address or ctypes.addressof(self)
 
 
-def _bound(library: ctypes.CDLL, name: str, result: Any, *arguments: Any) -> Any:
-    """A call of a library, with its types. The library is not one that others bind too."""
-    call = getattr(library, name)
-    call.restype = result
-    call.argtypes = arguments
-    return call
-
-
 _python = ctypes.PyDLL(None)
-_get_buffer = _bound(_python, "PyObject_GetBuffer", c_int, ctypes.py_object, POINTER(_Buffer), c_int)
-_release_buffer = _bound(_python, "PyBuffer_Release", None, POINTER(_Buffer))
-_new_bytes = _bound(_python, "PyBytes_FromStringAndSize", c_void_p, c_char_p, c_ssize_t)
-_address_of_bytes = _bound(_python, "PyBytes_AsString", c_void_p, c_void_p)
-_shorten_bytes = _bound(_python, "_PyBytes_Resize", c_int, POINTER(c_void_p), c_ssize_t)
-_forget = _bound(_python, "Py_DecRef", None, c_void_p)
+_get_buffer = bound(_python, "PyObject_GetBuffer", c_int, ctypes.py_object, POINTER(_Buffer), c_int)
+_release_buffer = bound(_python, "PyBuffer_Release", None, POINTER(_Buffer))
+_new_bytes = bound(_python, "PyBytes_FromStringAndSize", c_void_p, c_char_p, c_ssize_t)
+_address_of_bytes = bound(_python, "PyBytes_AsString", c_void_p, c_void_p)
+_shorten_bytes = bound(_python, "_PyBytes_Resize", c_int, POINTER(c_void_p), c_ssize_t)
+_forget = bound(_python, "Py_DecRef", None, c_void_p)
 
 
-class _Calls:
-    """The calls of the shared object, by one kind of library of ctypes."""
-
-    def __init__(self, library: ctypes.CDLL) -> None:
-        file = (c_void_p, c_size_t)
-        self.answers = {
-            name: _bound(library, f"gedtool_{name}", c_uint32, c_uint32, *file, *file, POINTER(c_size_t), POINTER(c_uint64))
-            for name in ("lines", "check", "show", "canon")
-        }
-        self.same = _bound(
-            library, "gedtool_same", c_uint32, c_uint32, *file, *file, POINTER(c_uint32), POINTER(c_uint32), POINTER(c_uint64)
-        )
-        self.digest = _bound(library, "gedtool_digest", c_uint32, c_uint32, *file, *file, POINTER(c_uint64))
-        self.abi = _bound(library, "gedtool_abi", c_uint32)
-        self.version = _bound(library, "gedtool_version", c_uint32)
-
-
-def _load() -> tuple[_Calls, _Calls]:
-    """The calls that release the interpreter's lock, and those that hold it."""
-    path = os.environ.get("GEDTOOL_LIBRARY") or str(Path(__file__).with_name("libgedtool.so"))
-    try:
-        calls = _Calls(ctypes.CDLL(path))
-        abi = calls.abi()
-        if abi == ABI:
-            return calls, _Calls(ctypes.PyDLL(path))
-    except (OSError, AttributeError) as error:
-        raise ImportError(f"no library of gedtool: {error}", path=path) from error
-    raise ImportError(f"{path} has the ABI {abi}, and this package wants {ABI}", path=path)
-
-
-_releasing, _holding = _load()
-
-
-def version() -> str:
-    """The version of the library, as the program's --version has it."""
-    number = _releasing.version()
-    return f"{number // 10_000}.{number // 100 % 100}.{number % 100}"
-
-
-def _calls_for(*files: _Buffer) -> _Calls:
+def _calls_for(*files: _Buffer) -> Calls:
     """The calls to be made over these files.
 
     The library relies on a file's bytes to stay what they are. Those that can be written are kept from the interpreter's other
     threads by its lock; over all others it is released.
     """
-    return _releasing if all(file.is_read_only for file in files) else _holding
+    return RELEASING if all(file.is_read_only for file in files) else HOLDING
 
 
 class _Room:
