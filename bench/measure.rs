@@ -1,6 +1,6 @@
 //! `measure ROUNDS FILE.. -- NAME PROGRAM WORD.. -- NAME PROGRAM WORD..` runs each program on each file, with the
-//! file's name after its words, and in place of each word `{}`, and its output thrown away, and prints a table of
-//! what each took.
+//! file's name after its words, and for each `{}` in a word that name, and its output thrown away, and prints a table
+//! of what each took.
 //!
 //! All runs are interleaved: a round runs every command on every file once, so that other work on the machine
 //! falls on all of them alike. CPU time (user and system) is the best of the rounds, peak memory the greatest.
@@ -77,7 +77,7 @@ fn read_words(words: &[String]) -> Option<(usize, &[String], Vec<Tool<'_>>)> {
 /// Runs the tool once on the file. A status other than 0 and 1 (a fault of the file) is an error.
 fn run(tool: &Tool<'_>, input: &Input) -> Result<Cost> {
     let child = Command::new(tool.program)
-        .args(tool.words.iter().map(|word| if word == "{}" { &input.path } else { word }))
+        .args(tool.words.iter().map(|word| word.replace("{}", &input.path)))
         .arg(&input.path)
         .stdin(Stdio::null())
         .stdout(Stdio::null())
