@@ -8,8 +8,8 @@
  * many bytes must be there as a length says; where it is 0 the pointer may be null. A buffer must not overlap a file. A pointer to a
  * number must not be null, and the number must be in no file, in no buffer, and apart from every other number.
  *
- * Buffers. `lines`, `check`, `show`, `canon`, `fault_name` and `explain` write their answer into the buffer `room`, without a zero at
- * its end.
+ * Buffers. `lines`, `check`, `show`, `canon`, `fault_name` and `explain` write their answer into the buffer `room`, with no zero byte
+ * after it.
  * - GEDTOOL_OK: the answer is the first *length bytes of the buffer; the bytes after them are unchanged.
  * - GEDTOOL_ROOM_TOO_SMALL: there is an answer, but it is longer than the buffer. *length is its length, and the buffer is unchanged:
  *   call again with a buffer of that length.
