@@ -96,17 +96,17 @@ uint32_t gedtool_check(uint32_t settings, const uint8_t *file, size_t file_lengt
 uint32_t gedtool_show(uint32_t settings, const uint8_t *file, size_t file_length,
                       uint8_t *room, size_t room_length, size_t *length, uint64_t *line);
 
-/* The canonical spelling of an accepted file. */
+/* The canonical form of an accepted file. */
 uint32_t gedtool_canon(uint32_t settings, const uint8_t *file, size_t file_length,
                        uint8_t *room, size_t room_length, size_t *length, uint64_t *line);
 
-/* The digest of an accepted file: the SHA-256 of its canonical spelling, 32 bytes. Files that `gedtool_same` calls the same have the
+/* The digest of an accepted file: the SHA-256 of its canonical form, 32 bytes. Files that `gedtool_same` calls the same have the
  * same digest. It is written to the front of `digest`; if that has fewer than 32 bytes, the status is GEDTOOL_ROOM_TOO_SMALL, and the
  * file is not judged. */
 uint32_t gedtool_digest(uint32_t settings, const uint8_t *file, size_t file_length,
                         uint8_t *digest, size_t digest_length, uint64_t *line);
 
-/* Whether two accepted files have one canonical spelling: *same is 1 if they have, else 0. For a fault of a file, a file that is too
+/* Whether two accepted files have the same canonical form: *same is 1 if they have, else 0. For a fault of a file, a file that is too
  * long, or an allocation that failed, *which is 1 or 2 for the file concerned; otherwise it is 0. */
 uint32_t gedtool_same(uint32_t settings, const uint8_t *first, size_t first_length,
                       const uint8_t *second, size_t second_length,

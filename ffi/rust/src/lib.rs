@@ -95,7 +95,7 @@ pub fn show(file: &[u8], settings: Settings) -> Result<Vec<u8>, Error> {
     library::answer(Call::Show, settings, file)
 }
 
-/// The canonical spelling of an accepted file, in the edition of the settings.
+/// The canonical form of an accepted file, in the edition of the settings.
 ///
 /// # Errors
 /// `InFile` where the file is not accepted under the profile of the settings, `TooLong`, `Memory`.
@@ -112,7 +112,7 @@ pub fn canon(file: &[u8], settings: Settings) -> Result<Vec<u8>, Error> {
     library::answer(Call::Canon, settings, file)
 }
 
-/// Whether two accepted files have one canonical spelling. The first file is judged first.
+/// Whether two accepted files have the same canonical form. The first file is judged first.
 ///
 /// # Errors
 /// The error of the first file that has one, and which it is.
@@ -132,7 +132,7 @@ pub fn same(first: &[u8], second: &[u8], settings: Settings) -> Result<bool, Sam
     library::same(settings, first, second)
 }
 
-/// The SHA-256 of the canonical spelling. Two accepted files that are the same have one digest.
+/// The SHA-256 of the canonical form. Two accepted files that are the same have one digest.
 ///
 /// # Errors
 /// `InFile` where the file is not accepted under the profile of the settings, `TooLong`, `Memory`.

@@ -111,7 +111,7 @@ def show(data: Data, *, strict: bool = False) -> list[Structure]:
 
 
 def canon(data: Data, *, strict: bool = False, edition: int = 1) -> bytes:
-    """The canonical spelling of an accepted file, in the first or the second edition.
+    """The canonical form of an accepted file, in the first or the second edition.
 
     >>> file = b"0 HEAD\\n1 GEDC\\n2 VERS 7.0\\n0 @ANNA@ INDI\\n1 FAMS @VOID@\\n1 BIRT\\n2 DATE 03 MAY 1871\\n0 TRLR\\n"
     >>> print(canon(file, edition=2).decode("utf-8-sig"), end="")
@@ -128,7 +128,7 @@ def canon(data: Data, *, strict: bool = False, edition: int = 1) -> bytes:
 
 
 def same(first: Data, second: Data, *, strict: bool = False, edition: int = 1) -> bool:
-    """Whether two accepted files have one canonical spelling.
+    """Whether two accepted files have the same canonical form.
 
     A fault says by `which` of which file it is: "first" or "second".
 
@@ -144,7 +144,7 @@ def same(first: Data, second: Data, *, strict: bool = False, edition: int = 1) -
 
 
 def digest(data: Data, *, strict: bool = False, edition: int = 1) -> str:
-    """The SHA-256 of the canonical spelling, as 64 hexadecimal digits.
+    """The SHA-256 of the canonical form, as 64 hexadecimal digits.
 
     Two accepted files that are the `same` have one digest.
 
