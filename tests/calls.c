@@ -1,14 +1,14 @@
-// Calls the library as C programs do, for tests/c. Each answer is asked for with no room, with a byte too little, with as much as
-// it wants and with more; and it is seen that nothing else of the room is touched.
+// Calls the library as C programs do, for tests/c. Each answer is requested with an empty buffer, with a byte too few, with exactly
+// enough and with more, and it is checked that nothing else in the buffer is touched.
 //
-//   calls answer COMMAND SETTINGS FILE..    writes the answer, or tells the fault as the program does, without its name
-//   calls spoil SEED FILE                   writes the file with a few bytes changed, left out or put in
-//   calls spoiled COUNT FILE..              all calls on so many of such files, and that their answers agree with one another
-//   calls refuse FILE..                     all calls, with each request for memory refused in turn
-//   calls bounds                            lengths of 0 and above the limit, and numbers without a meaning
-//   calls threads FILE                      all calls from four threads on the same bytes
+//   calls answer COMMAND SETTINGS FILE..    writes the answer, or reports the fault as the program does, without its name
+//   calls spoil SEED FILE                   writes the file with a few bytes changed, removed or inserted
+//   calls spoiled COUNT FILE..              makes all calls on this many such files, and checks that their answers agree
+//   calls refuse FILE..                     makes all calls, with each request for memory refused in turn
+//   calls bounds                            tries lengths of 0 and above the limit, and numbers without a meaning
+//   calls threads FILE                      makes all calls from four threads on the same bytes
 //
-// The status is 9 where something is not as gedtool.h says.
+// The status is 9 if something is not as gedtool.h says.
 #define _GNU_SOURCE
 #include "rooms.h"
 

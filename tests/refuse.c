@@ -1,14 +1,13 @@
-// Refuses requests for memory. A program that is run with this library before the C library (LD_PRELOAD) asks here: the
-// requests are counted from 1, and those from the number REFUSE_FROM to the number REFUSE_TO are answered with no
-// memory. With the first of them one byte is written to file descriptor 9, so that whoever ran the program knows that it
-// came so far.
+// Refuses requests for memory. A program that is run with this library before the C library (LD_PRELOAD) makes its requests here:
+// they are counted from 1, and those from the number REFUSE_FROM to the number REFUSE_TO are answered with no memory. At the first
+// of them one byte is written to file descriptor 9, so that whoever ran the program knows that it got so far.
 //
-// A program may also say itself which requests are meant, by marks: lines that it writes to standard error, each by one
-// write. `refuse growth N` counts anew from 1, and refuses the request N, or none where N is 0; `refuse growths` refuses
-// all. `growths end` refuses no more. In its place the line `growths M, refused R` is written, where M requests came since
-// the other mark and R of them were refused; nothing is written in the place of the others.
+// A program may also say itself which requests are meant, by marks: lines that it writes to standard error, each in one write.
+// `refuse growth N` counts anew from 1, and refuses the request N, or none if N is 0; `refuse growths` refuses all. `growths end`
+// ends the refusals. In its place the line `growths M, refused R` is written, where M requests came since the other mark and R of
+// them were refused; nothing is written in place of the other marks.
 //
-// No header is included, so that a compiler without the C library's headers builds it too.
+// No header is included, so that a compiler without the C library's headers can build it too.
 
 typedef __SIZE_TYPE__ size_t;
 

@@ -1,5 +1,5 @@
-// Rooms for the library's answers, in which it is seen what was written, and requests for memory, which are counted and refused: the
-// linker hands the library's calls of `malloc`, `realloc` and `free` over (--wrap).
+// Buffers for the library's answers, which show what was written, and requests for memory, which are counted and refused: the
+// linker redirects the library's calls of `malloc`, `realloc` and `free` (--wrap).
 #ifndef ROOMS_H
 #define ROOMS_H
 

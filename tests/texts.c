@@ -1,11 +1,11 @@
-// Asks the library what it tells of faults, for tests/c. Each text is asked for with no room, with a byte too little, with as much as it
-// wants and with more.
+// Asks the library for its texts about faults, for tests/c. Each text is requested with an empty buffer, with a byte too few, with
+// exactly enough and with more.
 //
 //   texts name NUMBER          writes the name of a fault
 //   texts part NUMBER PART     writes a part of what it means
-//   texts all                  the names and parts of all numbers
+//   texts all                  tries the names and parts of all numbers
 //
-// The status is 9 where something is not as gedtool.h says.
+// The status is 9 if something is not as gedtool.h says.
 #include "rooms.h"
 
 // A text about a fault, for a room of this length, which is given marked; the name where the part is below 0.
