@@ -9,10 +9,9 @@ ghost use Rattle.ged_cmd.specs.inner.Tasks.{names_of};
 
 use crate::commands::{LIMIT, flushed, not_opened};
 use crate::digest_words::{Digests, is_input};
-use crate::explanations::write_text;
+use crate::explanations::{text_of, write_text};
 use crate::shelf::Shelf;
-use crate::tells::tell;
-use ged_explain::explain_fault;
+use crate::tells::{tell, tell_named};
 use ged_tool::{Fault, Outcome, Output, Settings, Sink, Source, Told, run_digest};
 use std::alloc::Global;
 use std::io;
@@ -41,7 +40,7 @@ pub(crate) fn tell_digests<S: Shelf, R: Source, W: Write, E: Write>(
     let mut gravest = Outcome::Done;
     for name in digests.files {
         let told = tell_digest(alloc, shelf, digests.settings, name, input, output);
-        tell_outcome(alloc, name, explains, &told, errors);
+        tell_outcome(alloc, name, explains, &told, shelf.reason(), errors);
         gravest = graver(gravest, told.outcome);
         if output.failed() {
             return gravest;
@@ -113,40 +112,41 @@ fn digest<R: Source, W: Write>(
     }
 }
 
-/// Tells the fault of a file, if it has one, behind the file's name, and explains it, where that is asked for. A fault of the
-/// output is told without a name.
-fn tell_outcome<E: Write>(alloc: Global, name: &str, explains: bool, told: &Told, errors: &mut E)
+/// Tells the fault of a file, if it has one, after the file's name, and explains it, where that is asked for. A fault of the
+/// output is told without a name. `reason` is why a device failed.
+fn tell_outcome<E: Write>(
+    alloc: Global,
+    name: &str,
+    explains: bool,
+    told: &Told,
+    reason: &str,
+    errors: &mut E,
+)
     ensures { told.now.outcome ≡ Outcome.Done → Keeps (E.contents errors.old) (E.contents errors.new) }
 {
     if let Outcome::Failed { which: _, fault } = told.outcome {
         // a line that can't be written changes no status
-        let _ = tell_behind(name, &fault, errors);
+        let _ = tell_after(name, &fault, errors);
         if explains {
-            explain_digest(alloc, name, &fault, &told.bytes, errors);
+            let place = place_of(name, &fault);
+            write_text(text_of(alloc, &told.bytes, fault, place, reason), errors);
         }
     }
 }
 
-/// Explains a fault of a file that stands under a name, or of the output.
-fn explain_digest<E: Write>(
-    alloc: Global,
-    name: &str,
-    fault: &Fault,
-    bytes: &[u8],
-    errors: &mut E,
-) {
-    let place = match fault {
+/// The name of the file that has a fault and stands under a name, or of the stream.
+fn place_of<'a>(name: &'a str, fault: &Fault) -> &'a str {
+    match fault {
         Fault::WriteFailed => "standard output",
         _ if is_input(name) => "standard input",
         _ => name,
-    };
-    write_text(explain_fault(alloc, bytes, fault, place), errors);
+    }
 }
 
-/// Writes the line that tells a fault, behind the name of the file that has it.
-fn tell_behind<E: Write>(name: &str, fault: &Fault, errors: &mut E) -> io::Result<()> {
-    if *fault != Fault::WriteFailed {
-        write!(errors, "{name}: ")?;
+/// Writes the line that tells a fault, after the name of the file that has it.
+fn tell_after<E: Write>(name: &str, fault: &Fault, errors: &mut E) -> io::Result<()> {
+    match fault {
+        Fault::WriteFailed => tell(None, fault, errors),
+        _ => tell_named(name, fault, errors),
     }
-    tell(None, fault, errors)
 }

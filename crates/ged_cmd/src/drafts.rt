@@ -3,6 +3,7 @@ ghost use Rattle.std.specs.Prelude.{◌≡◌, None, false, IfOk, OnOk, OnErr};
 ghost use Rattle.std.specs.Io.{WritesAtMost};
 ghost use Rattle.ged_tool.specs.Devices.{failed_after};
 
+use crate::reasons::Reason;
 use ged_tool::{Failed, Sink};
 use itoa::Buffer;
 use std::alloc::Global;
@@ -35,6 +36,7 @@ pub(crate) enum Fate {
 #[derive(Drop)]
 pub(crate) struct NewFile<'a, F: Files> {
     files: &'a F,
+    reason: &'a Reason,
     target: String,
     folder: String,
     path: String,
@@ -46,7 +48,12 @@ pub(crate) struct NewFile<'a, F: Files> {
 
 impl<'a, F: Files> NewFile<'a, F> {
     /// A new file for the place of the one of this name. Nothing is created yet.
-    pub(crate) fn new(alloc: Global, files: &'a F, name: &str) -> io::Result<NewFile<'a, F>>
+    pub(crate) fn new(
+        alloc: Global,
+        files: &'a F,
+        reason: &'a Reason,
+        name: &str,
+    ) -> io::Result<NewFile<'a, F>>
         ensures no_failure { IfOk result (λ draft. draft.failed ≡ false) }
     {
         let target = target_of(alloc, files, name)?;
@@ -55,6 +62,7 @@ impl<'a, F: Files> NewFile<'a, F> {
         let path = String::with_capacity(alloc, folder.len() + NAME_ROOM)?;
         Ok(NewFile {
             files,
+            reason,
             target,
             folder,
             path,
@@ -152,7 +160,8 @@ impl<'a, F: Files> NewFile<'a, F> {
                 self.fate = Fate::Placed;
                 Ok(())
             }
-            Err(_) => {
+            Err(error) => {
+                self.reason.note(&error);
                 self.give_up();
                 self.failed = true;
                 Err(Failed)
@@ -181,7 +190,12 @@ impl<F: Files> Sink for NewFile<'_, F> {
     fn write(&mut self, bytes: &[u8]) -> Result<usize, Failed> {
         match self.write_some(bytes) {
             Ok(count) if count > 0 || bytes.is_empty() => Ok(count),
-            _ => {
+            Ok(_) => {
+                self.failed = true;
+                Err(Failed)
+            }
+            Err(error) => {
+                self.reason.note(&error);
                 self.failed = true;
                 Err(Failed)
             }
@@ -215,7 +229,7 @@ fn mode_of<F: Files>(files: &F, path: &str) -> io::Result<Option<u32>> {
         return Err(io::Error::from(ErrorKind::IsADirectory));
     }
     if !metadata.is_file() {
-        return Err(io::Error::from(ErrorKind::InvalidInput));
+        return Err(io::Error::from(ErrorKind::Unsupported));
     }
     OpenOptions::new().write(true).open(files, path)?;
     Ok(Some(metadata.permissions().mode()))

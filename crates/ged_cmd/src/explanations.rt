@@ -5,12 +5,12 @@ ghost use Rattle.ged_tool.specs.Faults.{status_of};
 
 use crate::tells::finish;
 use crate::words::Request;
-use ged_explain::{explain_fault, explain_notice};
+use ged_explain::{explain_device, explain_fault, explain_notice};
 use ged_tool::{Command, Fault, Outcome, Settings, Told, Which, accept_as, notices};
 use std::alloc::{AllocError, Global};
 use std::io::Write;
 
-/// The most notices that are explained: each of them takes time by the length of the file.
+/// The most notices that are explained: each of them takes time by the length of the file. How many are left out is told.
 const MOST: usize = 100;
 
 /// Tells the outcome's fault, if it has one, and explains it, or the notices of `check`, where that is asked for; gives the
@@ -20,6 +20,7 @@ pub(crate) fn finish_told<E: Write>(
     request: Request<'_>,
     explains: bool,
     told: &Told,
+    reason: &str,
     errors: &mut E,
 ) -> u8
     ensures status { result ≡ status_of told.now.outcome }
@@ -27,19 +28,33 @@ pub(crate) fn finish_told<E: Write>(
 {
     let status = finish(&told.outcome, errors);
     if explains {
-        explain(alloc, request, told, errors);
+        explain(alloc, request, told, reason, errors);
     }
     status
 }
 
-fn explain<E: Write>(alloc: Global, request: Request<'_>, told: &Told, errors: &mut E) {
+fn explain<E: Write>(alloc: Global, request: Request<'_>, told: &Told, reason: &str, errors: &mut E) {
     match told.outcome {
         Outcome::Failed { which, fault } => {
             let name = name_of(request, which, fault);
-            write_text(explain_fault(alloc, &told.bytes, &fault, name), errors);
+            write_text(text_of(alloc, &told.bytes, fault, name, reason), errors);
         }
         Outcome::Done => explain_done(alloc, request, &told.bytes, errors),
         Outcome::Different => {}
+    }
+}
+
+/// A fault in words: one of a device with the system's reason.
+pub(crate) fn text_of(
+    alloc: Global,
+    bytes: &[u8],
+    fault: Fault,
+    name: &str,
+    reason: &str,
+) -> Result<String, AllocError> {
+    match fault {
+        Fault::ReadFailed | Fault::WriteFailed => explain_device(alloc, &fault, name, reason),
+        _ => explain_fault(alloc, bytes, &fault, name),
     }
 }
 
@@ -121,6 +136,11 @@ fn explain_notices<E: Write>(
     };
     for notice in found.as_slice().iter().take(MOST) {
         write_text(explain_notice(alloc, bytes, notice, name), errors);
+    }
+    let more = found.len().saturating_sub(MOST);
+    if more > 0 {
+        // a line that can't be written changes no status
+        let _ = writeln!(errors, "{more} more notices are not explained");
     }
 }
 

@@ -19,6 +19,7 @@ mod digests;
 mod drafts;
 mod explanations;
 mod meanings;
+mod reasons;
 mod shelf;
 mod tells;
 mod wanted;
@@ -29,6 +30,7 @@ use commands::answer_request;
 use digests::tell_digests;
 use explanations::finish_told;
 use ged_tool::{Input, Outcome, Output, Sink, Source};
+use reasons::{Noted, Reason};
 use shelf::{Disk, Shelf};
 use std::alloc::Global;
 use std::io::Write;
@@ -46,12 +48,14 @@ struct Streams<R, W, E> {
 }
 
 fn main(rt: HostRuntime) -> ExitCode {
+    let reason = Reason::new();
     let mut streams = Streams {
-        input: Input::new(rt.stdin()),
-        output: Output::new(rt.stdout()),
+        input: Input::new(Noted::new(rt.stdin(), &reason)),
+        output: Output::new(Noted::new(rt.stdout(), &reason)),
         errors: rt.stderr(),
     };
-    let status = perform(rt.alloc(), &Disk::new(&rt), words_of(&rt), &mut streams);
+    let disk = Disk::new(&rt, &reason);
+    let status = perform(rt.alloc(), &disk, words_of(&rt), &mut streams);
     ExitCode::from(status)
 }
 
@@ -174,7 +178,8 @@ fn obey<S: Shelf, R: Source, W: Write, E: Write>(
     match asked.wanted {
         Some(Wanted::Request(request)) => {
             let told = answer_request(alloc, shelf, request, input, output);
-            finish_told(alloc, request, asked.explains, &told, errors)
+            let reason = shelf.reason();
+            finish_told(alloc, request, asked.explains, &told, reason, errors)
         }
         Some(Wanted::Digests(digests)) => {
             let explains = asked.explains;

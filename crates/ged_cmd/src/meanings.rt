@@ -56,6 +56,10 @@ impl Display for Meanings {
             return write_meaning(meaning, f);
         }
         for meaning in meanings() {
+            // an empty line stands between two
+            if meaning.number > 1 {
+                f.write_str("\n")?;
+            }
             write_meaning(meaning, f)?;
         }
         Ok(())

@@ -5,6 +5,7 @@ ghost use Rattle.ged_tool.specs.Devices.{failed_after};
 ghost use Rattle.ged_cmd.specs.Program.{IsEmpty, Withholds};
 
 use crate::drafts::{Fate, NewFile};
+use crate::reasons::{Noted, Reason};
 use ged_tool::{Failed, Fault, Input, Sink, Source};
 use std::alloc::{AllocError, Global};
 use std::fs::File;
@@ -24,6 +25,9 @@ pub(crate) trait Shelf {
 
     // what is known of files by their names
     ghost files: { Self → Files Self.Device Self.Draft };
+
+    /// The reason of the last failure of a device, in words; empty where none is known.
+    fn reason(&self) -> &'static str;
 
     /// Opens a file, or answers Failed where it can't be opened.
     fn open(&self, name: &str) -> Result<Self::Device, Failed>
@@ -59,17 +63,18 @@ pub(crate) trait Shelf {
 #[derive(Drop)]
 pub(crate) struct Disk<'a, F> {
     files: &'a F,
+    reason: &'a Reason,
 }
 
 impl<'a, F: Files> Disk<'a, F> {
-    /// All files that the handle gives leave to open. Takes no memory.
-    pub(crate) fn new(files: &'a F) -> Disk<'a, F> {
-        Disk { files }
+    /// All files that the handle gives leave to open. Why one fails is noted. Takes no memory.
+    pub(crate) fn new(files: &'a F, reason: &'a Reason) -> Disk<'a, F> {
+        Disk { files, reason }
     }
 }
 
 impl<'a, F: Files> Shelf for Disk<'a, F> {
-    type Device = Input<F::File>;
+    type Device = Input<Noted<'a, F::File>>;
 
     type Draft = NewFile<'a, F>;
 
@@ -81,17 +86,27 @@ impl<'a, F: Files> Shelf for Disk<'a, F> {
       fate = λ draft. draft.fate;
     } };
 
-    fn open(&self, name: &str) -> Result<Input<F::File>, Failed> {
+    fn reason(&self) -> &'static str {
+        self.reason.words()
+    }
+
+    fn open(&self, name: &str) -> Result<Input<Noted<'a, F::File>>, Failed> {
         match File::open(self.files, name) {
-            Ok(file) => Ok(Input::new(file)),
-            Err(_) => Err(Failed),
+            Ok(file) => Ok(Input::new(Noted::new(file, self.reason))),
+            Err(error) => {
+                self.reason.note(&error);
+                Err(Failed)
+            }
         }
     }
 
     fn draft(&self, alloc: Global, name: &str) -> Result<NewFile<'a, F>, Fault> {
-        match NewFile::new(alloc, self.files, name) {
+        match NewFile::new(alloc, self.files, self.reason, name) {
             Ok(draft) => Ok(draft),
-            Err(error) => Err(fault_of(&error)),
+            Err(error) => {
+                self.reason.note(&error);
+                Err(fault_of(&error))
+            }
         }
     }
 

@@ -46,6 +46,9 @@ For more information, try '--help'.
 /// More bytes than any line that tells a fault has.
 const LINE_ROOM: usize = 80;
 
+/// More bytes than such a line has after the longest name by which the system opens a file.
+const NAMED_LINE_ROOM: usize = 4_200;
+
 /// Tells the outcome's fault, if it has one, and gives the outcome's status.
 pub(crate) fn finish<E: Write>(outcome: &Outcome, errors: &mut E) -> u8
     ensures status { result ≡ status_of outcome.now }
@@ -69,6 +72,24 @@ pub(crate) fn tell<E: Write>(
     write_line(which, fault, &mut line)?;
     let length = line.position() as usize;
     errors.write_all(&line.get_ref()[..length.min(LINE_ROOM)])
+}
+
+/// Writes the line that tells a fault after a name, by one write where the writer takes it whole and the name is no longer than
+/// one of the system's. It takes no memory.
+pub(crate) fn tell_named<E: Write>(name: &str, fault: &Fault, errors: &mut E) -> io::Result<()> {
+    let mut line = Cursor::new([0; NAMED_LINE_ROOM]);
+    match write_named_line(name, fault, &mut line) {
+        Ok(()) => {
+            let length = line.position() as usize;
+            errors.write_all(&line.get_ref()[..length.min(NAMED_LINE_ROOM)])
+        }
+        Err(_) => write_named_line(name, fault, errors),
+    }
+}
+
+fn write_named_line<W: Write>(name: &str, fault: &Fault, line: &mut W) -> io::Result<()> {
+    write!(line, "{name}: ")?;
+    write_line(None, fault, line)
 }
 
 fn write_line<W: Write>(which: Option<Which>, fault: &Fault, line: &mut W) -> io::Result<()> {

@@ -26,8 +26,11 @@ use std::alloc::{AllocError, Global};
 /// The name that help and usage give the program, whatever file it lies in.
 const NAME: &str = "gedtool";
 
-/// The version that `--version` tells: that of the file VERSION.
-const VERSION: &str = "0.1.0";
+/// What `--version` tells after the program's name: the version of the file VERSION, the editions of the canonical form, and the sum
+/// of the logic under which the program is proved, as `rt --version` tells it.
+const VERSION: &str = "0.1.0
+canonical form: editions 1 and 2
+proved by Rattle, logic dac8208d650f15bf";
 
 /// What has one answer.
 #[derive(Clone, Copy)]
