@@ -1,9 +1,12 @@
 // How a call ended, and an answer about one file in a room that the caller hands.
-ghost use Rattle.std.specs.Prelude.{◌≡◌, ◌↔◌};
-ghost use Rattle.ged_c.specs.Calls.{IsPut, Means, IsCall, status_of, length_of, line_of, line_of_fault as line_told};
+ghost use Rattle.std.specs.Prelude.{◌≡◌, ◌≤◌, length};
+ghost use Rattle.ged_tool.specs.Profiles.{profile_of, edition_of};
+ghost use Rattle.ged_c.specs.Settings.{limit};
+ghost use Rattle.ged_c.specs.Calls.{IsPut, Means, MeansAs, IsCall, status_of, length_of, line_of, line_of_fault as line_told};
 
+use crate::respelling::respell_into;
 use crate::settings::{is_too_long, settings_of};
-use ged_tool::{Command, Fault, answer};
+use ged_tool::{Command, Fault, Settings, answer};
 use std::alloc::Global;
 
 /// How a call on one file, or for a text about a fault, ended.
@@ -100,6 +103,23 @@ fn answer_into(
     if is_too_long(file.len()) {
         return Ended::Refused(Fault::TooLong);
     }
+    match command {
+        Command::Lines => respell_into(alloc, file, room),
+        _ => answer_text(alloc, settings, command, file, room),
+    }
+}
+
+/// Answers a file that is not too long into the room, by one text. Grows.
+fn answer_text(
+    alloc: Global,
+    settings: Settings,
+    command: Command,
+    file: &[u8],
+    room: &mut [u8],
+) -> Ended
+    requires { length file.now ≤ limit }
+    ensures { MeansAs (profile_of settings) (edition_of settings) command file.now room.old room.new result }
+{
     match answer(alloc, settings, command, file) {
         Ok(text) => put(&text, room),
         Err(fault) => Ended::Refused(fault),

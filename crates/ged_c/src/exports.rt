@@ -1,6 +1,6 @@
 // What C calls. Each call is declared in ffi/c/gedtool.h, which also says what a caller owes. C passes nothing for the allocator,
 // and a slice as a pointer and a length.
-ghost use Rattle.std.specs.Prelude.{◌≡◌};
+ghost use Rattle.std.specs.Prelude.{◌≡◌, ◌≤◌, ◌+◌, length as length_of_list};
 ghost use Rattle.ged_c.specs.Calls.{IsCall};
 ghost use Rattle.ged_c.specs.Comparisons.{IsComparison};
 ghost use Rattle.ged_c.specs.Digests.{IsDigestCall};
@@ -13,7 +13,8 @@ use crate::explaining::{name_into, part_into};
 use ged_tool::Command;
 use std::alloc::Global;
 
-/// The file's lines in their canonical spelling, behind a byte order mark. Each line is judged by itself, so faults 1 to 8 are told.
+/// The file's lines in their canonical spelling, after a byte order mark. Each line is judged by itself, so faults 1 to 8 are told.
+/// The answer has at most 4 bytes more than the file.
 ///
 /// Answers 0 where the answer, of `length` bytes, stands at the front of the room; 64 where it has `length` bytes, for which the
 /// room is too small; the number of the file's first fault, which stands at `line`; 24 where the file is longer than
@@ -28,7 +29,8 @@ pub extern "C" fn gedtool_lines(
     length: &mut usize,
     line: &mut u64,
 ) -> u32
-    ensures { IsCall Command.Lines settings file.now room.old room.new result length.new line.new }
+    ensures answered { IsCall Command.Lines settings file.now room.old room.new result length.new line.new }
+    ensures short { length.new ≤ length_of_list file.now + 4 }
 {
     call(alloc, Command::Lines, settings, file, room, length, line)
 }

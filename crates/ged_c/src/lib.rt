@@ -6,6 +6,7 @@ mod comparing;
 mod digesting;
 mod explaining;
 mod exports;
+mod respelling;
 mod settings;
 
 pub use answering::Ended;
