@@ -28,7 +28,7 @@ pub(crate) fn strict_flag<'a>(alloc: Global) -> Arg<'a>
     Arg::new(alloc, STRICT)
         .long(STRICT)
         .action(ArgAction::SetTrue)
-        .help("Refuses a file that has a notice")
+        .help("Refuse a file that has a notice")
 }
 
 /// The flag for the second edition of the canonical form.
@@ -38,7 +38,7 @@ pub(crate) fn second_flag<'a>(alloc: Global) -> Arg<'a>
     Arg::new(alloc, SECOND)
         .long(SECOND)
         .action(ArgAction::SetTrue)
-        .help("Leaves out the leading zeros of dates, ages and counts")
+        .help("Also leave out leading zeros of dates, ages and counts")
 }
 
 /// The flag for the form that keeps the names of identifiers.
@@ -48,7 +48,7 @@ pub(crate) fn keep_names_flag<'a>(alloc: Global) -> Arg<'a>
     Arg::new(alloc, KEEP_NAMES)
         .long(KEEP_NAMES)
         .action(ArgAction::SetTrue)
-        .help("Leaves identifiers as they are")
+        .help("Leave identifiers as they are")
 }
 
 /// The option that names the file that the answer goes into.
@@ -59,7 +59,7 @@ pub(crate) fn output_option<'a>(alloc: Global) -> Arg<'a>
         .long(OUTPUT)
         .short('o')
         .value_name("FILE")
-        .help("Writes the answer into a file, whole or not at all")
+        .help("Write the answer to this file, whole or not at all")
 }
 
 /// The flag under which faults and notices are explained.
@@ -69,7 +69,7 @@ pub(crate) fn explain_flag<'a>(alloc: Global) -> Arg<'a>
     Arg::new(alloc, EXPLAIN)
         .long(EXPLAIN)
         .action(ArgAction::SetTrue)
-        .help("Explains faults and notices on standard error")
+        .help("Explain faults and notices on standard error")
 }
 
 /// An argument that may be left out.
@@ -85,5 +85,5 @@ pub(crate) fn first_argument<'a>(alloc: Global) -> Arg<'a>
 {
     Arg::new(alloc, "A")
         .required(true)
-        .help("The first file to read; standard input where it is '-'")
+        .help("The first file to read; standard input if it is '-'")
 }

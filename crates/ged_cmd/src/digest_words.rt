@@ -8,6 +8,7 @@ ghost use Rattle.ged_cmd.specs.Tasks.{digest_asked, digests as digests_task_of, 
 ghost use Rattle.ged_cmd.specs.inner.Tasks.{digests_task, names_of};
 
 use crate::arguments::{explain_flag, second_flag, strict_flag};
+use crate::help;
 use crate::words::{named_command, settings_of};
 use clap::{Arg, ArgAction, ArgMatches};
 use ged_tool::Settings;
@@ -70,8 +71,7 @@ pub(crate) fn digest_command<'a>(alloc: Global) -> Result<clap::Command<'a>, All
 fn files_command<'a>(alloc: Global) -> Result<clap::Command<'a>, AllocError>
     ensures { IfOk result (IsCommand line.over_files) }
 {
-    let about = "Writes a line with the digest of the canonical form of each file";
-    named_command(alloc, "digest", about).arg(files_argument(alloc))
+    named_command(alloc, "digest", help::DIGEST).arg(files_argument(alloc))
 }
 
 /// The files, of which there is one at least.
@@ -81,5 +81,5 @@ fn files_argument<'a>(alloc: Global) -> Arg<'a>
     Arg::new(alloc, "FILE")
         .required(true)
         .action(ArgAction::Append)
-        .help("The files to read, one after the other; standard input where one is '-'")
+        .help("The files to read, one after the other; standard input for '-'")
 }

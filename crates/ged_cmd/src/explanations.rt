@@ -33,7 +33,13 @@ pub(crate) fn finish_told<E: Write>(
     status
 }
 
-fn explain<E: Write>(alloc: Global, request: Request<'_>, told: &Told, reason: &str, errors: &mut E) {
+fn explain<E: Write>(
+    alloc: Global,
+    request: Request<'_>,
+    told: &Told,
+    reason: &str,
+    errors: &mut E,
+) {
     match told.outcome {
         Outcome::Failed { which, fault } => {
             let name = name_of(request, which, fault);

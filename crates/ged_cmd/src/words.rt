@@ -17,6 +17,7 @@ use crate::arguments::{
     keep_names_flag, output_option, second_flag, strict_flag,
 };
 use crate::digest_words::digest_command;
+use crate::help::{self, Help};
 use crate::meanings::meaning_called;
 use clap::{ArgMatches, Error};
 use ged_explain::{Meaning, meanings};
@@ -229,24 +230,26 @@ pub(crate) fn command_line<'a>(alloc: Global) -> Result<clap::Command<'a>, Alloc
 fn bare_program<'a>(alloc: Global) -> Result<clap::Command<'a>, AllocError>
     ensures { IfOk result (IsCommand line.bare_program) }
 {
-    named_command(alloc, NAME, "Reads FamilySearch GEDCOM 7.0 files")
+    named_command(alloc, NAME, help::PROGRAM)
         .subcommand_required(true)
         .version(VERSION)
         .bin_name(NAME)
 }
 
 /// A command that takes nothing.
-pub(crate) fn named_command<'a>(alloc: Global, name: &'a str, about: &'a str) -> clap::Command<'a>
+pub(crate) fn named_command<'a>(alloc: Global, name: &'a str, help: Help) -> clap::Command<'a>
     ensures { IsCommand (new_app name.entry.now) result }
 {
-    clap::Command::new(alloc, name).about(about)
+    clap::Command::new(alloc, name)
+        .about(help.about)
+        .long_about(help.purpose)
+        .after_long_help(help.more)
 }
 
 fn lines_command<'a>(alloc: Global) -> Result<clap::Command<'a>, AllocError>
     ensures { IfOk result (IsCommand line.lines) }
 {
-    let about = "Writes the lines of a file in their canonical spelling";
-    file_command(alloc, "lines", about)?
+    file_command(alloc, "lines", help::LINES)?
         .arg(output_option(alloc))?
         .arg(explain_flag(alloc))
 }
@@ -254,8 +257,7 @@ fn lines_command<'a>(alloc: Global) -> Result<clap::Command<'a>, AllocError>
 fn check_command<'a>(alloc: Global) -> Result<clap::Command<'a>, AllocError>
     ensures { IfOk result (IsCommand line.check) }
 {
-    let about = "Tells the notices of a file, and that it is accepted";
-    file_command(alloc, "check", about)?
+    file_command(alloc, "check", help::CHECK)?
         .arg(strict_flag(alloc))?
         .arg(explain_flag(alloc))
 }
@@ -263,8 +265,7 @@ fn check_command<'a>(alloc: Global) -> Result<clap::Command<'a>, AllocError>
 fn show_command<'a>(alloc: Global) -> Result<clap::Command<'a>, AllocError>
     ensures { IfOk result (IsCommand line.show) }
 {
-    let about = "Writes the level, tag and kind of each structure of a file";
-    file_command(alloc, "show", about)?
+    file_command(alloc, "show", help::SHOW)?
         .arg(strict_flag(alloc))?
         .arg(output_option(alloc))?
         .arg(explain_flag(alloc))
@@ -273,7 +274,7 @@ fn show_command<'a>(alloc: Global) -> Result<clap::Command<'a>, AllocError>
 fn canon_command<'a>(alloc: Global) -> Result<clap::Command<'a>, AllocError>
     ensures { IfOk result (IsCommand line.canon) }
 {
-    file_command(alloc, "canon", "Writes a file in its canonical form")?
+    file_command(alloc, "canon", help::CANON)?
         .arg(strict_flag(alloc))?
         .arg(second_flag(alloc))?
         .arg(keep_names_flag(alloc))?
@@ -285,21 +286,20 @@ fn canon_command<'a>(alloc: Global) -> Result<clap::Command<'a>, AllocError>
 fn file_command<'a>(
     alloc: Global,
     name: &'a str,
-    about: &'a str,
+    help: Help,
 ) -> Result<clap::Command<'a>, AllocError>
     ensures { IfOk result (IsCommand (line.over_file name.entry.now)) }
 {
-    let help = "The file to read; standard input where it is left out or '-'";
-    named_command(alloc, name, about).arg(file_argument(alloc, "FILE", help))
+    let file = "The file to read; standard input if it is left out or '-'";
+    named_command(alloc, name, help).arg(file_argument(alloc, "FILE", file))
 }
 
 /// The subcommand about faults.
 fn explain_command<'a>(alloc: Global) -> Result<clap::Command<'a>, AllocError>
     ensures { IfOk result (IsCommand line.explain) }
 {
-    let about = "Explains a fault, by its number or its name";
-    let help = "The number or the name of a fault; all faults where it is left out";
-    named_command(alloc, "explain", about).arg(file_argument(alloc, "FAULT", help))
+    let fault = "The number or the name of a fault; all faults if it is left out";
+    named_command(alloc, "explain", help::EXPLAIN).arg(file_argument(alloc, "FAULT", fault))
 }
 
 /// The subcommand over two files.
@@ -317,9 +317,8 @@ fn same_command<'a>(alloc: Global) -> Result<clap::Command<'a>, AllocError>
 fn two_files_command<'a>(alloc: Global) -> Result<clap::Command<'a>, AllocError>
     ensures { IfOk result (IsCommand line.over_two_files) }
 {
-    let about = "Tells whether two files have one canonical form";
-    let help = "The second file to read; standard input where it is left out or '-'";
-    named_command(alloc, "same", about)
+    let second = "The second file to read; standard input if it is left out or '-'";
+    named_command(alloc, "same", help::SAME)
         .arg(first_argument(alloc))?
-        .arg(file_argument(alloc, "B", help))
+        .arg(file_argument(alloc, "B", second))
 }

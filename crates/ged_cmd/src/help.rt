@@ -1,0 +1,166 @@
+// What help says of the program and of each command.
+
+/// The texts of help on the program or a command.
+#[derive(Clone, Copy)]
+pub(crate) struct Help {
+    /// What it does, in a line: the head of short help.
+    pub(crate) about: &'static str,
+    /// What it is for: the head of long help.
+    pub(crate) purpose: &'static str,
+    /// Settings, statuses and examples: the end of long help.
+    pub(crate) more: &'static str,
+}
+
+pub(crate) const PROGRAM: Help = Help {
+    about: "Read FamilySearch GEDCOM 7.0 files",
+    purpose: "Read FamilySearch GEDCOM 7.0 files: report what is wrong with a file and where, write
+the one canonical form of a file, and say whether two files hold the same records.",
+    more: "Exit status:
+  0  The answer was written; of same: the files are the same.
+  1  A file has a fault; of same also: the files differ.
+  2  A usage error.
+  3  A file cannot be read or written, is longer than 1,073,741,824 bytes, or there is
+     not enough memory.
+
+Examples:
+  gedtool check family.ged            What is wrong with the file, or its notices
+  gedtool same one.ged another.ged    Whether the two hold the same records
+  gedtool help canon                  More about a command",
+};
+
+pub(crate) const LINES: Help = Help {
+    about: "Write the lines of a file in their canonical spelling",
+    purpose: "Write the lines of a file in their canonical spelling: a byte order mark first, a line
+feed after every line, and no space after a tag without a value. Each line is judged by
+itself; nothing else of the file is judged or changed.",
+    more: "Exit status:
+  0  The answer was written.
+  1  A line has a fault.
+  2  A usage error.
+  3  A file cannot be read or written, or there is not enough memory.
+
+Examples:
+  gedtool lines family.ged > spelled.ged
+  gedtool lines -o family.ged family.ged",
+};
+
+pub(crate) const CHECK: Help = Help {
+    about: "Judge a file, and report its notices",
+    purpose: "Judge a file: its lines, its structures, its cross-references, and each structure by the
+structure tables. Of an accepted file each notice is reported, which is a one-way link
+or a standard tag that the tables do not list there, and then 'accepted' is written. Of
+any other file the first fault is reported.",
+    more: "Profiles:
+  A file with notices is accepted. With --strict each notice is a fault.
+
+Exit status:
+  0  The file is accepted.
+  1  It has a fault.
+  2  A usage error.
+  3  It cannot be read, or there is not enough memory.
+
+Examples:
+  gedtool check family.ged
+  gedtool check --strict --explain family.ged",
+};
+
+pub(crate) const SHOW: Help = Help {
+    about: "Write the level, tag and kind of payload of each structure",
+    purpose: "Judge a file as 'check' does, and write a line for each structure of an accepted one: its
+level, its tag, and which kind of payload the structure tables require, or '-' where they
+have no row for it.",
+    more: "Profiles:
+  A file with notices is accepted. With --strict each notice is a fault.
+
+Exit status:
+  0  The answer was written.
+  1  The file has a fault.
+  2  A usage error.
+  3  A file cannot be read or written, or there is not enough memory.
+
+Examples:
+  gedtool show family.ged
+  gedtool show -o family.txt family.ged",
+};
+
+pub(crate) const CANON: Help = Help {
+    about: "Write a file in its canonical form",
+    purpose: "Judge a file as 'check' does, and write an accepted one in its canonical form, which all
+files that hold the same records share: structures in order, cross-reference identifiers
+renamed, unused ones left out, lines spelled alike.",
+    more: "Profiles:
+  A file with notices is accepted. With --strict each notice is a fault.
+
+Editions:
+  The first edition leaves dates, ages and counts as they are, but for the keyword of the
+  default calendar. The second, by --second, also leaves out their leading zeros.
+
+Exit status:
+  0  The answer was written.
+  1  The file has a fault.
+  2  A usage error.
+  3  A file cannot be read or written, or there is not enough memory.
+
+Examples:
+  gedtool canon family.ged > canonical.ged
+  gedtool canon --keep-names -o family.ged family.ged",
+};
+
+pub(crate) const SAME: Help = Help {
+    about: "Say whether two files have the same canonical form",
+    purpose: "Judge two files as 'check' does, and write 'same' if they have the same canonical form, and
+so hold the same records; else write 'different'.",
+    more: "Profiles:
+  A file with notices is accepted. With --strict each notice is a fault.
+
+Editions:
+  By default the first editions of the canonical forms are compared, with --second the
+  second ones, and with --keep-names forms in which identifiers are as they are.
+
+Exit status:
+  0  The files are the same.
+  1  They differ, or one has a fault.
+  2  A usage error.
+  3  A file cannot be read, or there is not enough memory.
+
+Examples:
+  gedtool same one.ged another.ged
+  gedtool canon one.ged | gedtool same - another.ged",
+};
+
+pub(crate) const DIGEST: Help = Help {
+    about: "Write the digest of the canonical form of each file",
+    purpose: "Judge each file as 'check' does, and write the SHA-256 of its canonical form and its name, in
+the format of sha256sum. Files that hold the same records have the same digest. A file that
+is not accepted is reported, and the next one is read.",
+    more: "Profiles:
+  A file with notices is accepted. With --strict each notice is a fault.
+
+Editions:
+  By default the digest is of the first edition of the canonical form, with --second of the
+  second.
+
+Exit status:
+  0  All digests were written.
+  1  A file has a fault.
+  2  A usage error.
+  3  A file cannot be read, the answer cannot be written, or there is not enough memory.
+
+Examples:
+  gedtool digest *.ged | sort
+  gedtool digest --explain one.ged another.ged",
+};
+
+pub(crate) const EXPLAIN: Help = Help {
+    about: "Explain a fault, by its number or its name",
+    purpose: "Say what a fault means, what usually causes it and what helps, with an example; if no
+fault is named, say so of every fault.",
+    more: "Exit status:
+  0  The explanation was written.
+  2  A usage error, such as a number that no fault has.
+  3  The answer cannot be written, or there is not enough memory.
+
+Examples:
+  gedtool explain 22
+  gedtool explain TooMany",
+};
