@@ -58,10 +58,10 @@ module _ (parts : List SpelledPart) (count place : ℕ) (part : SpelledPart) (be
       → HasPut parts (count + 1) ((place + length part.made.items) + length part.kept.now) before after
   unfolding made kept rest
   HasPut-more between after first second = record {
-      text = (h.text ++ made) ++ kept;
-      split = split;
-      front = put_after (h.text ++ made) kept (place + length made) before between after (put_after h.text made place before now between h.front first) second;
-    }
+    text = (h.text ++ made) ++ kept;
+    split = split;
+    front = put_after (h.text ++ made) kept (place + length made) before between after (put_after h.text made place before now between h.front first) second;
+  }
 
   -- the same, where the places are known by what they are
   pub HasPut-step : (between after : Bytes) (first second : ℕ) → first ≡ place + length part.made.items

@@ -1,0 +1,27 @@
+// On ged_line.
+use ged_line::{LineFault, view_line, view_lines, write_view};
+use std::alloc::AllocError;
+
+/// Appends the canonical spelling of a line, or tells what is wrong with it.
+pub fn respell(piece: &[u8], out: &mut Vec<u8>) -> Result<Option<LineFault>, AllocError> {
+    match view_line(piece) {
+        Ok(line) => {
+            write_view(&line, out)?;
+            Ok(None)
+        }
+        Err(fault) => Ok(Some(fault)),
+    }
+}
+
+/// How many lines of a file have a tag.
+pub fn count_lines(bytes: &[u8], tag: &str) -> usize {
+    let mut count = 0usize;
+    for line in view_lines(bytes) {
+        if let Ok(spelled) = line {
+            if spelled.line.tag() == tag {
+                count = count.saturating_add(1);
+            }
+        }
+    }
+    count
+}
