@@ -44,6 +44,23 @@ pub fn names_of_one_group(bytes: usize, out: &mut impl Write) -> Result<()> {
     each_names_another(&names, out)
 }
 
+/// The same with names of eight bytes, of which 2,187 each say the same number by the low four bits of their bytes, so that gedtool
+/// looks for them in one slot of its table.
+pub fn names_of_one_slot(bytes: usize, out: &mut impl Write) -> Result<()> {
+    const DIGITS: [[u8; 3]; 8] = [*b"1AQ", *b"2BR", *b"3CS", *b"4DT", *b"5EU", *b"6FV", *b"7GW", *b"8HX"];
+    let name = |number: usize| {
+        let (mut group, mut choice) = (number / 2187, number % 2187);
+        let mut name = [b'I'; 8];
+        for byte in name.iter_mut().skip(1) {
+            *byte = DIGITS[group % 8][choice % 3];
+            (group, choice) = (group / 8, choice / 3);
+        }
+        text(name)
+    };
+    let names: Vec<String> = (0..count_of(bytes, 8)).map(name).collect();
+    each_names_another(&names, out)
+}
+
 /// Families and their children, where the places of each child and its family, as one key, have a hash that shares its low
 /// bits with all others under the hasher that multiplies. No family has more than four children.
 pub fn links_of_one_group(bytes: usize, out: &mut impl Write) -> Result<()> {

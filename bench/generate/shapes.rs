@@ -1,7 +1,7 @@
 //! Files that are hard to read: long lines, short lines, unusual bytes, faults; and files that are hard to walk
 //! through: many structures in one place, deep ones, ones in an unlucky order.
 
-use crate::collisions::{links_of_one_group, names_of_one_group, names_of_one_hash};
+use crate::collisions::{links_of_one_group, names_of_one_group, names_of_one_hash, names_of_one_slot};
 use crate::disorder::disordered;
 use std::io::{Error, Result, Write};
 
@@ -49,9 +49,10 @@ fn write_tree(shape: &str, bytes: usize, seed: u64, out: &mut impl Write) -> Res
         "many-records" => grow("", bytes, |number| format!("0 @I{number:07}@ INDI\n"), out),
         // Very many persons, each of whom names one half the file away.
         "far-pointers" => far_pointers(bytes, out),
-        // Persons whose names have one hash, and others whose names, or links, share low bits of theirs: collisions.rs.
+        // Persons whose names have one hash, others whose names, or links, share low bits of theirs, or a slot: collisions.rs.
         "names-of-one-hash" => names_of_one_hash(bytes, out),
         "names-of-one-group" => names_of_one_group(bytes, out),
+        "names-of-one-slot" => names_of_one_slot(bytes, out),
         "links-of-one-group" => links_of_one_group(bytes, out),
         // Structures one below the other down to the deepest level, again and again.
         "deep" => grow("", bytes, |_| (0..100).map(|level| format!("{level} _A\n")).collect(), out),

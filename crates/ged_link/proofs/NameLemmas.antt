@@ -1,5 +1,5 @@
 -- No two short names have one number, so a record that is added by its number is added by its name.
-use Rattle.std.proofs.Common.{◌≡◌, ℕ, ◌+◌, ◌*◌, ◌<◌, ◌≤◌, Bool, true, false, cond, nat_eq, nat_lt, ◌&&◌, [], ◌∷◌, Option, Some, None, refl, sym, ap, ◌∙◌, arith, rules, List, length}
+use Rattle.std.proofs.Common.{◌≡◌, ◌⊎◌, inl, inr, ℕ, zero, suc, ◌+◌, ◌*◌, ◌^◌, ◌<◌, ◌≤◌, Bool, true, false, cond, nat_eq, nat_le, nat_lt, ◌&&◌, [], ◌∷◌, Option, Some, None, refl, sym, ap, ◌∙◌, arith, rules, List, length}
 use Rattle.std.specs.Bool.{if◌then◌else◌, Decides}
 use Rattle.std.specs.List.{list_all}
 use Rattle.std.specs.Str.{bytes_eq}
@@ -9,7 +9,7 @@ use Rattle.std.proofs.lemmas.Bool.Decides.{nat_tests}
 use Rattle.ged_line.specs.Bytes.{Bytes}
 use Rattle.ged_link.specs.declared.index.RecordPlace.{RecordPlace}
 use Rattle.ged_link.specs.declared.names.Names.{Names}
-use Rattle.ged_link.specs.NameNumbers.{name_number, is_up_to, short_number}
+use Rattle.ged_link.specs.NameNumbers.{name_number, digits_number, number_up_to, is_up_to, is_full, short_number}
 use Rattle.ged_link.specs.declared.slots.Slots.{Slots}
 use Rattle.ged_link.specs.Indexes.{found_in, found_by, found_short, first_of}
 use Rattle.ged_link.specs.inner.Indexes.{HasNoOthers}
@@ -43,19 +43,73 @@ number_same (a ∷ xs) (b ∷ bs) h k e =
     let rest = number_same xs bs hs.1 ks.1 same.1 in
     cc
 
--- what is known of a name that has a number
-numbered : (name : Bytes) (number : ℕ) → short_number name ≡ Some number → (are_bytes name ≡ true) × (number ≡ name_number name)
-numbered name number e = go (is_up_to 7 name) refl e
+digits_same : (a b : Bytes) → are_bytes a ≡ true → are_bytes b ≡ true → length a ≡ length b → digits_number a ≡ digits_number b → a ≡ b
+digits_same [] [] h k long e = refl
+digits_same [] (b ∷ bs) h k long e = absurd (omega (arith, long))
+digits_same (a ∷ xs) [] h k long e = absurd (omega (arith, long))
+digits_same (a ∷ xs) (b ∷ bs) h k long e =
+    let hs = both _ _ h in
+    let ks = both _ _ k in
+    let same = digit_same a b (digits_number xs) (digits_number bs) (below a hs.0) (below b ks.0) e in
+    let first = same.0 in
+    let rest = digits_same xs bs hs.1 ks.1 (omega (arith, long)) same.1 in
+    cc
+
+-- a number with a one above so many bytes is less than the two that stands there in none
+bounded : (most : ℕ) (name : Bytes) → are_bytes name ≡ true → length name ≤ most → name_number name < 2 * 256 ^ most
+bounded zero [] h k = omega arith
+bounded zero (b ∷ bs) h k = absurd (omega (arith, k))
+bounded (suc most) [] h k = let more = bounded most [] refl (omega arith) in omega (arith, more)
+bounded (suc most) (b ∷ bs) h k =
+    let hs = both _ _ h in
+    let digit = below b hs.0 in
+    let more = bounded most bs hs.1 (omega (arith, k)) in
+    omega (arith, digit, more)
+
+-- what is known of a name that has a number: a one stands above its bytes, or it has eight
+record IsShorter (name : Bytes) (number : ℕ) : Type 0 where
+  bytes : are_bytes name ≡ true
+  long : length name ≤ 7
+  is : number ≡ name_number name
+
+record IsFull (name : Bytes) (number : ℕ) : Type 0 where
+  bytes : are_bytes name ≡ true
+  long : length name ≡ 8
+  is : number ≡ digits_number name
+  least : 2 * 256 ^ 7 ≤ number
+
+numbered : (name : Bytes) (number : ℕ) → short_number name ≡ Some number → IsShorter name number ⊎ IsFull name number
+numbered name number e = full (is_full 8 name) refl e
   where
-    go : (short : Bool) → is_up_to 7 name ≡ short → cond short (Some (name_number name)) None ≡ Some number → (are_bytes name ≡ true) × (number ≡ name_number name)
-    go true h k = ((both _ _ h).1, cc)
-    go false h k = cc
+    shorter : (short : Bool) → is_up_to 7 name ≡ short → cond short (Some (name_number name)) None ≡ Some number → IsShorter name number
+    shorter true h k =
+        let parts : (nat_le (length name) 7 ≡ true) × (are_bytes name ≡ true) = both _ _ h in
+        record { bytes = parts.1; long = grind (arith, nat_tests); is = cc }
+    shorter false h k = cc
+
+    full : (full : Bool) → is_full 8 name ≡ full → cond full (Some (digits_number name)) (number_up_to 7 name) ≡ Some number → IsShorter name number ⊎ IsFull name number
+    full true h k =
+        let parts : (nat_eq (length name) 8 ≡ true) × (are_bytes name && nat_le (2 * 256 ^ 7) (digits_number name) ≡ true) = both _ _ h in
+        let more : (are_bytes name ≡ true) × (nat_le (2 * 256 ^ 7) (digits_number name) ≡ true) = both _ _ parts.1 in
+        let same : number ≡ digits_number name = cc in
+        inr (record { bytes = more.0; long = grind (arith, nat_tests); is = same; least = grind (arith, nat_tests) })
+    full false h k = inl (shorter (is_up_to 7 name) refl k)
+
+apart : (a b : Bytes) (m n : ℕ) → IsShorter a m → IsFull b n → m ≡ n → ⊥
+apart a b m n x y e =
+    let most = bounded 7 a x.bytes x.long in
+    let least = y.least in
+    let number = x.is in
+    omega (arith, most, least, number, e)
 
 one_name : (a b : Bytes) (m n : ℕ) → short_number a ≡ Some m → short_number b ≡ Some n → m ≡ n → a ≡ b
-one_name a b m n h k e =
-    let x = numbered a m h in
-    let y = numbered b n k in
-    number_same a b x.0 y.0 (sym x.1 ∙ e ∙ y.1)
+one_name a b m n h k e = go (numbered a m h) (numbered b n k)
+  where
+    go : IsShorter a m ⊎ IsFull a m → IsShorter b n ⊎ IsFull b n → a ≡ b
+    go (inl x) (inl y) = number_same a b x.bytes y.bytes (sym x.is ∙ e ∙ y.is)
+    go (inl x) (inr y) = absurd (apart a b m n x y e)
+    go (inr x) (inl y) = absurd (apart b a n m y x (sym e))
+    go (inr x) (inr y) = digits_same a b x.bytes y.bytes (x.long ∙ sym y.long) (sym x.is ∙ e ∙ y.is)
 
 one_number : (a b : Bytes) (m n : ℕ) → short_number a ≡ Some m → short_number b ≡ Some n → a ≡ b → m ≡ n
 one_number a b m n h k e = some_same m n (sym h ∙ ap short_number e ∙ k)
@@ -65,7 +119,11 @@ one_number a b m n h k e = some_same m n (sym h ∙ ap short_number e ∙ k)
 
 -- a name's number is not zero, which tells that a slot is free
 pub above : (name : Bytes) (number : ℕ) → short_number name ≡ Some number → 0 < number
-above name number e = let p = positive name in omega (arith, p, (numbered name number e).1)
+above name number e = go (numbered name number e)
+  where
+    go : IsShorter name number ⊎ IsFull name number → 0 < number
+    go (inl x) = let p = positive name in omega (arith, p, x.is)
+    go (inr x) = omega (arith, x.least)
 
 equal_numbers : (m n : ℕ) → nat_eq m n ≡ true → m ≡ n
 equal_numbers m n e = grind (arith, nat_tests)
@@ -147,13 +205,13 @@ module _ (old new : Names) (name : Bytes) (found : RecordPlace) where
     pub kept_short : KeepsIn old.slots new.slots name number found → new.short ≡ old.short → (other : Bytes) (n : ℕ) → short_number other ≡ Some n → found_short new other n ≡ cond (nat_eq number n) (Some found) (found_short old other n)
     kept_short keeps kept other n other_is =
         ap (λ o. first_of o (get nat_eq new.short n)) (keeps other n (above other n other_is))
-        ∙ ap (λ records. first_of (cond (nat_eq number n && nat_eq (slot_in old.slots.starts.items name) (slot_in old.slots.starts.items other)) (Some found) (kept_in old.slots other n)) (get nat_eq records n)) kept
+        ∙ ap (λ records. first_of (cond (nat_eq number n && nat_eq (slot_in old.slots.regions.items name) (slot_in old.slots.regions.items other)) (Some found) (kept_in old.slots other n)) (get nat_eq records n)) kept
         ∙ go (nat_eq number n) refl
       where
-        its_slot : nat_eq number n ≡ true → nat_eq (slot_in old.slots.starts.items name) (slot_in old.slots.starts.items other) ≡ true
-        its_slot e = same_slot _ _ (ap (slot_in old.slots.starts.items) (one_name name other number n is other_is (equal_numbers number n e)))
+        its_slot : nat_eq number n ≡ true → nat_eq (slot_in old.slots.regions.items name) (slot_in old.slots.regions.items other) ≡ true
+        its_slot e = same_slot _ _ (ap (slot_in old.slots.regions.items) (one_name name other number n is other_is (equal_numbers number n e)))
 
-        go : (b : Bool) → nat_eq number n ≡ b → first_of (cond (b && nat_eq (slot_in old.slots.starts.items name) (slot_in old.slots.starts.items other)) (Some found) (kept_in old.slots other n)) (get nat_eq old.short n) ≡ cond b (Some found) (found_short old other n)
+        go : (b : Bool) → nat_eq number n ≡ b → first_of (cond (b && nat_eq (slot_in old.slots.regions.items name) (slot_in old.slots.regions.items other)) (Some found) (kept_in old.slots other n)) (get nat_eq old.short n) ≡ cond b (Some found) (found_short old other n)
         go true e = ap (λ b. first_of (cond b (Some found) (kept_in old.slots other n)) (get nat_eq old.short n)) (its_slot e)
         go false e = refl
 

@@ -1,5 +1,5 @@
 -- Short names as numbers; only private functions cite this.
-use Rattle.std.specs.Prelude.{ℕ, ◌+◌, ◌*◌, Bool, ◌&&◌, cond, nat_le, nat_lt, [], ◌∷◌, Option, Some, None, length}
+use Rattle.std.specs.Prelude.{ℕ, ◌+◌, ◌-◌, ◌*◌, ◌^◌, Bool, ◌&&◌, cond, nat_eq, nat_le, nat_lt, [], ◌∷◌, Option, Some, None, length}
 use Rattle.std.specs.List.{list_all}
 use Rattle.ged_line.specs.Bytes.{Bytes}
 
@@ -16,6 +16,19 @@ is_up_to most name = nat_le (length name) most && list_all (λ b. nat_lt b 256) 
 abbrev pub number_up_to : ℕ → Bytes → Option ℕ
 number_up_to most name = cond (is_up_to most name) (Some (name_number name)) None
 
--- the number of a name of at most seven bytes, which 64 bits hold
+-- the same without the one
+abbrev pub digits_number : Bytes → ℕ
+digits_number [] = 0
+digits_number (b ∷ bs) = b + 256 * digits_number bs
+
+-- so many bytes, the last of which is above one: so no shorter name has their number
+abbrev pub is_full : ℕ → Bytes → Bool
+is_full most name = nat_eq (length name) most && (list_all (λ b. nat_lt b 256) name && nat_le (2 * 256 ^ (most - 1)) (digits_number name))
+
+-- the number of a name that is shorter than so many bytes, or has so many, without a one above them
+abbrev pub number_within : ℕ → Bytes → Option ℕ
+number_within most name = cond (is_full most name) (Some (digits_number name)) (number_up_to (most - 1) name)
+
+-- the number of a name of at most eight bytes, which 64 bits hold
 abbrev pub short_number : Bytes → Option ℕ
-short_number name = number_up_to 7 name
+short_number name = number_within 8 name

@@ -1,11 +1,11 @@
-// How many slots the names of a document are given, and where those of each first byte begin.
+// How many slots the names of a document are given, and which of them those of each first byte are given.
 ghost use Rattle.std.specs.Prelude.{◌≡◌, ◌<◌, ℕ, [], IfOk, None, fold, replicate};
 ghost use Rattle.ged_tree.specs.Runs.{trees_between, IsRun};
 ghost use Rattle.ged_link.specs.Links.{identifiers};
 ghost use Rattle.ged_link.specs.Slots.{kept_in};
 ghost use Rattle.ged_link.specs.inner.Layout.{counted, counted_name, room, begun};
 
-use crate::slots::Slots;
+use crate::slots::{Region, Slots};
 use ged_tree::{Forest, next_in_run};
 use std::alloc::{AllocError, Global};
 
@@ -53,17 +53,18 @@ fn room_for(count: u32) -> u32
     }
 }
 
-/// The slot at which the names of each first byte begin, and the number of slots of all.
-fn starts_of(alloc: Global, counts: &[u32]) -> Result<(Vec<u32>, u32), AllocError>
-    ensures { IfOk result (λ starts. (starts.0.items, starts.1) ≡ fold begun ([], 0) counts.now) }
+/// The region of the names of each first byte, and the number of slots of all.
+fn regions_of(alloc: Global, counts: &[u32]) -> Result<(Vec<Region>, u32), AllocError>
+    ensures { IfOk result (λ regions. (regions.0.items, regions.1) ≡ fold begun ([], 0) counts.now) }
 {
-    let mut starts = Vec::with_capacity(alloc, counts.len())?;
+    let mut regions = Vec::with_capacity(alloc, counts.len())?;
     let mut size: u32 = 0;
     for count in counts {
-        starts.push(size)?;
-        size = size.saturating_add(room_for(*count));
+        let room = room_for(*count);
+        regions.push(Region { start: size, room })?;
+        size = size.saturating_add(room);
     }
-    Ok((starts, size))
+    Ok((regions, size))
 }
 
 /// Free slots for the names of the records from a place up to an end. Takes memory for at most two slots for each name, and
@@ -78,6 +79,6 @@ pub(crate) fn slots_for<F: Forest>(
     ensures { IfOk result (λ slots. (name : _) → (number : ℕ) → 0 < number → kept_in slots name number ≡ None) }
 {
     let counts = count_names(alloc, forest, start, end)?;
-    let (starts, size) = starts_of(alloc, &counts)?;
-    Slots::new(alloc, starts, size as usize)
+    let (regions, size) = regions_of(alloc, &counts)?;
+    Slots::new(alloc, regions, size as usize)
 }

@@ -4,7 +4,7 @@ ghost use Rattle.std.specs.HashMap.{get, get_by_text};
 ghost use Rattle.ged_link.specs.Indexes.{found_in, found_short};
 ghost use Rattle.ged_link.specs.inner.Indexes.{HasKey, HasNoOthers};
 ghost use Rattle.ged_link.specs.Slots.{kept_in};
-ghost use Rattle.ged_link.specs.NameNumbers.{number_up_to, short_number};
+ghost use Rattle.ged_link.specs.NameNumbers.{number_up_to, number_within, short_number};
 ghost use Rattle.ged_link.specs.inner.Resolving.{AddsName};
 ghost use Rattle.ged_link.specs.inner.Slots.{HasNoSlot};
 
@@ -34,17 +34,34 @@ fn number_of_few(bytes: &[u8]) -> Option<u64>
     }
 }
 
-/// The number that a name of at most seven bytes spells, or `None` for a longer one.
+/// The same for at most four bytes; four spell it without the one above them, and only where the last is above one.
+#[inline(always)]
+fn number_of_rest(bytes: &[u8]) -> Option<u64>
+    ensures number { result ≡ number_within 4 bytes.now }
+    ensures small { IfSome result (λ number. number < 0x1_0000_0000) }
+{
+    match bytes {
+        [first, second, third, fourth] if *fourth > 1 => Some(
+            u64::from(*first)
+                + 0x100 * u64::from(*second)
+                + 0x1_0000 * u64::from(*third)
+                + 0x100_0000 * u64::from(*fourth),
+        ),
+        few => number_of_few(few),
+    }
+}
+
+/// The number that a name of at most eight bytes spells, or `None` for a longer one.
 ///
-/// Each byte is a digit to the base 256, the first byte the lowest, and above them all stands a one. So no two names
-/// spell one number.
+/// Each byte is a digit to the base 256, the first byte the lowest, and above them stands a one, where there is room for it. Eight
+/// bytes spell a number only if the last is above one, as those of all identifiers are. So no two names spell one number.
 #[inline(always)]
 pub(crate) fn number_of(name: &str) -> Option<u64>
     ensures { result ≡ short_number name.now }
 {
     match name.as_bytes() {
         [first, second, third, fourth, rest @ ..] => {
-            let high = number_of_few(rest)?;
+            let high = number_of_rest(rest)?;
             let low = u64::from(*first)
                 + 0x100 * u64::from(*second)
                 + 0x1_0000 * u64::from(*third)
@@ -58,9 +75,9 @@ pub(crate) fn number_of(name: &str) -> Option<u64>
 /// The records of a document by their names.
 #[derive(Drop)]
 pub(crate) struct Names {
-    /// Most of those whose names have at most seven bytes.
+    /// Most of those whose names have at most eight bytes.
     slots: Slots,
-    /// The others whose names have at most seven bytes, by the numbers that the names spell.
+    /// The others whose names have at most eight bytes, by the numbers that the names spell.
     short: IndexMap<u64, RecordPlace, KeyedNumbers>,
     /// All others.
     long: IndexMap<String, RecordPlace, Keyed>,
@@ -112,7 +129,7 @@ impl Names {
         }
     }
 
-    /// The record of a name of at most seven bytes that has no slot, by the number that the name spells.
+    /// The record of a name of at most eight bytes that has no slot, by the number that the name spells.
     #[inline(never)]
     fn find_short(&self, number: u64) -> Option<RecordPlace>
         ensures { result ≡ get nat_eq self.now.short number }
@@ -120,7 +137,7 @@ impl Names {
         self.short.get(&number).copied()
     }
 
-    /// The same for a name of more than seven bytes. It stays a call of its own, so that what is made of `find` is short.
+    /// The same for a name of more than eight bytes. It stays a call of its own, so that what is made of `find` is short.
     #[inline(never)]
     fn find_long(&self, name: &str) -> Option<RecordPlace>
         ensures { result ≡ get_by_text self.now.long name.now }
@@ -170,7 +187,7 @@ impl Names {
         Ok(before.is_none())
     }
 
-    /// The same for a name of at most seven bytes, with the number that it spells. The answer is the record before.
+    /// The same for a name of at most eight bytes, with the number that it spells. The answer is the record before.
     fn insert_short(
         &mut self,
         name: &str,

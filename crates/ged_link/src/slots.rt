@@ -1,6 +1,6 @@
 // A table in which a record is found by the slot that its name asks for.
 ghost use Rattle.std.specs.Prelude.{◌≡◌, ◌<◌, ℕ, true, IfOk, IfSome, Some, None, is_none};
-ghost use Rattle.ged_link.specs.Slots.{number_read, slot_in, kept_in};
+ghost use Rattle.ged_link.specs.Slots.{number_read, brought_into, slot_in, kept_in};
 ghost use Rattle.ged_link.specs.inner.Slots.{KeepsIn};
 
 use crate::index::RecordPlace;
@@ -24,56 +24,79 @@ const EMPTY: Entry = Entry {
     place: 0,
 };
 
-/// Some of the records whose names have at most seven bytes, each in the slot that its name asks for: that of its first
-/// letter, and the number behind it further on. So names as `I1`, `I2` and `F1` stand one behind the other.
+/// The slots of the names that begin with one byte.
+#[derive(Clone, Copy)]
+pub(crate) struct Region {
+    pub(crate) start: u32,
+    /// How many slots there are.
+    pub(crate) room: u32,
+}
+
+/// The region of a byte that no name begins with.
+const NO_REGION: Region = Region { start: 0, room: 0 };
+
+/// Most of the records whose names have at most eight bytes, each in the slot that its name asks for: in the region of its first
+/// letter, as far along as the number after the letter says, counted round the region. So names such as `I1`, `I2` and `F1`, or
+/// `I0500001` and `I0500002`, stand next to each other.
 ///
-/// Two names may ask for one slot, and a name for one past the last. The entry tells whose it is; what finds no slot, or does not
-/// fit 32 bits, is kept elsewhere.
+/// Two names may ask for one slot. The entry says whose it is; what finds no slot, or does not fit 32 bits, is kept elsewhere.
 #[derive(Drop)]
 pub(crate) struct Slots {
-    /// The slot that a first byte begins at.
-    pub(crate) starts: Vec<u32>,
+    /// The region of each first byte.
+    pub(crate) regions: Vec<Region>,
     pub(crate) entries: Vec<Entry>,
 }
 
-/// The number that decimal digits spell behind a number read so far; what stands behind more than six digits is left out. Where
-/// another byte stands first, it is one past all slots: so a name of letters is not looked for among them.
+/// The number that bytes spell as decimal digits after a number read so far. A byte that is no digit counts by its low four bits.
 fn read_number(so_far: u32, digits: &[u8]) -> u32
     ensures { result ≡ number_read so_far digits.now }
 {
     match digits {
-        [digit, more @ ..] => {
-            if so_far >= 100_000 {
-                so_far
-            } else if *digit >= 48 && *digit < 58 {
-                read_number(so_far * 10 + u32::from(*digit % 16), more)
-            } else {
-                u32::MAX
-            }
-        }
+        [digit, more @ ..] => read_number(
+            so_far.wrapping_mul(10).wrapping_add(u32::from(*digit % 16)),
+            more,
+        ),
         [] => so_far,
+    }
+}
+
+/// A number brought into a region of so many slots.
+#[inline(always)]
+fn bring_into(room: u32, number: u32) -> u32
+    ensures { result ≡ brought_into room number }
+{
+    if number < room {
+        number
+    } else if room == 0 {
+        0
+    } else {
+        number % room
     }
 }
 
 impl Slots {
     /// No records, in so many slots.
-    pub(crate) fn new(alloc: Global, starts: Vec<u32>, size: usize) -> Result<Slots, AllocError>
+    pub(crate) fn new(alloc: Global, regions: Vec<Region>, size: usize) -> Result<Slots, AllocError>
         ensures { IfOk result (λ slots. (name : _) → (number : ℕ) → 0 < number → kept_in slots name number ≡ None) }
     {
         let entries = vec![in alloc; EMPTY; size]?;
-        Ok(Slots { starts, entries })
+        Ok(Slots { regions, entries })
     }
 
     /// The slot that a name asks for.
     #[inline(always)]
     fn slot(&self, name: &str) -> usize
-        ensures { result ≡ slot_in self.now.starts.items name.now }
+        ensures { result ≡ slot_in self.now.regions.items name.now }
     {
         match name.as_bytes() {
-            [first, digits @ ..] => match self.starts.get(usize::from(*first)) {
-                Some(start) => *start as usize + read_number(0, digits) as usize,
-                None => read_number(0, digits) as usize,
-            },
+            [first, digits @ ..] => {
+                let region = self
+                    .regions
+                    .get(usize::from(*first))
+                    .copied()
+                    .unwrap_or(NO_REGION);
+                region.start as usize + bring_into(region.room, read_number(0, digits)) as usize
+            }
             [] => 0,
         }
     }

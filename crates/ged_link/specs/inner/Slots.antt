@@ -10,7 +10,7 @@ use Rattle.ged_link.specs.Slots.{slot_in, kept_in}
 -- a record is kept for a name and its number, and all others stay
 abbrev pub KeepsIn : Slots → Slots → Bytes → ℕ → RecordPlace → Type 0
 KeepsIn old new name number found = (other : Bytes) (n : ℕ) → 0 < n
-    → kept_in new other n ≡ cond (nat_eq number n && nat_eq (slot_in old.starts.items name) (slot_in old.starts.items other)) (Some found) (kept_in old other n)
+    → kept_in new other n ≡ cond (nat_eq number n && nat_eq (slot_in old.regions.items name) (slot_in old.regions.items other)) (Some found) (kept_in old other n)
 
 -- nothing is kept in a slot for a name
 abbrev pub HasNoSlot : Names → Bytes → Type 0

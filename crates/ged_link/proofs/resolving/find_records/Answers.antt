@@ -1,7 +1,6 @@
 use Rattle.std.proofs.Common.{◌≡◌, ◌+◌, ◌++◌, ◌∷◌, [], List, Option, Some, inl, inr, sym, ap, ◌∙◌, refl, arith, subst, length, ℕ, length-append}
 use Rattle.std.specs.Option.{option_copied}
 use Rattle.ged_line.specs.Bytes.{Bytes}
-use Rattle.ged_tree.specs.Trees.{records_of}
 use Rattle.ged_tree.specs.Places.{structure_at}
 use Rattle.ged_tree.specs.Documents.{are_at}
 use Rattle.ged_tree.specs.Runs.{IsStep}
