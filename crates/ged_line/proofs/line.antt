@@ -1,6 +1,9 @@
+pub mod Capitals
 pub mod Cuts
+pub mod Identifiers
 pub mod Levels
 pub mod LineLaws
+pub mod NameMarks
 pub mod NameTests
 pub mod QuickReading
 pub mod Reading

@@ -184,10 +184,11 @@ impl Judge {
     }
 }
 
+#[inline(always)]
 pub(crate) fn is_cont(line: &LineView<'_>) -> bool
     ensures { result ≡ tests_cont line.now }
 {
-    line.tag() == "CONT"
+    matches!(line.tag().as_bytes(), [b'C', b'O', b'N', b'T'])
 }
 
 pub(crate) fn is_header(line: &LineView<'_>) -> bool

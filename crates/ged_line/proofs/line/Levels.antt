@@ -1,5 +1,5 @@
 -- A level and its digits.
-use Rattle.std.proofs.Common.{◌≡◌, ◌≢◌, ℕ, ◌<◌, ◌≤◌, ◌+◌, ◌-◌, ◌*◌, ◌/◌, ◌%◌, ◌==◌, ◌&&◌, cond, suc, Bool, true, false, List, [], ◌∷◌, ◌++◌, length, get_or, refl, sym, ◌∙◌, ap, arith, decimal}
+use Rattle.std.proofs.Common.{◌≡◌, ◌≢◌, ℕ, ◌<◌, ◌≤◌, ◌+◌, ◌-◌, ◌*◌, ◌/◌, ◌%◌, ◌==◌, ◌&&◌, cond, suc, Bool, true, false, List, [], ◌∷◌, ◌++◌, length, get_or, drop, refl, sym, ◌∙◌, ap, arith, decimal}
 use native.Mathlib.Decide.{dec_lt}
 use Rattle.std.proofs.lemmas.Bool.Decides.{nat_tests}
 use Rattle.std.proofs.lemmas.Fmt.{decimal_digit, decimal_step}
@@ -127,3 +127,16 @@ is_level-decimal n h =
             omega arith,
           )
     ]
+
+-- where the space stands behind a level up to 99, and what stands behind it
+pub behind_one : (text : List ℕ) (level : ℕ) (rest : List ℕ) → level < 10 → text ≡ decimal level ++ (32 ∷ rest)
+    → (2 ≤ length text) × (get_or text 1 0 ≡ 32) × (drop 2 text ≡ rest)
+behind_one text level rest l e =
+    let whole : text ≡ (48 + level) ∷ 32 ∷ rest = e ∙ ap (λ digits. digits ++ (32 ∷ rest)) (decimal_digit level l) in
+    (rw whole (omega arith), ap (λ t. get_or t 1 0) whole, ap (drop 2) whole)
+
+pub behind_two : (text : List ℕ) (level : ℕ) (rest : List ℕ) → 10 ≤ level → level ≤ 99 → text ≡ decimal level ++ (32 ∷ rest)
+    → (3 ≤ length text) × (get_or text 2 0 ≡ 32) × (drop 3 text ≡ rest)
+behind_two text level rest l h e =
+    let whole : text ≡ (48 + level / 10) ∷ (48 + level % 10) ∷ 32 ∷ rest = e ∙ ap (λ digits. digits ++ (32 ∷ rest)) (decimal_two level l h) in
+    (rw whole (omega arith), ap (λ t. get_or t 2 0) whole, ap (drop 3) whole)

@@ -37,7 +37,7 @@ each_all p (x ∷ xs) h = and_true (p x) (list_all p xs) h.0 (each_all p xs h.1)
 abbrev pub AreTagCharacters : List ℕ → Type 0
 AreTagCharacters xs = AllByRecursion (λ c. is_tag_character c ≡ true) xs
 
-capital_is_tag_character : (c : ℕ) → is_capital c ≡ true → is_tag_character c ≡ true
+pub capital_is_tag_character : (c : ℕ) → is_capital c ≡ true → is_tag_character c ≡ true
 capital_is_tag_character c h = grind (arith, nat_tests)
 
 underscore_is_tag_character : (c : ℕ) → (c == 0x5F) ≡ true → is_tag_character c ≡ true

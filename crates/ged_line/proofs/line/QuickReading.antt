@@ -8,7 +8,7 @@ use Rattle.std.proofs.Math.Numerals.{one-add, add-one}
 use Rattle.std.specs.List.{list_all}
 use Rattle.std.specs.Str.{IsUtf8, IsCharBoundary, NoCharPasses}
 use Rattle.std.specs.Result.{MatchResult}
-use Rattle.ged_line.specs.Characters.{is_tag_character, is_banned}
+use Rattle.ged_line.specs.Characters.{is_capital, is_tag_character, is_banned}
 use Rattle.ged_line.specs.Names.{is_tag}
 use Rattle.ged_line.specs.Lines.{Empty, Text, is_value, IsValuePart}
 use Rattle.ged_line.specs.Views.{viewed_value}
@@ -18,7 +18,7 @@ use Rattle.ged_line.specs.declared.fault.LineFault.{LineFault}
 use Rattle.ged_line.specs.declared.fault.LineFault.TheVariants.{BadValue}
 use Rattle.ged_line.proofs.line.Values.{text_is}
 use Rattle.ged_line.proofs.line.Reading.{NoCharPasses-tail}
-use Rattle.ged_line.proofs.line.NameTests.{AreTagCharacters, bool_cases, each_all, tag_each}
+use Rattle.ged_line.proofs.line.NameTests.{AreTagCharacters, bool_cases, capital_is_tag_character, each_all, tag_each}
 use Rattle.ged_line.proofs.line.Cuts.{Lacks, AllByRecursion-weaker, tag_character_not_space}
 use Rattle.ged_line.proofs.line.Levels.{digit_from, number_one}
 use Rattle.ged_line.proofs.line.Words.{not_space, word_cut, word_whole}
@@ -92,6 +92,36 @@ pub word_is_tag : (text tag rest value : List ℕ) → TagCut text tag rest → 
 word_is_tag text tag rest value c (inl (e, v)) =
     ap word (c.spelled ∙ ap (λ r. tag ++ r) e ∙ append-nil tag) ∙ word_whole tag (Lacks-tag tag c.characters)
 word_is_tag text tag rest value c (inr e) = ap word (c.spelled ∙ ap (λ r. tag ++ r) e) ∙ word_cut tag value (Lacks-tag tag c.characters)
+
+-- a text that begins with four capital letters
+abbrev pub CapitalFront : List ℕ → Type 0
+CapitalFront text = (at : ℕ) → at < 4 → is_capital (get_or text at 0) ≡ true
+
+pub capital_boundary : (text : List ℕ) → IsUtf8 text → 4 ≤ length text → CapitalFront text → IsCharBoundary text 4
+capital_boundary text u l f = front_boundary text 4 u l (λ at lt. capital_is_tag_character (get_or text at 0) (f at lt))
+
+capitals_are_tag : (text : List ℕ) → 4 ≤ length text → CapitalFront text → is_tag (take 4 text) ≡ true
+capitals_are_tag [] l f = absurd (omega arith)
+capitals_are_tag (a ∷ []) l f = absurd (omega arith)
+capitals_are_tag (a ∷ b ∷ []) l f = absurd (omega arith)
+capitals_are_tag (a ∷ b ∷ c ∷ []) l f = absurd (omega arith)
+capitals_are_tag (a ∷ b ∷ c ∷ d ∷ rest) l f =
+    let first : is_capital a ≡ true = f 0 (omega arith) in
+    let second : is_tag_character b ≡ true = capital_is_tag_character b (f 1 (omega arith)) in
+    let third : is_tag_character c ≡ true = capital_is_tag_character c (f 2 (omega arith)) in
+    let fourth : is_tag_character d ≡ true = capital_is_tag_character d (f 3 (omega arith)) in
+    rw (first, second, third, fourth) refl
+
+cut_behind : (text tag rest value : List ℕ) → text ≡ tag ++ rest → IsBehindTag rest value
+    → ((text ≡ tag) × (value ≡ [])) ⊎ (text ≡ tag ++ (32 ∷ value))
+cut_behind text tag rest value s (inl (e, v)) = inl (s ∙ ap (λ r. tag ++ r) e ∙ append-nil tag, v)
+cut_behind text tag rest value s (inr e) = inr (s ∙ ap (λ r. tag ++ r) e)
+
+pub capital_cut : (text tag rest value : List ℕ) → 4 ≤ length text → CapitalFront text → tag ≡ take 4 text → rest ≡ drop 4 text → IsBehindTag rest value
+    → (is_tag tag ≡ true) × (((text ≡ tag) × (value ≡ [])) ⊎ (text ≡ tag ++ (32 ∷ value)))
+capital_cut text tag rest value l f t r b =
+    let spelled : text ≡ tag ++ rest = rw (t, r) (sym (take-append-drop 4 text)) in
+    (ap is_tag t ∙ capitals_are_tag text l f, cut_behind text tag rest value spelled b)
 
 -- a word that goes on behind a first byte that is no space
 word_on : (tag : List ℕ) (c : ℕ) (rest : List ℕ) → Lacks 32 tag → c ≢ 32 → word (tag ++ (c ∷ rest)) ≡ tag ++ (c ∷ word rest)

@@ -53,27 +53,6 @@ after_sign text after name rest e a =
     let whole : text ≡ 64 ∷ (name ++ (64 ∷ 32 ∷ rest)) = a.spelled in
     cc
 
-pub no_xref : (text after name rest : List ℕ) → text ≡ 64 ∷ after → Lacks 64 after → ¬ (AfterXref text name rest)
-no_xref text after name rest e f a = cut_not_whole 64 name (32 ∷ rest) after f (sym (after_sign text after name rest e a))
-
-pub same_xref : (text after front back name rest : List ℕ) → text ≡ 64 ∷ after → after ≡ front ++ (64 ∷ back) → Lacks 64 front
-    → AfterXref text name rest → (name ≡ front) × (32 ∷ rest ≡ back)
-same_xref text after front back name rest e s f a =
-    cut_same 64 name front (32 ∷ rest) back (Lacks-xref name a.name_is) f (sym (after_sign text after name rest e a) ∙ s)
-
-pub not_xref : (text after front back : List ℕ) → text ≡ 64 ∷ after → after ≡ front ++ (64 ∷ back) → Lacks 64 front → is_xref front ≡ false
-    → (name rest : List ℕ) → ¬ (AfterXref text name rest)
-not_xref text after front back e s f isnt name rest a =
-    let same = same_xref text after front back name rest e s f a in
-    let passes : is_xref front ≡ true = rw same.0 at a.name_is in
-    cc
-
-pub no_space_after : (text after front back : List ℕ) → text ≡ 64 ∷ after → after ≡ front ++ (64 ∷ back) → Lacks 64 front → ((more : List ℕ) → back ≢ 32 ∷ more)
-    → (name rest : List ℕ) → ¬ (AfterXref text name rest)
-no_space_after text after front back e s f none name rest a =
-    let same = same_xref text after front back name rest e s f a in
-    none rest (sym same.1)
-
 -- a text that begins with no sign isn't changed by doubling
 pub doubled_plain : (text : List ℕ) → ((rest : List ℕ) → text ≢ 64 ∷ rest) → doubled text ≡ text
 doubled_plain [] h = refl

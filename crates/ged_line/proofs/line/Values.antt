@@ -10,7 +10,7 @@ use Rattle.ged_line.proofs.line.NameTests.{and_true}
 use Rattle.ged_line.proofs.bytes.Banned.{is_plain-from}
 use Rattle.ged_line.proofs.line.Reading.{doubled_plain}
 
-some_text : (c : ℕ) (cs : List ℕ) → not (length (c ∷ cs) == 0) ≡ true
+pub some_text : (c : ℕ) (cs : List ℕ) → not (length (c ∷ cs) == 0) ≡ true
 some_text c cs = grind (arith, nat_tests)
 
 pub text_is : (c : ℕ) (cs : List ℕ) → IsUtf8 (c ∷ cs) → NoCharPasses is_banned (c ∷ cs) → is_line_text (c ∷ cs) ≡ true

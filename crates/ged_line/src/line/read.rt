@@ -1,5 +1,5 @@
 // Reading a line as slices of it, part by part from the left.
-ghost use Rattle.std.specs.Prelude.{◌≡◌, ◌≤◌, ◌<◌, ◌++◌, ◌∷◌, ◌⊎◌, [], ℕ, length, decimal, MatchOption, MatchResult, IsOk, IsOkAnd, IfOk, IfErr, true, false};
+ghost use Rattle.std.specs.Prelude.{◌≡◌, ◌≤◌, ◌<◌, ◌++◌, ◌∷◌, ◌⊎◌, [], ℕ, length, decimal, MatchOption, MatchResult, IfSome, IsOk, IsOkAnd, IfOk, IfErr, true, false};
 ghost use Rattle.ged_line.specs.Bytes.{Bytes, space, at_sign};
 ghost use Rattle.std.specs.List.{list_all};
 ghost use Rattle.std.specs.Str.{NoCharPasses};
@@ -13,7 +13,9 @@ ghost use Rattle.ged_line.specs.Faults.{StandsAt, IsFaultOf, number_after, After
 use crate::bytes::characters::has_banned;
 use crate::fault::LineFault;
 use crate::file::spelled_line::SpelledLine;
-use crate::line::names::{begins_as_tag, is_xref, tag_characters};
+use crate::line::names::{
+    any_tag_characters, begins_as_tag, begins_with_capitals, many_tag_characters, names_record,
+};
 use crate::line::view::{LineView, ValueView};
 
 fn are_digits(bytes: &[u8]) -> bool
@@ -50,7 +52,6 @@ fn read_level(digits: &[u8]) -> Result<u8, LineFault>
 }
 
 /// What [`view_level`] answers, for a level of any digits.
-#[cold]
 fn view_any_level(text: &str) -> Result<(u8, &str), LineFault>
     ensures { MatchResult result
         (λ p. (p.0 ≤ 99) × (text.now ≡ decimal p.0 ++ space ∷ p.1.now))
@@ -64,6 +65,37 @@ fn view_any_level(text: &str) -> Result<(u8, &str), LineFault>
     Ok((level, rest))
 }
 
+/// The level alone that [`view_any_level`] answers.
+// An answer that is two bytes keeps the caller, which stands on the path of every line, from clearing room for a larger one.
+#[cold]
+#[inline(never)]
+fn any_level(text: &str) -> Result<u8, LineFault>
+    ensures { MatchResult result
+        (λ level. (level ≤ 99) × ((rest : Bytes) × (text.now ≡ decimal level ++ space ∷ rest)))
+        (λ f. ((f ≡ LineFault.BadLevel) × StandsAt LineFault.BadLevel text.now)
+        ⊎ ((f ≡ LineFault.LevelTooLarge) × StandsAt LineFault.LevelTooLarge text.now)) }
+{
+    match view_any_level(text) {
+        Ok((level, _)) => Ok(level),
+        Err(fault) => Err(fault),
+    }
+}
+
+/// What [`view_level`] answers, where the first two bytes are no level of one digit.
+#[inline(always)]
+fn view_long_level(text: &str) -> Result<(u8, &str), LineFault>
+    ensures { MatchResult result
+        (λ p. (p.0 ≤ 99) × (text.now ≡ decimal p.0 ++ space ∷ p.1.now))
+        (λ f. ((f ≡ LineFault.BadLevel) × StandsAt LineFault.BadLevel text.now)
+        ⊎ ((f ≡ LineFault.LevelTooLarge) × StandsAt LineFault.LevelTooLarge text.now)) }
+{
+    match any_level(text) {
+        Ok(level) if level < 10 => Ok((level, &text[2..])),
+        Ok(level) => Ok((level, &text[3..])),
+        Err(fault) => Err(fault),
+    }
+}
+
 /// The level, and what stands behind its space.
 #[inline(always)]
 fn view_level(text: &str) -> Result<(u8, &str), LineFault>
@@ -74,7 +106,7 @@ fn view_level(text: &str) -> Result<(u8, &str), LineFault>
 {
     match text.as_bytes() {
         [unit @ b'0'..=b'9', b' ', ..] => Ok((*unit - b'0', &text[2..])),
-        _ => view_any_level(text),
+        _ => view_long_level(text),
     }
 }
 
@@ -83,10 +115,12 @@ fn cut_xref(after: &str) -> Option<(&str, &str)>
     ensures { MatchOption result ((name rest : Bytes) → ¬ (AfterXref (at_sign ∷ after.now) name rest))
         (λ p. AfterXref (at_sign ∷ after.now) p.0.now p.1.now) }
 {
-    let (name, after) = after.split_once('@')?;
-    let rest = after.strip_prefix(' ')?;
-    if is_xref(name) {
-        Some((name, rest))
+    let (name, rest) = after.split_at(many_tag_characters(after));
+    let [b'@', b' ', ..] = rest.as_bytes() else {
+        return None;
+    };
+    if names_record(name) {
+        Some((name, &rest[2..]))
     } else {
         None
     }
@@ -110,15 +144,32 @@ fn view_xref(text: &str) -> Result<(Option<&str>, &str), LineFault>
     }
 }
 
-/// The tag, and what stands behind its space, if one stands there.
+/// A tag of four letters, and what stands behind its space, if one stands there.
 #[inline(always)]
-fn view_tag(text: &str) -> Result<(&str, &str), LineFault>
+fn cut_letters(text: &str) -> Option<(&str, &str)>
+    ensures { IfSome result (λ p. (tests_tag p.0.now ≡ true)
+        × (((text.now ≡ p.0.now) × (p.1.now ≡ [])) ⊎ (text.now ≡ p.0.now ++ space ∷ p.1.now))) }
+{
+    if !begins_with_capitals(text.as_bytes()) {
+        return None;
+    }
+    let (tag, rest) = text.split_at(4);
+    match rest.as_bytes() {
+        [] => Some((tag, rest)),
+        [b' ', ..] => Some((tag, &rest[1..])),
+        _ => None,
+    }
+}
+
+/// What [`view_tag`] answers, for a tag of any characters.
+#[inline(always)]
+fn view_any_tag(text: &str) -> Result<(&str, &str), LineFault>
     ensures { MatchResult result
         (λ p. (tests_tag p.0.now ≡ true)
         × (((text.now ≡ p.0.now) × (p.1.now ≡ [])) ⊎ (text.now ≡ p.0.now ++ space ∷ p.1.now)))
         (λ f. (f ≡ LineFault.BadTag) × (tests_tag (word text.now) ≡ false)) }
 {
-    let (tag, rest) = text.split_at(tag_characters(text));
+    let (tag, rest) = text.split_at(any_tag_characters(text));
     let value = match rest.as_bytes() {
         [] => rest,
         [b' ', ..] => &rest[1..],
@@ -131,6 +182,20 @@ fn view_tag(text: &str) -> Result<(&str, &str), LineFault>
     }
 }
 
+/// The tag, and what stands behind its space, if one stands there.
+#[inline(always)]
+fn view_tag(text: &str) -> Result<(&str, &str), LineFault>
+    ensures { MatchResult result
+        (λ p. (tests_tag p.0.now ≡ true)
+        × (((text.now ≡ p.0.now) × (p.1.now ≡ [])) ⊎ (text.now ≡ p.0.now ++ space ∷ p.1.now)))
+        (λ f. (f ≡ LineFault.BadTag) × (tests_tag (word text.now) ≡ false)) }
+{
+    match cut_letters(text) {
+        Some(parts) => Ok(parts),
+        None => view_any_tag(text),
+    }
+}
+
 /// The value that a sign and a text without banned characters are.
 fn view_signed_value(after: &str) -> Result<ValueView<'_>, LineFault>
     requires { NoCharPasses is_banned after.now }
@@ -138,18 +203,17 @@ fn view_signed_value(after: &str) -> Result<ValueView<'_>, LineFault>
         (λ v. (is_value (viewed_value v) ≡ true) × IsValuePart (viewed_value v) (space ∷ at_sign ∷ after.now))
         (λ f. (f ≡ LineFault.BadValue) × ¬ (IsPointer (at_sign ∷ after.now)) × ¬ (BeginsWith at_sign after.now)) }
 {
-    if after.starts_with('@') {
+    if let [b'@', ..] = after.as_bytes() {
         return Ok(ValueView::Text(after));
     }
-    let Some(name) = after.strip_suffix('@') else {
+    let (name, rest) = after.split_at(any_tag_characters(after));
+    let [b'@'] = rest.as_bytes() else {
         return Err(LineFault::BadValue);
     };
     if name == "VOID" {
         Ok(ValueView::Void)
-    } else if is_xref(name) {
-        Ok(ValueView::Pointer(name))
     } else {
-        Err(LineFault::BadValue)
+        Ok(ValueView::Pointer(name))
     }
 }
 
