@@ -1,5 +1,5 @@
 -- A text has a banned character just where its bytes have one's bytes.
-use Rattle.std.proofs.Common.{◌≡◌, ◌≢◌, ℕ, ◌+◌, ◌<◌, ◌≤◌, Bool, true, false, List, [], ◌∷◌, ◌++◌, ◌⊎◌, inl, inr, length, get_or, get_or-take, take, drop, refl, sym, ◌∙◌, ap, subst, arith, length-append, ◌||◌, ◌==◌, not}
+use Rattle.std.proofs.Common.{◌≡◌, ◌≢◌, ℕ, ◌+◌, ◌<◌, ◌≤◌, Bool, true, false, List, [], ◌∷◌, ◌++◌, ◌⊎◌, inl, inr, length, get_or, get_or-take, take, drop, refl, sym, ◌∙◌, ap, subst, arith, length-append, ◌||◌, ◌&&◌, ◌==◌, nat_lt, not}
 use Rattle.std.proofs.lemmas.Bool.Decides.{nat_tests}
 use Rattle.std.proofs.lemmas.List.{get_or-append-add, take-append-drop, drop_more, length-take-le}
 use Rattle.std.proofs.lemmas.Str.{encodes-chars, chars_from_encodes, IsUtf8-from_is_utf8, is_utf8-from_IsUtf8, encode_ascii, encode_same, encodes-append, encodes_same, IsUtf8-take, IsUtf8-drop, NoCharPasses-byte}
@@ -223,9 +223,14 @@ pub some_line_text : (bs : List ℕ) (r : Bool) → false ≡ (length bs == 0) �
 some_line_text bs r s u e = rw (← s, is_utf8-from_IsUtf8 bs u) (ap not e)
 
 -- texts in which no special byte is found
+special_wider : (p q r s : Bool) → (p && not q) || r ≡ true → (p || r) || s ≡ true
+special_wider true q r s e = refl
+special_wider false q true s e = refl
+special_wider false q false s e = absurd cc
+
 special_none : (b : ℕ) → ¬ (is_special b ≡ true) → (is_control b ≡ false) × (b ≢ 0xEF)
 special_none b n = elim (bool_cases (is_control b)) [
-  | inl k ↦ absurd (n (rw k refl))
+  | inl k ↦ absurd (n (special_wider (nat_lt b 0x20) (b == 0x09) (b == 0x7F) (b == 0xEF) k))
   | inr k ↦ (k, λ e. n (rw e refl))
 ]
 

@@ -1,5 +1,5 @@
 -- The line ends of one run of bytes, by the mask of its lanes.
-use Rattle.std.proofs.Common.{◌≡◌, ◌≢◌, ◌↔◌, ℕ, ◌+◌, ◌-◌, ◌%◌, ◌^◌, ◌<◌, ◌≤◌, Bool, true, false, ◌||◌, ◌&&◌, not, List, None, Some, cond, eqb, ltb, bit_and, length, get_or, map, replicate, bit_or, w64, refl, sym, ap, subst, ◌∙◌, arith, inl, inr, true≢false}
+use Rattle.std.proofs.Common.{◌≡◌, ◌≢◌, ◌↔◌, ℕ, ◌+◌, ◌-◌, ◌%◌, ◌^◌, ◌<◌, ◌≤◌, Bool, true, false, ◌||◌, List, None, Some, cond, eqb, ltb, length, get_or, map, replicate, bit_or, w64, refl, sym, ap, subst, ◌∙◌, arith, inl, inr, true≢false}
 use Rattle.std.proofs.Math.ListN.{get_or-eq_default}
 use Rattle.std.proofs.lemmas.Bool.{cases_lt}
 use Rattle.std.proofs.lemmas.List.{get_or-map, length-map}
@@ -60,44 +60,32 @@ marks_of_run a b i n bytes room few k =
 abbrev below : ℕ → ℕ → ℕ
 below x y = cond (ltb x y) 255 0
 
-abbrev unequal : ℕ → ℕ → ℕ
-unequal x y = cond (not (eqb x y)) 255 0
-
 abbrev special_lane : ℕ → ℕ
-special_lane x = bit_or (bit_and (below x 32) (unequal x 9)) (bit_or (equal x 127) (equal x 239))
+special_lane x = bit_or (below x 32) (bit_or (equal x 127) (equal x 239))
 
 abbrev special_mask : ℕ → List ℕ → ℕ
 special_mask n run = mask_l (map (top 7) (zip2 bit_or
-    (zip2 bit_and (zip2 below run (replicate n 32)) (zip2 unequal run (replicate n 9)))
+    (zip2 below run (replicate n 32))
     (zip2 bit_or (zip2 equal run (replicate n 127)) (zip2 equal run (replicate n 239))))) % 2 ^ 64
 
-top_of_special : (p q r s : Bool) → top 7 (bit_or (bit_and (cond p 255 0) (cond (not q) 255 0)) (bit_or (cond r 255 0) (cond s 255 0))) ≡ (((p && not q) || r) || s)
-top_of_special true true true true = refl
-top_of_special true true true false = refl
-top_of_special true true false true = refl
-top_of_special true true false false = refl
-top_of_special true false true true = refl
-top_of_special true false true false = refl
-top_of_special true false false true = refl
-top_of_special true false false false = refl
-top_of_special false true true true = refl
-top_of_special false true true false = refl
-top_of_special false true false true = refl
-top_of_special false true false false = refl
-top_of_special false false true true = refl
-top_of_special false false true false = refl
-top_of_special false false false true = refl
-top_of_special false false false false = refl
+top_of_special : (p r s : Bool) → top 7 (bit_or (cond p 255 0) (bit_or (cond r 255 0) (cond s 255 0))) ≡ ((p || r) || s)
+top_of_special true true true = refl
+top_of_special true true false = refl
+top_of_special true false true = refl
+top_of_special true false false = refl
+top_of_special false true true = refl
+top_of_special false true false = refl
+top_of_special false false true = refl
+top_of_special false false false = refl
 
 special_at : (x : ℕ) → top 7 (special_lane x) ≡ is_special x
-special_at x = top_of_special (ltb x 32) (eqb x 9) (eqb x 127) (eqb x 239)
+special_at x = top_of_special (ltb x 32) (eqb x 127) (eqb x 239)
 
 bit_of_special : (n : ℕ) (run : List ℕ) → length run ≡ n → n ≤ 64 → (k : ℕ)
     → bit_at (special_mask n run) k ≡ cond (get_or (map (λ x. top 7 (special_lane x)) run) k false) 1 0
 bit_of_special n run long few k =
-    let control = zip2_of_maps bit_and _ _ run (zip2_splat below run n 32 long) (zip2_splat unequal run n 9 long) in
     let other = zip2_of_maps bit_or _ _ run (zip2_splat equal run n 127 long) (zip2_splat equal run n 239 long) in
-    let lanes = zip2_of_maps bit_or _ _ run control other in
+    let lanes = zip2_of_maps bit_or _ _ run (zip2_splat below run n 32 long) other in
     let small = mask_l-mod (map (λ x. top 7 (special_lane x)) run) 64 (omega (arith, length-map run (λ x. top 7 (special_lane x)), long)) in
     ap (λ m. bit_at m k) (ap (λ l. mask_l l % 2 ^ 64) (ap (map (top 7)) lanes ∙ map-map (top 7) special_lane run) ∙ small)
     ∙ bit_mask_l (map (λ x. top 7 (special_lane x)) run) k

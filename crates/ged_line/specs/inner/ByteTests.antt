@@ -8,9 +8,9 @@ use Rattle.ged_line.specs.Bytes.{Bytes}
 abbrev pub is_control : ℕ → Bool
 is_control b = (nat_lt b 0x20 && not (b == 0x09)) || b == 0x7F
 
--- a byte that ends a line, or may be the first of a character that may not stand in one
+-- a byte that ends a line, or may be the first of a character that may not stand in one; and a tab, which may
 abbrev pub is_special : ℕ → Bool
-is_special b = is_control b || b == 0xEF
+is_special b = (nat_lt b 0x20 || b == 0x7F) || b == 0xEF
 
 -- a control character other than tab stands at this place
 pub record ControlAt (bytes : Bytes) (at : ℕ) : Type 0 where

@@ -5,7 +5,6 @@ ghost use Rattle.memchr.specs.Find.{IsFirst, IsFirstByte, Passes, is_byte2};
 ghost use Rattle.ged_line.specs.Bytes.{carriage_return, line_feed};
 ghost use Rattle.ged_line.specs.inner.ByteTests.{is_special};
 
-use crate::bytes::characters::is_control;
 use memchr::memchr2;
 use std::simd::prelude::*;
 
@@ -62,7 +61,7 @@ fn special_marks(bytes: &[u8], at: usize) -> u64
     ensures { (k : ℕ) → (bit_at result k ≡ 1) ↔ ((k < RUN) × Passes is_special bytes.now (at + k)) }
 {
     let run = u8x32::from_slice(&bytes[at..]);
-    let control = run.simd_lt(u8x32::splat(b' ')) & run.simd_ne(u8x32::splat(b'\t'));
+    let control = run.simd_lt(u8x32::splat(b' '));
     let other = run.simd_eq(u8x32::splat(0x7F)) | run.simd_eq(u8x32::splat(0xEF));
     (control | other).to_bitmask()
 }
@@ -83,10 +82,11 @@ fn special_in_run(bytes: &[u8], at: usize) -> Option<usize>
 fn is_special_byte(byte: u8) -> bool
     ensures { result ≡ is_special byte }
 {
-    is_control(byte) || byte == 0xEF
+    byte < 0x20 || byte == 0x7F || byte == 0xEF
 }
 
-/// The first special byte: one that ends a line, or may belong to a character that may not stand in one.
+/// The first special byte: one that ends a line, or may belong to a character that may not stand in one. A tab counts as one,
+/// since few lines have any, and it takes time to tell it from other control characters.
 #[inline(always)]
 pub(crate) fn first_special(bytes: &[u8]) -> Option<usize>
     ensures { IsFirstByte is_special bytes.now result }
