@@ -1,17 +1,28 @@
 // On ged_canon.
+ghost use Rattle.std.specs.Prelude.{◌≡◌, IfOk, IfSome};
+ghost use Rattle.ged_tree.specs.Trees.{Trees};
+ghost use Rattle.ged_canon.specs.Normal.{IsNormalForm};
+ghost use Rattle.ged_canon.specs.CanonText.{CanonText};
+ghost use Rattle.ged_canon.specs.declared.edition.Edition.TheVariants.{First};
+
 use ged_canon::canonical_bytes;
 use ged_link::{LinkFault, resolve};
 use ged_schema::check;
-use ged_tree::Flat;
+use ged_tree::Forest;
 use std::alloc::Global;
 
 /// The canonical bytes of a document, or `None` if the tables find a fault.
-pub fn canonical_if_checked(alloc: Global, flat: &Flat<'_>) -> Result<Option<Vec<u8>>, LinkFault> {
-    let index = resolve(alloc, flat)?;
-    if check(flat, &index).is_err() {
+pub fn canonical_if_checked<F: Forest>(
+    alloc: Global,
+    forest: &F,
+) -> Result<Option<Vec<u8>>, LinkFault>
+    ensures { IfOk result (λ made. IfSome made (λ text. (normal : Trees) × IsNormalForm First (F.trees forest.now) normal × CanonText normal text.items)) }
+{
+    let index = resolve(alloc, forest)?;
+    if check(forest, &index).is_err() {
         return Ok(None);
     }
-    match canonical_bytes(alloc, flat, &index) {
+    match canonical_bytes(alloc, forest, &index) {
         Ok(bytes) => Ok(Some(bytes)),
         Err(error) => Err(LinkFault::Memory(error)),
     }

@@ -1,10 +1,17 @@
 // On ged_explain.
+ghost use Rattle.std.specs.Prelude.{◌≡◌, IfOk, None};
+ghost use Rattle.ged_tree.specs.Trees.{Trees};
+ghost use Rattle.ged_schema.specs.declared.profile.Profile.{Profile};
+ghost use Rattle.ged_tool.specs.Accepted.{IsAccepted};
+
 use ged_explain::explain_fault;
 use ged_tool::accept;
 use std::alloc::{AllocError, Global};
 
 /// What is wrong with a file of this name, in words; `None` if it is accepted.
-pub fn say_fault(alloc: Global, bytes: &[u8], name: &str) -> Result<Option<String>, AllocError> {
+pub fn say_fault(alloc: Global, bytes: &[u8], name: &str) -> Result<Option<String>, AllocError>
+    ensures { IfOk result (λ said. said ≡ None → (document : Trees) × IsAccepted Profile.Lenient bytes.now document) }
+{
     match accept(alloc, bytes) {
         Ok(_) => Ok(None),
         Err(fault) => {

@@ -1,9 +1,19 @@
 // On ged_line.
+ghost use Rattle.std.specs.Prelude.{◌≡◌, [], ◌∷◌, ◌++◌, IfOk, MatchOption};
+ghost use Rattle.ged_line.specs.Lines.{LineParts, LineText};
+ghost use Rattle.ged_line.specs.Faults.{IsFaultOf};
+ghost use Rattle.ged_line.specs.Spelling.{spelling};
+ghost use Rattle.ged_line.specs.Bytes.{line_feed};
+
 use ged_line::{LineFault, view_line, view_lines, write_view};
 use std::alloc::AllocError;
 
 /// Appends the canonical spelling of a line, or tells what is wrong with it.
-pub fn respell(piece: &[u8], out: &mut Vec<u8>) -> Result<Option<LineFault>, AllocError> {
+pub fn respell(piece: &[u8], out: &mut Vec<u8>) -> Result<Option<LineFault>, AllocError>
+    ensures { IfOk result (λ told. MatchOption told
+        ((line : LineParts) × LineText line piece.now × (out.new.items ≡ out.old.items ++ (spelling line ++ line_feed ∷ [])))
+        (λ fault. IsFaultOf fault piece.now × (out.new.items ≡ out.old.items))) }
+{
     match view_line(piece) {
         Ok(line) => {
             write_view(&line, out)?;

@@ -1,20 +1,32 @@
 // On ged_schema.
+ghost use Rattle.std.specs.Prelude.{◌≡◌, IfOk, MatchOption, option_map};
+ghost use Rattle.ged_schema.specs.declared.context.Context.TheVariants.{Indi};
+ghost use Rattle.ged_schema.specs.declared.profile.Profile.TheVariants.{Strict};
+ghost use Rattle.ged_schema.specs.Profiles.{CheckedAs, IsFirstFaultAs};
+ghost use Rattle.ged_schema.specs.Tables.{row};
+
 use ged_link::{LinkFault, resolve};
 use ged_schema::{Context, Profile, SchemaAt, check_as, lookup_name};
-use ged_tree::Flat;
+use ged_tree::Forest;
 use ged_value::Kind;
 use std::alloc::Global;
 
 /// What the tables require of a payload directly below a person.
-pub fn kind_below_person(tag: &str) -> Option<Kind> {
+pub fn kind_below_person(tag: &str) -> Option<Kind>
+    ensures { result ≡ option_map (λ found. found.kind) (row Indi tag.now) }
+{
     let rule = lookup_name(Context::Indi, tag)?;
     Some(rule.kind)
 }
 
 /// The first fault by the tables under the strict profile.
-pub fn table_fault(alloc: Global, flat: &Flat<'_>) -> Result<Option<SchemaAt>, LinkFault> {
-    let index = resolve(alloc, flat)?;
-    match check_as(Profile::Strict, flat, &index) {
+pub fn table_fault<F: Forest>(alloc: Global, forest: &F) -> Result<Option<SchemaAt>, LinkFault>
+    ensures { IfOk result (λ found. MatchOption found
+        (CheckedAs Strict (F.trees forest.now))
+        (λ at. IsFirstFaultAs Strict (F.trees forest.now) at)) }
+{
+    let index = resolve(alloc, forest)?;
+    match check_as(Profile::Strict, forest, &index) {
         Ok(()) => Ok(None),
         Err(at) => Ok(Some(at)),
     }
