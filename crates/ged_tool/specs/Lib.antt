@@ -2,6 +2,7 @@ pub mod Devices
 pub mod Faults
 pub mod Answers
 pub mod Run
+pub mod RunDevices
 pub mod Canon
 pub mod Digest
 pub mod DigestLaws

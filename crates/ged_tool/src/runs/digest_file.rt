@@ -1,6 +1,7 @@
 // The run that tells the digest of a file: read the whole file, make its line, write it.
-ghost use Rattle.std.specs.Prelude.{◌≡◌, ◌+◌, ◌≤◌, ◌↔◌, None, false, IsTrue, MatchResult};
+ghost use Rattle.std.specs.Prelude.{◌≡◌, ◌≤◌, false, MatchResult};
 ghost use Rattle.ged_tool.specs.Profiles.{profile_of, edition_of};
+ghost use Rattle.ged_tool.specs.RunDevices.{TellsDevices};
 ghost use Rattle.ged_tool.specs.Accepted.{FileFaultAt, IsRefusal};
 ghost use Rattle.ged_tool.specs.DigestRun.{IsKeptDigestRun, TellsDigest};
 
@@ -35,11 +36,7 @@ pub fn run_digest<R: Source, W: Sink>(
     requires limit { limit ≤ 1073741824 }
     requires unread { R.reads reader.old ≡ 0 }
     requires no_failure { (R.failed reader.old ≡ false) × (W.failed writer.old ≡ false) }
-    ensures calls { R.reads reader.new ≤ limit + 1 }
-    ensures read_failed { IsTrue (R.failed reader.new)
-        ↔ (result.outcome ≡ Outcome.Failed None Fault.ReadFailed) }
-    ensures write_failed { IsTrue (W.failed writer.new)
-        ↔ (result.outcome ≡ Outcome.Failed None Fault.WriteFailed) }
+    ensures devices { TellsDevices limit (R.reads reader.new) (R.failed reader.new) (W.failed writer.new) result.outcome }
     ensures bytes { IsKeptDigestRun (profile_of settings) (edition_of settings) name.now limit (R.to_come reader.old) (R.to_come reader.new)
         (W.taken writer.old) (W.taken writer.new) result.outcome result.bytes.items }
 {

@@ -1,8 +1,9 @@
 // One run: read the whole file, make the whole answer, write it.
-ghost use Rattle.std.specs.Prelude.{◌≡◌, ◌+◌, ◌<◌, ◌≤◌, ◌↔◌, None, false, IsTrue, IfOk, IfErr, IsErrOf, vec_len};
+ghost use Rattle.std.specs.Prelude.{◌≡◌, ◌+◌, ◌<◌, ◌≤◌, ◌↔◌, false, IsTrue, IfOk, IfErr, IsErrOf, vec_len};
 ghost use Rattle.std.specs.Io.KnownBytes.{Consumes};
 ghost use Rattle.ged_line.specs.Bytes.{Bytes};
 ghost use Rattle.ged_tool.specs.Profiles.{profile_of, edition_of};
+ghost use Rattle.ged_tool.specs.RunDevices.{TellsDevices};
 ghost use Rattle.ged_tool.specs.Run.{IsWhole, IsRun};
 ghost use Rattle.ged_tool.specs.Kept.{IsKeptRun};
 ghost use Rattle.ged_tool.specs.inner.Steps.{StopsReading};
@@ -28,11 +29,7 @@ pub fn run<R: Source, W: Sink>(
     requires limit { limit ≤ 1073741824 }
     requires unread { R.reads reader.old ≡ 0 }
     requires no_failure { (R.failed reader.old ≡ false) × (W.failed writer.old ≡ false) }
-    ensures calls { R.reads reader.new ≤ limit + 1 }
-    ensures read_failed { IsTrue (R.failed reader.new)
-        ↔ (result ≡ Outcome.Failed None Fault.ReadFailed) }
-    ensures write_failed { IsTrue (W.failed writer.new)
-        ↔ (result ≡ Outcome.Failed None Fault.WriteFailed) }
+    ensures devices { TellsDevices limit (R.reads reader.new) (R.failed reader.new) (W.failed writer.new) result }
     ensures bytes { IsRun Profile.Lenient Edition.First command limit (R.to_come reader.old) (R.to_come reader.new)
         (W.taken writer.old) (W.taken writer.new) result }
 {
@@ -65,11 +62,7 @@ pub fn run_as<R: Source, W: Sink>(
     requires limit { limit ≤ 1073741824 }
     requires unread { R.reads reader.old ≡ 0 }
     requires no_failure { (R.failed reader.old ≡ false) × (W.failed writer.old ≡ false) }
-    ensures calls { R.reads reader.new ≤ limit + 1 }
-    ensures read_failed { IsTrue (R.failed reader.new)
-        ↔ (result ≡ Outcome.Failed None Fault.ReadFailed) }
-    ensures write_failed { IsTrue (W.failed writer.new)
-        ↔ (result ≡ Outcome.Failed None Fault.WriteFailed) }
+    ensures devices { TellsDevices limit (R.reads reader.new) (R.failed reader.new) (W.failed writer.new) result }
     ensures bytes { IsRun (profile_of settings) (edition_of settings) command limit (R.to_come reader.old) (R.to_come reader.new)
         (W.taken writer.old) (W.taken writer.new) result }
 {
@@ -90,11 +83,7 @@ pub fn run_told<R: Source, W: Sink>(
     requires limit { limit ≤ 1073741824 }
     requires unread { R.reads reader.old ≡ 0 }
     requires no_failure { (R.failed reader.old ≡ false) × (W.failed writer.old ≡ false) }
-    ensures calls { R.reads reader.new ≤ limit + 1 }
-    ensures read_failed { IsTrue (R.failed reader.new)
-        ↔ (result.outcome ≡ Outcome.Failed None Fault.ReadFailed) }
-    ensures write_failed { IsTrue (W.failed writer.new)
-        ↔ (result.outcome ≡ Outcome.Failed None Fault.WriteFailed) }
+    ensures devices { TellsDevices limit (R.reads reader.new) (R.failed reader.new) (W.failed writer.new) result.outcome }
     ensures bytes { IsKeptRun (profile_of settings) (edition_of settings) command limit (R.to_come reader.old) (R.to_come reader.new)
         (W.taken writer.old) (W.taken writer.new) result.outcome result.bytes.items }
 {

@@ -1,6 +1,7 @@
 // One run over two files: read both, judge both, write whether they are the same.
-ghost use Rattle.std.specs.Prelude.{◌≡◌, ◌+◌, ◌≤◌, ◌↔◌, None, Some, false, IsTrue};
+ghost use Rattle.std.specs.Prelude.{◌≡◌, ◌≤◌, Some, false};
 ghost use Rattle.ged_tool.specs.Profiles.{profile_of, edition_of};
+ghost use Rattle.ged_tool.specs.RunDevices.{TellsThreeDevices};
 ghost use Rattle.ged_tool.specs.Same.{relation_of};
 ghost use Rattle.ged_tool.specs.SameRun.{IsSameRun, same_line as line_of_same};
 ghost use Rattle.ged_tool.specs.Kept.{IsKeptSameRunOf};
@@ -29,13 +30,8 @@ pub fn run_same<R: Source, S: Source, W: Sink>(
     requires limit { limit ≤ 1073741824 }
     requires unread { (R.reads first.old ≡ 0) × (S.reads second.old ≡ 0) }
     requires no_failure { (R.failed first.old ≡ false) × (S.failed second.old ≡ false) × (W.failed writer.old ≡ false) }
-    ensures calls { (R.reads first.new ≤ limit + 1) × (S.reads second.new ≤ limit + 1) }
-    ensures first_failed { IsTrue (R.failed first.new)
-        ↔ (result ≡ Outcome.Failed (Some Which.First) Fault.ReadFailed) }
-    ensures second_failed { IsTrue (S.failed second.new)
-        ↔ (result ≡ Outcome.Failed (Some Which.Second) Fault.ReadFailed) }
-    ensures write_failed { IsTrue (W.failed writer.new)
-        ↔ (result ≡ Outcome.Failed None Fault.WriteFailed) }
+    ensures devices { TellsThreeDevices limit (R.reads first.new) (S.reads second.new)
+        (R.failed first.new) (S.failed second.new) (W.failed writer.new) result }
     ensures bytes { IsSameRun Profile.Lenient Edition.First limit (R.to_come first.old) (R.to_come first.new)
         (S.to_come second.old) (S.to_come second.new) (W.taken writer.old) (W.taken writer.new) result }
 {
@@ -69,13 +65,8 @@ pub fn run_same_as<R: Source, S: Source, W: Sink>(
     requires limit { limit ≤ 1073741824 }
     requires unread { (R.reads first.old ≡ 0) × (S.reads second.old ≡ 0) }
     requires no_failure { (R.failed first.old ≡ false) × (S.failed second.old ≡ false) × (W.failed writer.old ≡ false) }
-    ensures calls { (R.reads first.new ≤ limit + 1) × (S.reads second.new ≤ limit + 1) }
-    ensures first_failed { IsTrue (R.failed first.new)
-        ↔ (result ≡ Outcome.Failed (Some Which.First) Fault.ReadFailed) }
-    ensures second_failed { IsTrue (S.failed second.new)
-        ↔ (result ≡ Outcome.Failed (Some Which.Second) Fault.ReadFailed) }
-    ensures write_failed { IsTrue (W.failed writer.new)
-        ↔ (result ≡ Outcome.Failed None Fault.WriteFailed) }
+    ensures devices { TellsThreeDevices limit (R.reads first.new) (S.reads second.new)
+        (R.failed first.new) (S.failed second.new) (W.failed writer.new) result }
     ensures bytes { IsSameRun (profile_of settings) (edition_of settings) limit (R.to_come first.old) (R.to_come first.new)
         (S.to_come second.old) (S.to_come second.new) (W.taken writer.old) (W.taken writer.new) result }
 {
@@ -99,13 +90,8 @@ pub fn run_same_told<R: Source, S: Source, W: Sink>(
     requires limit { limit ≤ 1073741824 }
     requires unread { (R.reads first.old ≡ 0) × (S.reads second.old ≡ 0) }
     requires no_failure { (R.failed first.old ≡ false) × (S.failed second.old ≡ false) × (W.failed writer.old ≡ false) }
-    ensures calls { (R.reads first.new ≤ limit + 1) × (S.reads second.new ≤ limit + 1) }
-    ensures first_failed { IsTrue (R.failed first.new)
-        ↔ (result.outcome ≡ Outcome.Failed (Some Which.First) Fault.ReadFailed) }
-    ensures second_failed { IsTrue (S.failed second.new)
-        ↔ (result.outcome ≡ Outcome.Failed (Some Which.Second) Fault.ReadFailed) }
-    ensures write_failed { IsTrue (W.failed writer.new)
-        ↔ (result.outcome ≡ Outcome.Failed None Fault.WriteFailed) }
+    ensures devices { TellsThreeDevices limit (R.reads first.new) (S.reads second.new)
+        (R.failed first.new) (S.failed second.new) (W.failed writer.new) result.outcome }
     ensures bytes { IsKeptSameRunOf (profile_of comparison.settings) (relation_of comparison.form (edition_of comparison.settings))
         limit (R.to_come first.old) (R.to_come first.new) (S.to_come second.old) (S.to_come second.new)
         (W.taken writer.old) (W.taken writer.new) result.outcome result.bytes.items }

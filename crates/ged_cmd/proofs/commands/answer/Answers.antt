@@ -3,6 +3,6 @@ use Rattle.ged_cmd.proofs.commands.answer.Goals as goal
 pub returns : goal.returns
 returns g c = record {
   bytes = c.run_told.ensures.bytes.run;
-  read_failed = c.run_told.ensures.read_failed;
-  write_failed = c.run_told.ensures.write_failed;
+  read_failed = c.run_told.ensures.devices.reader;
+  write_failed = c.run_told.ensures.devices.writer;
 }

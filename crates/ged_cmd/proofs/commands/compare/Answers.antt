@@ -5,7 +5,7 @@ pub returns : goal.returns
 returns g c =
     flushed_compared _ _ _ _ _ _ _ _ _ _ c.run_same_told-told.result.outcome c.flushed.result (record {
       bytes = c.run_same_told-told.ensures.bytes.run;
-      first_failed = c.run_same_told-told.ensures.first_failed;
-      second_failed = c.run_same_told-told.ensures.second_failed;
-      write_failed = c.run_same_told-told.ensures.write_failed;
+      first_failed = c.run_same_told-told.ensures.devices.first;
+      second_failed = c.run_same_told-told.ensures.devices.second;
+      write_failed = c.run_same_told-told.ensures.devices.writer;
     }) c.flushed.ensures

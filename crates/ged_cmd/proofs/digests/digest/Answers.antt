@@ -5,6 +5,6 @@ pub returns : goal.returns
 returns g c =
     flushed_answered _ _ _ _ _ _ _ _ c.run_digest-told.result.outcome c.flushed.result (record {
       bytes = c.run_digest-told.ensures.bytes.run;
-      read_failed = c.run_digest-told.ensures.read_failed;
-      write_failed = c.run_digest-told.ensures.write_failed;
+      read_failed = c.run_digest-told.ensures.devices.reader;
+      write_failed = c.run_digest-told.ensures.devices.writer;
     }) c.flushed.ensures
