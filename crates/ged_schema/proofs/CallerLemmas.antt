@@ -1,5 +1,5 @@
 -- What the proofs of the crates above cite of this crate, and they cite nothing else of its proofs.
-use Rattle.std.specs.Prelude.{◌≡◌, ℕ, ◌<◌}
+use Rattle.std.specs.Prelude.{ℕ, ◌<◌}
 use Rattle.std.proofs.Common.{arith}
 use Rattle.ged_tree.specs.Trees.{Trees, trees_count}
 use Rattle.ged_tree.specs.Places.{line_at}

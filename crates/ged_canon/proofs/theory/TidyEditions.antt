@@ -1,5 +1,4 @@
 -- The first edition's steps at places are the second's, and the second's tidy form is the first's.
-use Rattle.std.proofs.Common.{◌≡◌}
 use Rattle.ged_tree.specs.Trees.{Trees}
 use Rattle.ged_schema.specs.declared.context.Context.TheVariants.{File}
 use Rattle.ged_canon.specs.declared.edition.Edition.TheVariants.{First, Second}

@@ -2,7 +2,6 @@
 use Rattle.std.specs.Prelude.{◌≡◌, ℕ, ◌+◌, ◌++◌, length, decimal}
 use Rattle.ged_line.specs.Bytes.{Bytes}
 use Rattle.ged_line.specs.Lines.{LineParts, LineText, xref_part}
-use Rattle.ged_line.specs.Lines as value
 use Rattle.ged_line.specs.Spelling.{value_part}
 use Rattle.ged_tree.specs.declared.table.structure.FlatStructure.{FlatStructure}
 use Rattle.ged_tree.specs.Rows.{Shown, shown_with}
