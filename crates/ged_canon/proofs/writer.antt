@@ -1,6 +1,7 @@
 pub mod BriefTests
 pub mod BriefWords
 pub mod KeptNames
+pub mod KeptLines
 pub mod NewNames
 pub mod NewNumbers
 pub mod OwnLines
@@ -10,5 +11,6 @@ pub mod RunsWritten
 pub mod SiblingNames
 pub mod SiblingTrees
 pub mod SortedTail
+pub mod RunsKept
 pub mod StableSort
 pub mod UseTests

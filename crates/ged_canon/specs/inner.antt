@@ -1,4 +1,5 @@
 pub mod CanonBytes
+pub mod Runs
 pub mod Siblings
 pub mod Working
 pub mod Writing

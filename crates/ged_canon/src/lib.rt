@@ -5,6 +5,7 @@ mod edition;
 mod laws;
 mod normal;
 mod owned;
+mod spelled;
 mod writer;
 
 pub use edition::Edition;
@@ -16,5 +17,7 @@ pub use laws::{
 pub use normal::{is_normal, is_normal_in};
 pub use owned::documents::{canonical, canonical_in};
 pub use owned::write::write_document;
-pub use writer::document::{canonical_bytes, canonical_bytes_in};
-pub use writer::tidy::tidy_bytes_in;
+pub use spelled::SpelledForm;
+pub use spelled::reader::FormReader;
+pub use writer::document::{canonical_bytes, canonical_bytes_in, spell_canonical_in};
+pub use writer::tidy::{spell_tidy_in, tidy_bytes_in};

@@ -2,9 +2,11 @@
 pub(crate) mod answer;
 pub(crate) mod brief;
 pub(crate) mod document;
+pub(crate) mod kept;
 pub(crate) mod lines;
 pub(crate) mod numbers;
 pub(crate) mod order;
+pub(crate) mod pieced;
 pub(crate) mod plan;
 pub(crate) mod siblings;
 pub(crate) mod structures;

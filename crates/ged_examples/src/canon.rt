@@ -22,7 +22,7 @@ pub(crate) fn has_call(name: &str) -> bool {
 }
 
 /// The edition of a word; `None` asks the call that speaks of none.
-fn edition_of(word: &str) -> Option<Edition> {
+pub(crate) fn edition_of(word: &str) -> Option<Edition> {
     match word {
         "First" => Some(Edition::First),
         "Second" => Some(Edition::Second),
@@ -31,7 +31,7 @@ fn edition_of(word: &str) -> Option<Edition> {
 }
 
 /// The index of a forest that is as the structure tables ask, or `None` for any other.
-fn index_of<F: Forest>(alloc: Global, forest: &F) -> Result<Option<Index>, AllocError>
+pub(crate) fn index_of<F: Forest>(alloc: Global, forest: &F) -> Result<Option<Index>, AllocError>
     ensures index { IfOk result (λ found. IfSome found (λ index. IsIndexOf (F.trees forest.now) index)) }
     ensures checked { IfOk result (λ found. IfSome found (λ _. Checked (F.trees forest.now))) }
 {

@@ -12,6 +12,7 @@ mod explaining;
 mod fakes;
 mod feeding;
 mod forests;
+mod forms;
 mod growing;
 mod growing_answers;
 mod growing_explained;
@@ -93,6 +94,7 @@ fn answer_call(alloc: Global, call: &str, argument: &[u8], answer: &mut Answer) 
         || tables::answer(alloc, call, argument, answer)
         || questions::answer(alloc, call, argument, answer)
         || canon::answer(alloc, call, argument, answer)
+        || forms::answer(alloc, call, argument, answer)
         || whole::answer(alloc, call, argument, answer)
         || devices::answer(alloc, call, argument, answer)
         || explaining::answer(alloc, call, argument, answer)

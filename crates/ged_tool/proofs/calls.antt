@@ -4,6 +4,7 @@ pub mod FileLaws
 pub mod Forms
 pub mod Judging
 pub mod Merging
+pub mod Pieces
 pub mod Noticing
 pub mod TidyLaws
 pub mod Told

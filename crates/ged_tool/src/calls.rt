@@ -7,4 +7,5 @@ pub(crate) mod judged_lines;
 pub(crate) mod notices;
 pub(crate) mod same;
 pub(crate) mod show;
+pub(crate) mod spell;
 pub(crate) mod tidy;

@@ -86,6 +86,14 @@ pub trait Forest {
         None
     }
 
+    /// Where the text of [`Forest::rest_of_line`] may begin in the file that the forest was read from, in bytes behind a byte order
+    /// mark; or `None` where the forest does not know. It is a hint: a caller looks whether the text stands there.
+    fn start_of_rest(&self, _place: usize) -> Option<usize>
+        requires { _place < trees_count (trees self.now) }
+    {
+        None
+    }
+
     /// The lines of the payload past the first, for a caller that wants them all; or `None` where the forest has them only one
     /// by one.
     fn further_lines(&self, _place: usize) -> Option<FurtherLines<'_>>

@@ -42,7 +42,7 @@ use library::Call;
 /// The most bytes that a file may have.
 pub const LIMIT: usize = 1_073_741_824;
 
-/// The lines of a file in their canonical spelling, behind a byte order mark.
+/// The lines of a file in their canonical spelling, after a byte order mark.
 ///
 /// Only the lines are judged, faults 1 to 8, and nothing but their spelling is changed.
 ///

@@ -1,5 +1,5 @@
-// The answer of a writer: the bytes of the canonical form, as far as they are written.
-ghost use Rattle.std.specs.Prelude.{◌≡◌, ◌<◌, ◌≤◌, ◌+◌, ◌++◌, ◌∷◌, [], IfOk, OnOk, true, length, decimal};
+// The answer of a writer: the bytes of a form, as far as they are written.
+ghost use Rattle.std.specs.Prelude.{◌≡◌, ◌<◌, ◌≤◌, ◌+◌, ◌++◌, ◌∷◌, [], IfOk, OnOk, None, true, length, decimal, codes, slice_range};
 ghost use Rattle.std.specs.Option.{option_copied};
 ghost use Rattle.std.specs.List.{list_all};
 ghost use Rattle.ged_line.specs.Bytes.{line_feed, space};
@@ -10,14 +10,15 @@ ghost use Rattle.ged_line.specs.Views.{viewed_value};
 ghost use Rattle.ged_tree.specs.DocumentLines.{line_value, continued};
 ghost use Rattle.ged_canon.specs.Normal.{numbered as spells_number};
 
+use crate::spelled::SpelledForm;
+use crate::writer::kept::{kept_cont, kept_line};
+use crate::writer::pieced::Pieced;
 use ged_line::{ValueView, write_head, write_parts};
 use ged_tree::FurtherLines;
 use itoa::Buffer;
 use std::alloc::{AllocError, Global};
 use std::marker::Model;
-
-/// How many bytes are taken for each structure of a document before it is written, a little more than most need.
-const BYTES_PER_STRUCTURE: usize = 28;
+use std::mem;
 
 /// What stands in a line that shows one line of a text.
 pub(crate) fn text_value(text: &str) -> ValueView<'_>
@@ -29,39 +30,79 @@ pub(crate) fn text_value(text: &str) -> ValueView<'_>
     ValueView::Text(text)
 }
 
-/// The bytes that are written so far. All that a writer writes is appended here, a line with each call. Contracts see it as
-/// these bytes.
-#[derive(Drop)]
-pub(crate) struct Answer {
-    bytes: Vec<u8>,
+/// Appends X and the digits of a number. After an `Err` the vector has the X or nothing more.
+#[inline(always)]
+fn push_number(number: usize, out: &mut Vec<u8>) -> Result<(), AllocError>
+    requires { 0 < number }
+    ensures ok { OnOk result (out.new.items ≡ out.old.items ++ spells_number number) }
+    ensures kept { length out.old.items ≤ length out.new.items }
+{
+    let mut buffer = Buffer::new();
+    out.push(b'X')?;
+    out.extend_from_slice(buffer.format(number).as_bytes())?;
+    Ok(())
 }
 
-impl Model for Answer {
+/// The bytes that are written so far. All that a writer writes is appended here, a line with each call. Lines that stand in the
+/// file as they are written are kept as slices of it. Contracts see the answer as all these bytes.
+#[derive(Drop)]
+pub(crate) struct Answer<'f> {
+    file: &'f [u8],
+    pieced: Pieced,
+    /// Where the run of the file begins that stands last and may go on, in bytes.
+    start: usize,
+    /// Where it ends, or where the lines of a payload may go on in the file.
+    end: usize,
+}
+
+impl<'f> Model for Answer<'f> {
+    ghost use Rattle.std.specs.Prelude.{◌++◌, ◌≤◌, length, slice_range};
     ghost use Rattle.ged_line.specs.Bytes.{Bytes};
+    ghost use Rattle.ged_canon.specs.SpelledForms.{joined_runs};
+    ghost use Rattle.ged_canon.specs.inner.Runs.{ArePlaced};
 
     ghost Value = { Bytes };
 
-    ghost view = { λ a. a.bytes.items };
+    ghost view = { λ a. joined_runs a.file.now a.pieced.runs.items a.pieced.made.items ++ slice_range a.file.now a.start a.end };
+
+    ghost invariant = { λ a. ArePlaced a.pieced.runs.items a.pieced.made.items a.pieced.placed × (a.start ≤ a.end) × (a.end ≤ length a.file.now) };
 }
 
-impl Answer {
-    /// The byte order mark, in memory for a document of so many structures. An ordinary one has room there, and any other one
-    /// makes it grow.
-    pub(crate) fn start(alloc: Global, structures: usize) -> Result<Answer, AllocError>
+impl<'f> Answer<'f> {
+    /// The byte order mark, in memory for a document of so many structures.
+    pub(crate) fn start(
+        alloc: Global,
+        file: &'f [u8],
+        structures: usize,
+    ) -> Result<Answer<'f>, AllocError>
         ensures { IfOk result (λ answer. answer ≡ 0xEF ∷ 0xBB ∷ 0xBF ∷ []) }
     {
-        let room = structures.saturating_mul(BYTES_PER_STRUCTURE);
-        let mut bytes = Vec::with_capacity(alloc, room)?;
-        bytes.extend_from_slice(&[0xEF, 0xBB, 0xBF])?;
-        Ok(Answer { bytes })
+        let pieced = Pieced::start(alloc, structures, file.len())?;
+        Ok(Answer {
+            file,
+            pieced,
+            start: 0,
+            end: 0,
+        })
     }
 
     /// All that is written.
-    pub(crate) fn into_bytes(self) -> Vec<u8>
-        ensures { result.items ≡ self }
+    pub(crate) fn into_form(self) -> Result<SpelledForm<'f>, AllocError>
+        ensures { IfOk result (λ form. form ≡ self.entry) }
     {
-        let Answer { bytes } = self;
-        bytes
+        let Answer {
+            file,
+            mut pieced,
+            start,
+            end,
+        } = self;
+        pieced.place(file, start, end)?;
+        let Pieced {
+            runs,
+            made,
+            placed: _,
+        } = pieced;
+        Ok(SpelledForm { file, runs, made })
     }
 
     /// Appends a line.
@@ -76,12 +117,43 @@ impl Answer {
         requires { is_line (line_parts level (option_copied xref) tag.now (viewed_value value)) ≡ true }
         ensures { OnOk result (self.new ≡ self.old ++ (spelling (line_parts level (option_copied xref.entry) tag.now (viewed_value value.entry)) ++ line_feed ∷ [])) }
     {
-        write_parts(level, xref, tag, value, &mut self.bytes)
+        let start = mem::replace(&mut self.start, self.end);
+        self.pieced.place(self.file, start, self.end)?;
+        write_parts(level, xref, tag, value, &mut self.pieced.made)
     }
 
-    /// Appends a line that has this level and identifier, and this rest, which begins with its tag.
+    /// Appends a line that has this level and identifier, and this rest, which begins with its tag and may stand in the file at
+    /// this place, in bytes. Where the whole line does, and has no identifier, it is kept.
     #[inline(always)]
     pub(crate) fn push_rest(
+        &mut self,
+        level: u8,
+        xref: Option<&str>,
+        rest: &str,
+        place: Option<usize>,
+    ) -> Result<(), AllocError>
+        requires { level ≤ 99 }
+        ensures { OnOk result (self.new ≡ self.old ++ ((decimal level ++ space ∷ (xref_part (option_copied xref.entry) ++ rest.now)) ++ line_feed ∷ [])) }
+    {
+        if xref.is_none() {
+            if let Some((start, end)) = kept_line(self.file, level, rest, place) {
+                if self.end == start {
+                    self.end = end;
+                    return Ok(());
+                }
+                let before = mem::replace(&mut self.start, self.end);
+                self.pieced.place(self.file, before, self.end)?;
+                self.start = start;
+                self.end = end;
+                return Ok(());
+            }
+        }
+        self.push_head_and_rest(level, xref, rest)
+    }
+
+    /// Appends a line that is not kept.
+    #[inline(never)]
+    fn push_head_and_rest(
         &mut self,
         level: u8,
         xref: Option<&str>,
@@ -90,22 +162,12 @@ impl Answer {
         requires { level ≤ 99 }
         ensures { OnOk result (self.new ≡ self.old ++ ((decimal level ++ space ∷ (xref_part (option_copied xref.entry) ++ rest.now)) ++ line_feed ∷ [])) }
     {
-        write_head(level, xref, &mut self.bytes)?;
-        self.bytes.extend_from_slice(rest.as_bytes())?;
-        self.bytes.push(b'\n')?;
-        Ok(())
-    }
-
-    /// Appends X and the digits of a number.
-    #[inline(always)]
-    fn push_number(&mut self, number: usize) -> Result<(), AllocError>
-        requires { 0 < number }
-        ensures { OnOk result (self.new ≡ self.old ++ spells_number number) }
-    {
-        let mut buffer = Buffer::new();
-        self.bytes.push(b'X')?;
-        self.bytes
-            .extend_from_slice(buffer.format(number).as_bytes())?;
+        let start = mem::replace(&mut self.start, self.end);
+        self.pieced.place(self.file, start, self.end)?;
+        let made = &mut self.pieced.made;
+        write_head(level, xref, made)?;
+        made.extend_from_slice(rest.as_bytes())?;
+        made.push(b'\n')?;
         Ok(())
     }
 
@@ -122,11 +184,14 @@ impl Answer {
         requires number { 0 < number }
         ensures { OnOk result (self.new ≡ self.old ++ (spelling (line_parts level (option_copied xref.entry) tag.now (Pointer (spells_number number))) ++ line_feed ∷ [])) }
     {
-        write_head(level, xref, &mut self.bytes)?;
-        self.bytes.extend_from_slice(tag.as_bytes())?;
-        self.bytes.extend_from_slice(b" @")?;
-        self.push_number(number)?;
-        self.bytes.extend_from_slice(b"@\n")?;
+        let start = mem::replace(&mut self.start, self.end);
+        self.pieced.place(self.file, start, self.end)?;
+        let made = &mut self.pieced.made;
+        write_head(level, xref, made)?;
+        made.extend_from_slice(tag.as_bytes())?;
+        made.extend_from_slice(b" @")?;
+        push_number(number, made)?;
+        made.extend_from_slice(b"@\n")?;
         Ok(())
     }
 
@@ -147,6 +212,19 @@ impl Answer {
         self.push_parts(level, xref, tag, ValueView::Pointer(name))
     }
 
+    /// Appends a CONT line with this text. Where it stands in the file behind the last run, it is kept.
+    #[inline(always)]
+    fn push_cont(&mut self, level: u8, text: &str) -> Result<(), AllocError>
+        requires { is_line (line_parts level None (codes "CONT") (line_value text.now)) ≡ true }
+        ensures { OnOk result (self.new ≡ self.old ++ (spelling (line_parts level None (codes "CONT") (line_value text.now)) ++ line_feed ∷ [])) }
+    {
+        if let Some(end) = kept_cont(self.file, level, text, self.end) {
+            self.end = end;
+            return Ok(());
+        }
+        self.push_parts(level, None, "CONT", text_value(text))
+    }
+
     /// Appends a CONT line for each further line of the payload of a structure at a level.
     #[inline(never)]
     pub(crate) fn push_further(
@@ -160,8 +238,7 @@ impl Answer {
         ensures { OnOk result (self.new ≡ self.old ++ spelled_lines (continued (level + 1) further.now)) }
     {
         for number in 0..further.count() {
-            let value = text_value(further.line(number));
-            self.push_parts(level + 1, None, "CONT", value)?;
+            self.push_cont(level + 1, further.line(number))?;
         }
         Ok(())
     }

@@ -18,6 +18,7 @@ ghost use Rattle.ged_canon.specs.inner.Siblings.{StandsIn, sibling_trees};
 ghost use Rattle.ged_canon.specs.inner.CanonBytes.{number_at, CanWriteRecords, WritesRecords};
 
 use crate::edition::Edition;
+use crate::spelled::SpelledForm;
 use crate::writer::answer::Answer;
 use crate::writer::lines::put_identifier;
 use crate::writer::numbers::new_number_with;
@@ -72,7 +73,7 @@ impl<'a, F: Forest> Writer<'a, '_, F> {
         &self,
         sibling: Sibling<'_>,
         name: &mut String,
-        work: &mut Work<'a>,
+        work: &mut Work<'a, '_>,
     ) -> Result<(), AllocError>
         requires { CanWriteRecords (is_named (F.trees self.now.forest.now)) self.now.plan.edition (F.trees self.now.forest.now) (sibling ∷ []) }
         ensures { WritesRecords (F.trees self.now.forest.now) self.now.plan result work.old.answer work.new.answer (sibling.entry ∷ []) }
@@ -90,7 +91,11 @@ impl<'a, F: Forest> Writer<'a, '_, F> {
     }
 
     /// Appends the lines of HEAD and the records, and of what stands below them.
-    fn write_records(&self, siblings: &[Sibling<'_>], work: &mut Work<'a>) -> Result<(), AllocError>
+    fn write_records(
+        &self,
+        siblings: &[Sibling<'_>],
+        work: &mut Work<'a, '_>,
+    ) -> Result<(), AllocError>
         requires { CanWriteRecords (is_named (F.trees self.now.forest.now)) self.now.plan.edition (F.trees self.now.forest.now) siblings.now }
         ensures { WritesRecords (F.trees self.now.forest.now) self.now.plan result work.old.answer work.new.answer siblings.now }
     {
@@ -102,19 +107,24 @@ impl<'a, F: Forest> Writer<'a, '_, F> {
     }
 }
 
-/// The bytes of the canonical form of a document that is as the structure tables ask, where the index is the document's: those
-/// that [`crate::write_document`] gives for what [`crate::canonical_in`] makes. No tree is made, and a payload is copied only
-/// into the answer. Grows (FamilySearch GEDCOM 7.0, "Lines", "Structures", "Date" and "Integer").
-pub fn canonical_bytes_in<F: Forest>(
+/// The canonical form of a document that is as the structure tables ask, where the index is the document's: what
+/// [`crate::write_document`] gives for what [`crate::canonical_in`] makes. No tree is made, and a payload is copied only into
+/// what is answered.
+///
+/// The file is the one that the document was read from, behind a byte order mark. Lines that stand in it as the form has them are
+/// slices of it: any other bytes give the same form, with fewer slices or none. Grows (FamilySearch GEDCOM 7.0, "Lines",
+/// "Structures", "Date" and "Integer").
+pub fn spell_canonical_in<'f, F: Forest>(
     alloc: Global,
     edition: Edition,
     forest: &F,
     index: &Index,
-) -> Result<Vec<u8>, AllocError>
+    file: &'f [u8],
+) -> Result<SpelledForm<'f>, AllocError>
     requires index { IsIndexOf (F.trees forest.now) index.now }
     requires checked { Checked (F.trees forest.now) }
-    ensures normal_form { IfOk result (λ text. (e : Trees) × IsNormalForm edition (F.trees forest.now) e × CanonText e text.items) }
-    ensures only { (e : Trees) → IsNormalForm edition (F.trees forest.now) e → IfOk result (λ text. CanonText e text.items) }
+    ensures normal_form { IfOk result (λ text. (e : Trees) × IsNormalForm edition (F.trees forest.now) e × CanonText e text) }
+    ensures only { (e : Trees) → IsNormalForm edition (F.trees forest.now) e → IfOk result (λ text. CanonText e text) }
 {
     let siblings = document_siblings(alloc, forest)?;
     let records = siblings.as_slice();
@@ -127,11 +137,27 @@ pub fn canonical_bytes_in<F: Forest>(
         numbers,
     };
     let writer = Writer { forest, plan };
-    let answer = Answer::start(alloc, forest.size())?;
+    let answer = Answer::start(alloc, file, forest.size())?;
     let mut work = Work::new(alloc, answer);
     writer.write_records(records, &mut work)?;
     work.answer.push_parts(0, None, "TRLR", ValueView::Empty)?;
-    Ok(work.into_bytes())
+    let form = work.into_form()?;
+    Ok(form)
+}
+
+/// The bytes of the form that [`spell_canonical_in`] answers. Grows.
+pub fn canonical_bytes_in<F: Forest>(
+    alloc: Global,
+    edition: Edition,
+    forest: &F,
+    index: &Index,
+) -> Result<Vec<u8>, AllocError>
+    requires index { IsIndexOf (F.trees forest.now) index.now }
+    requires checked { Checked (F.trees forest.now) }
+    ensures normal_form { IfOk result (λ text. (e : Trees) × IsNormalForm edition (F.trees forest.now) e × CanonText e text.items) }
+    ensures only { (e : Trees) → IsNormalForm edition (F.trees forest.now) e → IfOk result (λ text. CanonText e text.items) }
+{
+    spell_canonical_in(alloc, edition, forest, index, &[])?.into_bytes(alloc)
 }
 
 /// The bytes of the canonical form of the first edition, as [`canonical_bytes_in`] gives them. Grows.

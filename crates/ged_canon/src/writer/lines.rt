@@ -78,7 +78,7 @@ impl Plan<'_> {
         xref: Option<&str>,
         sibling: Sibling<'_>,
         name: &str,
-        work: &mut Work<'_>,
+        work: &mut Work<'_, '_>,
     ) -> Result<(), AllocError>
         requires { is_line (line_parts level (option_copied xref) sibling.tag.now (Pointer name.now)) ≡ true }
         ensures kept { OnOk result (work.new.siblings.items ≡ work.old.siblings.items) }
@@ -107,7 +107,7 @@ impl Plan<'_> {
         xref: Option<&str>,
         tag: &str,
         line: &str,
-        answer: &mut Answer,
+        answer: &mut Answer<'_>,
     ) -> Result<(), AllocError>
         requires { is_line (line_parts level (option_copied xref) tag.now (line_value (spells_brief self.now.edition (row_of rule) line.now))) ≡ true }
         ensures { OnOk result (answer.new ≡ answer.old ++ (spelling (line_parts level (option_copied xref.entry) tag.now (line_value (spells_brief self.now.edition (row_of rule.entry) line.now))) ++ line_feed ∷ [])) }
@@ -131,7 +131,7 @@ impl<F: Forest> Writer<'_, '_, F> {
         level: u8,
         xref: Option<&str>,
         sibling: Sibling<'_>,
-        work: &mut Work<'_>,
+        work: &mut Work<'_, '_>,
     ) -> Result<(), AllocError>
         requires within { sibling.place < trees_count (F.trees self.now.forest.now) }
         requires points { is_pointer (structure_at (F.trees self.now.forest.now) sibling.place).payload ≡ true }
@@ -155,7 +155,7 @@ impl<F: Forest> Writer<'_, '_, F> {
         level: u8,
         xref: Option<&str>,
         sibling: Sibling<'_>,
-        answer: &mut Answer,
+        answer: &mut Answer<'_>,
     ) -> Result<(), AllocError>
         requires within { sibling.place < trees_count (F.trees self.now.forest.now) }
         requires value { is_pointer (structure_at (F.trees self.now.forest.now) sibling.place).payload ≡ false }
@@ -185,7 +185,7 @@ impl<F: Forest> Writer<'_, '_, F> {
         level: u8,
         xref: Option<&str>,
         sibling: Sibling<'_>,
-        work: &mut Work<'_>,
+        work: &mut Work<'_, '_>,
     ) -> Result<(), AllocError>
         requires within { StandsIn (F.trees self.now.forest.now) sibling }
         requires stands { HasLinesAt level (brief_sibling self.now.plan.edition (row_of rule) (option_copied xref) (F.trees self.now.forest.now) sibling) }
@@ -198,7 +198,8 @@ impl<F: Forest> Writer<'_, '_, F> {
         }
         if is_kept(self.forest, self.plan.edition, rule, sibling.place) {
             if let Some(rest) = self.forest.rest_of_line(sibling.place) {
-                return work.answer.push_rest(level, xref, rest);
+                let place = self.forest.start_of_rest(sibling.place);
+                return work.answer.push_rest(level, xref, rest, place);
             }
         }
         self.write_value(rule, level, xref, sibling, &mut work.answer)

@@ -1,11 +1,12 @@
 // What a document is written by, and what changes while it is written.
-ghost use Rattle.std.specs.Prelude.{◌≡◌};
+ghost use Rattle.std.specs.Prelude.{◌≡◌, IfOk};
 
 use crate::edition::Edition;
+use crate::spelled::SpelledForm;
 use crate::writer::answer::Answer;
 use crate::writer::siblings::Sibling;
 use ged_link::{Index, PointerCursor, RecordCursor};
-use std::alloc::Global;
+use std::alloc::{AllocError, Global};
 
 /// By what a document is written: the edition, and the new numbers of its records, as the index counts them.
 #[derive(Clone, Copy)]
@@ -26,17 +27,17 @@ pub(crate) struct Writer<'a, 'p, F> {
 /// What a writer has done: its answer; where the index looks for the next pointer and for the next record; and the siblings of
 /// each run in another order that is being written, those of a deeper run behind those of the runs above it.
 #[derive(Drop)]
-pub(crate) struct Work<'a> {
-    pub(crate) answer: Answer,
+pub(crate) struct Work<'a, 'f> {
+    pub(crate) answer: Answer<'f>,
     pub(crate) pointers: PointerCursor,
     pub(crate) records: RecordCursor,
     pub(crate) siblings: Vec<Sibling<'a>>,
 }
 
-impl<'a> Work<'a> {
+impl<'f> Work<'_, 'f> {
     /// Work of which only the beginning of the answer is done. Takes no memory.
-    pub(crate) fn new(alloc: Global, answer: Answer) -> Work<'a>
-        ensures { result.answer ≡ answer }
+    pub(crate) fn new(alloc: Global, answer: Answer<'f>) -> Self
+        ensures { result.answer ≡ answer.entry }
     {
         Work {
             answer,
@@ -47,8 +48,8 @@ impl<'a> Work<'a> {
     }
 
     /// The answer, when all is written.
-    pub(crate) fn into_bytes(self) -> Vec<u8>
-        ensures { result.items ≡ self.entry.answer }
+    pub(crate) fn into_form(self) -> Result<SpelledForm<'f>, AllocError>
+        ensures { IfOk result (λ form. form ≡ self.entry.answer) }
     {
         let Work {
             answer,
@@ -56,6 +57,6 @@ impl<'a> Work<'a> {
             records: _,
             siblings: _,
         } = self;
-        answer.into_bytes()
+        answer.into_form()
     }
 }

@@ -27,7 +27,7 @@ impl<'a, F: Forest> Writer<'a, '_, F> {
         &self,
         place: usize,
         level: u8,
-        answer: &mut Answer,
+        answer: &mut Answer<'_>,
     ) -> Result<(), AllocError>
         requires within { place < trees_count (F.trees self.now.forest.now) }
         requires shallow { level ≤ 99 }
@@ -51,7 +51,7 @@ impl<'a, F: Forest> Writer<'a, '_, F> {
         level: u8,
         xref: Option<&str>,
         sibling: Sibling<'_>,
-        work: &mut Work<'_>,
+        work: &mut Work<'_, '_>,
     ) -> Result<(), AllocError>
         requires within { StandsIn (F.trees self.now.forest.now) sibling }
         requires stands { HasLinesAt level (brief_sibling self.now.plan.edition (row_of rule) (option_copied xref) (F.trees self.now.forest.now) sibling) }
@@ -79,7 +79,7 @@ impl<'a, F: Forest> Writer<'a, '_, F> {
         xref: Option<&str>,
         sibling: Sibling<'_>,
         end: usize,
-        work: &mut Work<'a>,
+        work: &mut Work<'a, '_>,
     ) -> Result<(), AllocError>
         requires { CanWriteTree self.now.plan.edition (row_of rule) level (option_copied xref) (F.trees self.now.forest.now) sibling end }
         ensures kept { OnOk result (work.new.siblings.items ≡ work.old.siblings.items) }
@@ -103,7 +103,7 @@ impl<'a, F: Forest> Writer<'a, '_, F> {
         level: u8,
         start: usize,
         end: usize,
-        work: &mut Work<'a>,
+        work: &mut Work<'a, '_>,
     ) -> Result<(), AllocError>
         requires { CanWriteRun self.now.plan.edition context level (F.trees self.now.forest.now) start end }
         ensures kept { OnOk result (work.new.siblings.items ≡ work.old.siblings.items) }
@@ -136,7 +136,7 @@ impl<'a, F: Forest> Writer<'a, '_, F> {
         level: u8,
         start: usize,
         end: usize,
-        work: &mut Work<'a>,
+        work: &mut Work<'a, '_>,
     ) -> Result<(), AllocError>
         requires { CanWriteRun self.now.plan.edition context level (F.trees self.now.forest.now) start end }
         ensures kept { OnOk result (work.new.siblings.items ≡ work.old.siblings.items) }

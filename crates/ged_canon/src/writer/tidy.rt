@@ -9,6 +9,7 @@ ghost use Rattle.ged_canon.specs.inner.Working.{each_used};
 ghost use Rattle.ged_canon.specs.inner.CanonBytes.{CanWriteRecords, WritesKept};
 
 use crate::edition::Edition;
+use crate::spelled::SpelledForm;
 use crate::writer::answer::Answer;
 use crate::writer::document::document_siblings;
 use crate::writer::plan::{Plan, Work, Writer};
@@ -21,7 +22,11 @@ use std::alloc::{AllocError, Global};
 
 impl<'a, F: Forest> Writer<'a, '_, F> {
     /// Appends the lines of HEAD or of a record with its own identifier, and of what stands below it.
-    fn write_kept_record(&self, sibling: Sibling<'_>, work: &mut Work<'a>) -> Result<(), AllocError>
+    fn write_kept_record(
+        &self,
+        sibling: Sibling<'_>,
+        work: &mut Work<'a, '_>,
+    ) -> Result<(), AllocError>
         requires { CanWriteRecords each_used self.now.plan.edition (F.trees self.now.forest.now) (sibling ∷ []) }
         ensures { WritesKept (F.trees self.now.forest.now) self.now.plan result work.old.answer work.new.answer (sibling.entry ∷ []) }
     {
@@ -36,7 +41,7 @@ impl<'a, F: Forest> Writer<'a, '_, F> {
     fn write_kept_records(
         &self,
         siblings: &[Sibling<'_>],
-        work: &mut Work<'a>,
+        work: &mut Work<'a, '_>,
     ) -> Result<(), AllocError>
         requires { CanWriteRecords each_used self.now.plan.edition (F.trees self.now.forest.now) siblings.now }
         ensures { WritesKept (F.trees self.now.forest.now) self.now.plan result work.old.answer work.new.answer siblings.now }
@@ -48,20 +53,21 @@ impl<'a, F: Forest> Writer<'a, '_, F> {
     }
 }
 
-/// The bytes of the tidy form of a document that is as the structure tables ask, where the index is the document's: those of
-/// [`crate::canonical_bytes_in`], but each record has the identifier that it has in the document, or none, and each pointer
-/// names the record that it names there. No tree is made, and a payload is copied only into the answer. Grows
-/// (FamilySearch GEDCOM 7.0, "Lines", "Structures", "Date" and "Integer").
-pub fn tidy_bytes_in<F: Forest>(
+/// The tidy form of a document that is as the structure tables ask, where the index is the document's: that of
+/// [`crate::spell_canonical_in`], but each record has the identifier that it has in the document, or none, and each pointer
+/// names the record that it names there. The file is what it is there. Grows (FamilySearch GEDCOM 7.0, "Lines", "Structures",
+/// "Date" and "Integer").
+pub fn spell_tidy_in<'f, F: Forest>(
     alloc: Global,
     edition: Edition,
     forest: &F,
     index: &Index,
-) -> Result<Vec<u8>, AllocError>
+    file: &'f [u8],
+) -> Result<SpelledForm<'f>, AllocError>
     requires index { IsIndexOf (F.trees forest.now) index.now }
     requires checked { Checked (F.trees forest.now) }
-    ensures tidy_form { IfOk result (λ text. (e : Trees) × IsTidyForm edition (F.trees forest.now) e × CanonText e text.items) }
-    ensures only { (e : Trees) → IsTidyForm edition (F.trees forest.now) e → IfOk result (λ text. CanonText e text.items) }
+    ensures tidy_form { IfOk result (λ text. (e : Trees) × IsTidyForm edition (F.trees forest.now) e × CanonText e text) }
+    ensures only { (e : Trees) → IsTidyForm edition (F.trees forest.now) e → IfOk result (λ text. CanonText e text) }
 {
     let siblings = document_siblings(alloc, forest)?;
     let records = siblings.as_slice();
@@ -73,9 +79,25 @@ pub fn tidy_bytes_in<F: Forest>(
         numbers: &[],
     };
     let writer = Writer { forest, plan };
-    let answer = Answer::start(alloc, forest.size())?;
+    let answer = Answer::start(alloc, file, forest.size())?;
     let mut work = Work::new(alloc, answer);
     writer.write_kept_records(records, &mut work)?;
     work.answer.push_parts(0, None, "TRLR", ValueView::Empty)?;
-    Ok(work.into_bytes())
+    let form = work.into_form()?;
+    Ok(form)
+}
+
+/// The bytes of the form that [`spell_tidy_in`] answers. Grows.
+pub fn tidy_bytes_in<F: Forest>(
+    alloc: Global,
+    edition: Edition,
+    forest: &F,
+    index: &Index,
+) -> Result<Vec<u8>, AllocError>
+    requires index { IsIndexOf (F.trees forest.now) index.now }
+    requires checked { Checked (F.trees forest.now) }
+    ensures tidy_form { IfOk result (λ text. (e : Trees) × IsTidyForm edition (F.trees forest.now) e × CanonText e text.items) }
+    ensures only { (e : Trees) → IsTidyForm edition (F.trees forest.now) e → IfOk result (λ text. CanonText e text.items) }
+{
+    spell_tidy_in(alloc, edition, forest, index, &[])?.into_bytes(alloc)
 }

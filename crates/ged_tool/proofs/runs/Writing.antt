@@ -1,7 +1,7 @@
 -- What a writer takes of parts that are written one behind the other.
-use Rattle.std.proofs.Common.{◌≡◌, ℕ, ◌+◌, ◌<◌, ◌≤◌, List, [], ◌∷◌, ◌++◌, length, get_or, take, drop, Option, refl, sym, ◌∙◌, ap, subst, length-append}
-use Rattle.std.proofs.lemmas.List.{append-nil, append_assoc, drop_more, drop_all}
-use Rattle.std.proofs.Math.Seq.{take-append-add, take-append_seam}
+use Rattle.std.proofs.Common.{◌≡◌, ℕ, zero, suc, ◌+◌, ◌<◌, ◌≤◌, List, [], ◌∷◌, ◌++◌, length, get_or, take, drop, Option, refl, sym, ◌∙◌, ap, subst, length-append, take-append-drop, arith}
+use Rattle.std.proofs.lemmas.List.{append-nil, append_assoc, drop_more, drop_all, length-drop, length-take-le}
+use Rattle.std.proofs.Math.Seq.{take-append-add, take-append_seam, take-nil}
 use Rattle.std.specs.Io.{StartsWith}
 use Rattle.std.specs.Io.KnownBytes.{Appends}
 use Rattle.std.proofs.KnownBytes.{Appends-nil, Appends-trans, starts_with_rest}
@@ -65,3 +65,26 @@ pub then_front : (taken before holds : Option Bytes) (first second written : Byt
     → (all : Bytes) × Appends taken holds all × StartsWith (first ++ second) all
 then_front taken before holds first second written took more starts =
     (first ++ written, Appends-trans taken before holds first written took more, starts_behind first second written starts)
+
+-- what was read to the front of a buffer, and what is left
+pub filled : (left buffer rest : Bytes) (room count : ℕ) → take count buffer ≡ take room left → rest ≡ drop room left → left ≡ take count buffer ++ rest
+filled left buffer rest room count front behind = sym (take-append-drop room left) ∙ (λ i. sym front i ++ sym behind i)
+
+-- nothing is left where none was read
+pub none_left : (left : Bytes) (room : ℕ) → 0 < room → [] ≡ take room left → left ≡ []
+none_left [] room some e = refl
+none_left (b ∷ bs) zero some e = absurd (omega (arith, some))
+none_left (b ∷ bs) (suc room) some e = let none : 0 ≡ suc (length (take room bs)) = ap length e in absurd (omega (arith, none))
+
+-- fewer are left where some were
+pub fewer_left : (left buffer rest : Bytes) (room count : ℕ) → 0 < room → 0 < count → count ≤ length buffer → take count buffer ≡ take room left → rest ≡ drop room left → length rest < length left
+fewer_left [] buffer rest room count some read fits front behind =
+    let none : length (take count buffer) ≡ 0 = ap length front ∙ ap length (take-nil room) in absurd (omega (arith, read, none, length-take-le count buffer fits))
+fewer_left (b ∷ bs) buffer rest room count some read fits front behind = omega (arith, some, ap length behind, length-drop room (b ∷ bs))
+
+-- a buffer of which a front was written, behind what was
+pub through_stops : (taken before holds : Option Bytes) (whole left front piece rest written : Bytes) → whole ≡ front ++ left → left ≡ piece ++ rest
+    → Appends taken before front → Appends before holds written → StartsWith piece written → (all : Bytes) × Appends taken holds all × StartsWith whole all
+through_stops taken before holds whole left front piece rest written was next went more starts =
+    let (all, took, begins) = then_front taken before holds front (piece ++ rest) written went more (starts_before piece rest written starts) in
+    (all, took, subst (λ x. StartsWith x all) (sym (was ∙ ap (λ xs. front ++ xs) next)) begins)

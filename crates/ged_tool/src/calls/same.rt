@@ -1,16 +1,15 @@
 // Whether two files say the same.
-ghost use Rattle.std.specs.Prelude.{◌≡◌, ◌↔◌, IsTrue, IfOk, IfErr, MatchResult};
+ghost use Rattle.std.specs.Prelude.{◌≡◌, ◌↔◌, IsTrue, IfOk, IfErr};
 ghost use Rattle.ged_tool.specs.Profiles.{profile_of, edition_of};
 ghost use Rattle.ged_tool.specs.Accepted.{FileFaultAt, IsRefusal};
-ghost use Rattle.ged_tool.specs.Same.{AreCompared, AreComparedBy, IsInForm, IsSameRefusal, relation_of};
+ghost use Rattle.ged_tool.specs.Same.{AreCompared, AreComparedBy, IsSameRefusal, relation_of};
 
 use crate::calls::accept::accept_as;
-use crate::calls::canonicalise::canonicalise_as;
-use crate::calls::tidy::tidy_as;
+use crate::calls::spell::spell_form;
 use crate::comparison::{Comparison, Form};
 use crate::faults::{Fault, Which};
 use crate::settings::Settings;
-use ged_canon::Edition;
+use ged_canon::{Edition, SpelledForm};
 use ged_schema::Profile;
 use std::alloc::Global;
 
@@ -19,7 +18,7 @@ use std::alloc::Global;
 pub struct SameFault {
     /// The file with the fault.
     pub which: Which,
-    /// What [`canonicalise_as`] and [`tidy_as`] answer for that file.
+    /// What [`crate::canonicalise_as`] and [`crate::tidy_as`] answer for that file.
     pub fault: Fault,
 }
 
@@ -50,9 +49,9 @@ pub fn same_as(
 /// the canonical form whether one's document becomes the other's by steps, in the tidy form whether it does by steps at
 /// places, which leave each identifier as it is.
 ///
-/// The first file is put into the form, then the second, but for two files of equal bytes, which are judged once. Answers InFile with the first file's first fault, or where that
-/// file is accepted with the second's, or Memory for the file for which none was found; no other fault. Grows; the
-/// comparison takes no memory.
+/// The first file is put into the form, then the second, but for two files of equal bytes, which are judged once. What stands in
+/// a file as the form has it is not copied. Answers InFile with the first file's first fault, or where that file is accepted with
+/// the second's, or Memory for the file for which none was found; no other fault. Grows; the comparison takes no memory.
 pub fn same_by(
     alloc: Global,
     comparison: Comparison,
@@ -66,15 +65,16 @@ pub fn same_by(
     if are_equal(first, second) {
         return is_as_its_copy(alloc, comparison, first);
     }
-    let first_bytes = match bytes_in_form(alloc, comparison, first) {
-        Ok(bytes) => bytes,
+    let Comparison { settings, form } = comparison;
+    let first_form = match spell_form(alloc, settings, form, first) {
+        Ok(form) => form,
         Err(fault) => return Err(fault_of(Which::First, fault)),
     };
-    let second_bytes = match bytes_in_form(alloc, comparison, second) {
-        Ok(bytes) => bytes,
+    let second_form = match spell_form(alloc, settings, form, second) {
+        Ok(form) => form,
         Err(fault) => return Err(fault_of(Which::Second, fault)),
     };
-    Ok(are_equal(&first_bytes, &second_bytes))
+    Ok(have_equal_bytes(&first_form, &second_form))
 }
 
 /// What [`same_by`] answers for a file and a copy of it: they are the same where the file is accepted, so neither is put into
@@ -90,18 +90,6 @@ fn is_as_its_copy(alloc: Global, comparison: Comparison, bytes: &[u8]) -> Result
     }
 }
 
-/// The bytes of a file in the form of a comparison.
-fn bytes_in_form(alloc: Global, comparison: Comparison, bytes: &[u8]) -> Result<Vec<u8>, Fault>
-    ensures { MatchResult result
-        (λ text. IsInForm comparison.form (profile_of comparison.settings) (edition_of comparison.settings) bytes.now text.items)
-        (IsRefusal (FileFaultAt (profile_of comparison.settings) bytes.now)) }
-{
-    match comparison.form {
-        Form::Canonical => canonicalise_as(alloc, comparison.settings, bytes),
-        Form::Tidy => tidy_as(alloc, comparison.settings, bytes),
-    }
-}
-
 fn fault_of(which: Which, fault: Fault) -> SameFault
     ensures which { result.which ≡ which }
     ensures fault { result.fault ≡ fault }
@@ -113,4 +101,21 @@ fn are_equal(first: &[u8], second: &[u8]) -> bool
     ensures { IsTrue result ↔ (first.now ≡ second.now) }
 {
     first == second
+}
+
+/// Whether two forms have the same bytes. They are compared piece by piece, where they stand.
+fn have_equal_bytes(first: &SpelledForm<'_>, second: &SpelledForm<'_>) -> bool
+    ensures { IsTrue result ↔ (first.now ≡ second.now) }
+{
+    let mut first = first.reader();
+    let mut second = second.reader();
+    loop {
+        let piece = first.next_up_to(usize::MAX);
+        if piece.is_empty() {
+            return second.next_up_to(1).is_empty();
+        }
+        if !second.passes(piece) {
+            return false;
+        }
+    }
 }

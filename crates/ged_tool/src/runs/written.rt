@@ -1,23 +1,30 @@
 // Answers on their way to a writer: nothing is written before the whole answer is made.
-ghost use Rattle.std.specs.Prelude.{◌≡◌, ◌++◌, ◌↔◌, false, IsTrue, IsErrOf, IfErr, OnErr, OnOk};
+ghost use Rattle.std.specs.Prelude.{◌≡◌, ◌++◌, ◌<◌, ◌↔◌, false, length, IsTrue, IsErrOf, IfErr, OnErr, OnOk};
 ghost use Rattle.std.specs.Io.KnownBytes.{Appends};
 ghost use Rattle.std.specs.Io.{StartsWith};
 ghost use Rattle.ged_line.specs.Bytes.{Bytes};
 ghost use Rattle.ged_line.specs.Files.{joined};
 ghost use Rattle.ged_tool.specs.Profiles.{profile_of, edition_of};
+ghost use Rattle.ged_tool.specs.Accepted.{FileFaultAt};
 ghost use Rattle.ged_tool.specs.Answers.{Answers, FaultAt};
+ghost use Rattle.ged_tool.specs.Same.{IsInForm};
 ghost use Rattle.ged_tool.specs.inner.Steps.{IsWritten, StopsAnswering};
 
+use crate::calls::spell::spell_form;
+use crate::comparison::Form;
 use crate::faults::Fault;
 use crate::runs::answer::{Command, answer};
 use crate::runs::devices::{Failed, Sink};
 use crate::settings::Settings;
-use ged_canon::Edition;
+use ged_canon::{Edition, FormReader};
 use ged_line::{RespellFault, SpelledPart, respell_parts};
 use ged_schema::Profile;
 use std::alloc::Global;
 
-/// Makes the answer to a file and writes it. That of `lines` never stands in memory as a whole.
+/// How many bytes of a form are written at a time.
+const BUFFER: usize = 65536;
+
+/// Makes the answer to a file and writes it. Those of `lines`, `canon` and `canon --tidy` never stand in memory as a whole.
 pub(crate) fn write_answer<W: Sink>(
     alloc: Global,
     settings: Settings,
@@ -34,6 +41,8 @@ pub(crate) fn write_answer<W: Sink>(
 {
     match command {
         Command::Lines => write_lines(alloc, bytes, writer),
+        Command::Canon => write_form(alloc, settings, Form::Canonical, bytes, writer),
+        Command::Tidy => write_form(alloc, settings, Form::Tidy, bytes, writer),
         _ => write_text(alloc, settings, command, bytes, writer),
     }
 }
@@ -86,6 +95,60 @@ fn write_lines<W: Sink>(alloc: Global, bytes: &[u8], writer: &mut W) -> Result<(
     match write_parts(writer, &parts) {
         Ok(()) => Ok(()),
         Err(Failed) => Err(Fault::WriteFailed),
+    }
+}
+
+/// The same for a file in a form. It goes through a buffer, which is taken before the first byte is written.
+fn write_form<W: Sink>(
+    alloc: Global,
+    settings: Settings,
+    form: Form,
+    bytes: &[u8],
+    writer: &mut W,
+) -> Result<(), Fault>
+    requires { W.failed writer.old ≡ false }
+    ensures failed { IsTrue (W.failed writer.new) ↔ IsErrOf result Fault.WriteFailed }
+    ensures ok { OnOk result (IsWritten (IsInForm form (profile_of settings) (edition_of settings) bytes.now)
+        (W.taken writer.old) (W.taken writer.new)) }
+    ensures err { IfErr result (λ fault. StopsAnswering (IsInForm form (profile_of settings) (edition_of settings) bytes.now)
+        (FileFaultAt (profile_of settings) bytes.now) (W.taken writer.old) (W.taken writer.new) fault) }
+{
+    let spelled = match spell_form(alloc, settings, form, bytes) {
+        Ok(spelled) => spelled,
+        Err(fault) => return Err(fault),
+    };
+    let mut buffer = match vec![in alloc; 0u8; BUFFER] {
+        Ok(buffer) => buffer,
+        Err(error) => return Err(Fault::Memory(error)),
+    };
+    match write_through(writer, spelled.reader(), &mut buffer) {
+        Ok(()) => Ok(()),
+        Err(Failed) => Err(Fault::WriteFailed),
+    }
+}
+
+/// Writes all that a reader has, a buffer at a time.
+fn write_through<W: Sink>(
+    writer: &mut W,
+    mut reader: FormReader<'_>,
+    buffer: &mut [u8],
+) -> Result<(), Failed>
+    requires failed { W.failed writer.old ≡ false }
+    requires room { 0 < length buffer.old }
+    ensures ok { OnOk result ((W.failed writer.new ≡ false)
+        × Appends (W.taken writer.old) (W.taken writer.new) reader.entry) }
+    ensures err { OnErr result (IsTrue (W.failed writer.new) × (written : Bytes)
+        × Appends (W.taken writer.old) (W.taken writer.new) written × StartsWith reader.entry written) }
+{
+    loop {
+        let count = reader.fill(buffer);
+        if count == 0 {
+            return Ok(());
+        }
+        match write_whole(writer, &buffer[..count]) {
+            Ok(()) => {}
+            Err(Failed) => return Err(Failed),
+        }
     }
 }
 

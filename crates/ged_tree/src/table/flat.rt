@@ -125,6 +125,14 @@ impl<'a> Flat<'a> {
         self.at(place).rest()
     }
 
+    /// Where what [`Flat::rest_at`] answers begins in the file, in bytes; or `None` where that is not kept.
+    #[inline(always)]
+    fn start_of_rest_at(&self, place: usize) -> Option<usize>
+        requires { place < trees_count self.now }
+    {
+        self.structures[place].start_of_rest()
+    }
+
     fn after_at(&self, place: usize) -> usize
         requires { place < trees_count self.now }
         ensures { result ≡ place_after self.now place }
@@ -232,6 +240,11 @@ impl<'a> Forest for Flat<'a> {
     #[inline(always)]
     fn rest_of_line(&self, place: usize) -> Option<&str> {
         Some(self.rest_at(place))
+    }
+
+    #[inline(always)]
+    fn start_of_rest(&self, place: usize) -> Option<usize> {
+        self.start_of_rest_at(place)
     }
 
     fn further(&self, place: usize) -> usize {

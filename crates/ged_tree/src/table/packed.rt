@@ -65,6 +65,15 @@ impl KeptStructure {
         Some(self.tag_mark > 127)
     }
 
+    /// Where its tag begins in the file, in bytes; or `None` where that is not kept.
+    #[inline(always)]
+    pub(crate) fn start_of_rest(&self) -> Option<usize> {
+        if self.length == APART || self.tag_length() == 0 {
+            return None;
+        }
+        Some(self.start as usize + self.tag_start as usize)
+    }
+
     /// Whether its payload has lines past the first.
     #[inline(always)]
     pub(crate) fn has_further(&self) -> bool

@@ -67,7 +67,7 @@ class Structure(NamedTuple):
 
 
 def lines(data: Data) -> bytes:
-    """The lines of a file in their canonical spelling, behind a byte order mark.
+    """The lines of a file in their canonical spelling, after a byte order mark.
 
     Only the lines are judged, faults 1 to 8, and nothing but their spelling is changed.
 

@@ -1,28 +1,25 @@
-use Rattle.std.proofs.Common.{◌<◌, ◌≤◌, ◌+◌, ◌++◌, length, sym, ap, ◌∙◌, append-nil, arith, codes}
+use Rattle.std.proofs.Common.{◌<◌, ◌≤◌, ◌+◌, ◌++◌, length, refl, sym, ap, ◌∙◌, append-nil, arith}
 use Rattle.std.proofs.lemmas.List.{take_all}
-use Rattle.ged_line.specs.Lines.{is_line, line_parts}
 use Rattle.ged_line.specs.Spelling.{spelled_lines}
 use Rattle.ged_tree.specs.DocumentLines.{continued}
-use Rattle.std.specs.Prelude.{None}
 use Rattle.ged_canon.proofs.writer.OwnLines.{cont_line, plain_at, further_more}
 use Rattle.ged_canon.proofs.writer.answer.Answer.push_further.Goals as goal
 
 pub loop-number-init : goal.loop-number-init
 loop-number-init c = sym (append-nil c.args.self.now)
 
-pub push_parts-requires : goal.push_parts-requires
-push_parts-requires c =
+pub push_cont-requires : goal.push_cont-requires
+push_cont-requires c =
     let further = c.args.further.now in
     let within : c.loop-number.number < length further = omega (arith, c.loop-number-test.true, c.count-number-end.ensures) in
     let some : 0 < length further = omega (arith, within) in
-    ap (λ v. is_line (line_parts (c.args.level + 1) None (codes "CONT") v)) c.text_value-value.ensures
-    ∙ cont_line c.args.level c.line.result.now (c.requires.room some) (plain_at further c.loop-number.number c.line.result.now c.requires.plain within c.line.ensures)
+    cont_line c.args.level c.line.result.now (c.requires.room some) (plain_at further c.loop-number.number c.line.result.now c.requires.plain within c.line.ensures)
 
 pub loop-number-preserved : goal.loop-number-preserved
 loop-number-preserved c =
     let further = c.args.further.now in
     let within : c.loop-number.number < length further = omega (arith, c.loop-number-test.true, c.count-number-end.ensures) in
-    further_more c.args.self.now c.loop-number.self c.push_parts.new.self (c.args.level + 1) further c.loop-number.number c.line.result.now _ within c.line.ensures c.text_value-value.ensures c.loop-number.invariant c.in_ok-push_parts.ensures
+    further_more c.args.self.now c.loop-number.self c.push_cont.new.self (c.args.level + 1) further c.loop-number.number c.line.result.now _ within c.line.ensures refl c.loop-number.invariant c.in_ok-push_cont.ensures
 
 pub returns : goal.returns
 returns c =

@@ -1,5 +1,5 @@
 use Rattle.std.proofs.Common.{rules}
-use Rattle.ged_tool.proofs.calls.same.bytes_in_form.Goals as goal
+use Rattle.ged_tool.proofs.calls.spell.spell_form.Goals as goal
 
 pub returns-in-Canonical : goal.returns-in-Canonical
 returns-in-Canonical c = search rules

@@ -7,7 +7,7 @@ use Rattle.ged_canon.specs.inner.Siblings.{StandsIn, sibling_trees, sibling_name
 use Rattle.ged_canon.proofs.theory.Normality.{canon_is_normal_form}
 use Rattle.ged_canon.proofs.writer.Parts.{sorted_known, sorted_distinct}
 use Rattle.ged_canon.proofs.writer.Records.{names_listed, sorted_named, sorted_is_document, siblings_stand, numbered_document_of, file_spelled, only_form}
-use Rattle.ged_canon.proofs.writer.document.canonical_bytes_in.Goals as goal
+use Rattle.ged_canon.proofs.writer.document.spell_canonical_in.Goals as goal
 
 pub numbers_in_order-requires-clause-within : goal.numbers_in_order-requires-clause-within
 numbers_in_order-requires-clause-within g c =
@@ -55,7 +55,7 @@ returns-clause-normal_form g c =
     let numbering : IsNumberingOf d names c.args.index.now c.as_slice-numbers.result.now =
     (c.requires.index, subst (λ (ns : List ℕ). AreNumbersOf d names ns) (sym c.as_slice-numbers.ensures.value) c.in_ok-counted.ensures) in
     let named = sorted_named edition d names c.requires.index.resolved (names_listed edition d xs listed) in
-    let told = file_spelled (is_named d) edition names d (canon edition d) xs c.new-work.result.answer c.write_records.new.work.answer c.into_bytes.result.items (numbered_document_of edition d xs listed) (c.new-work.ensures ∙ c.in_ok-answer.ensures) (c.in_ok-write_records.ensures names numbering named) (c.into_bytes.ensures ∙ c.in_ok-push_parts.ensures) in
+    let told = file_spelled (is_named d) edition names d (canon edition d) xs c.new-work.result.answer c.write_records.new.work.answer c.in_ok-form.form (numbered_document_of edition d xs listed) (c.new-work.ensures ∙ c.in_ok-answer.ensures) (c.in_ok-write_records.ensures names numbering named) (c.in_ok-form.ensures ∙ c.in_ok-push_parts.ensures) in
     (canon edition d, canon_is_normal_form edition d c.document_siblings.ensures.document c.requires.index.resolved c.requires.checked, told)
 
 pub returns-clause-only : goal.returns-clause-only
@@ -68,5 +68,5 @@ returns-clause-only g c = λ e form.
     let numbering : IsNumberingOf d names c.args.index.now c.as_slice-numbers.result.now =
     (c.requires.index, subst (λ (ns : List ℕ). AreNumbersOf d names ns) (sym c.as_slice-numbers.ensures.value) c.in_ok-counted.ensures) in
     let named = sorted_named edition d names c.requires.index.resolved (names_listed edition d xs listed) in
-    let told = file_spelled (is_named d) edition names d (canon edition d) xs c.new-work.result.answer c.write_records.new.work.answer c.into_bytes.result.items (numbered_document_of edition d xs listed) (c.new-work.ensures ∙ c.in_ok-answer.ensures) (c.in_ok-write_records.ensures names numbering named) (c.into_bytes.ensures ∙ c.in_ok-push_parts.ensures) in
-    only_form edition d e c.into_bytes.result.items told form
+    let told = file_spelled (is_named d) edition names d (canon edition d) xs c.new-work.result.answer c.write_records.new.work.answer c.in_ok-form.form (numbered_document_of edition d xs listed) (c.new-work.ensures ∙ c.in_ok-answer.ensures) (c.in_ok-write_records.ensures names numbering named) (c.in_ok-form.ensures ∙ c.in_ok-push_parts.ensures) in
+    only_form edition d e c.in_ok-form.form told form

@@ -7,7 +7,7 @@ use Rattle.ged_canon.specs.inner.Siblings.{StandsIn, sibling_trees}
 use Rattle.ged_canon.proofs.theory.Tidy.{sorted_is_tidy_form}
 use Rattle.ged_canon.proofs.writer.KeptNames.{unnumbered, sorted_stands, kept_listed, kept_document, only_tidy}
 use Rattle.ged_canon.proofs.writer.Records.{siblings_stand, file_spelled}
-use Rattle.ged_canon.proofs.writer.tidy.tidy_bytes_in.Goals as goal
+use Rattle.ged_canon.proofs.writer.tidy.spell_tidy_in.Goals as goal
 
 pub write_kept_records-requires : goal.write_kept_records-requires
 write_kept_records-requires g c =
@@ -27,7 +27,7 @@ returns-clause-tidy_form g c =
     let edition = c.args.edition in
     let xs = c.as_slice-records.result.now in
     let listed = ap (sibling_trees each_used edition File d) c.as_slice-records.ensures.value ∙ c.in_ok-siblings.ensures.trees each_used edition in
-    let told = file_spelled each_used edition [] d (sorted_document edition d) xs c.new-work.result.answer c.write_kept_records.new.work.answer c.into_bytes.result.items (kept_document edition d xs listed) (c.new-work.ensures ∙ c.in_ok-answer.ensures) (c.in_ok-write_kept_records.ensures (unnumbered d c.args.index.now c.requires.index)) (c.into_bytes.ensures ∙ c.in_ok-push_parts.ensures) in
+    let told = file_spelled each_used edition [] d (sorted_document edition d) xs c.new-work.result.answer c.write_kept_records.new.work.answer c.in_ok-form.form (kept_document edition d xs listed) (c.new-work.ensures ∙ c.in_ok-answer.ensures) (c.in_ok-write_kept_records.ensures (unnumbered d c.args.index.now c.requires.index)) (c.in_ok-form.ensures ∙ c.in_ok-push_parts.ensures) in
     (sorted_document edition d, sorted_is_tidy_form edition d c.document_siblings.ensures.document c.requires.checked, told)
 
 pub returns-clause-only : goal.returns-clause-only
@@ -36,5 +36,5 @@ returns-clause-only g c = λ e form.
     let edition = c.args.edition in
     let xs = c.as_slice-records.result.now in
     let listed = ap (sibling_trees each_used edition File d) c.as_slice-records.ensures.value ∙ c.in_ok-siblings.ensures.trees each_used edition in
-    let told = file_spelled each_used edition [] d (sorted_document edition d) xs c.new-work.result.answer c.write_kept_records.new.work.answer c.into_bytes.result.items (kept_document edition d xs listed) (c.new-work.ensures ∙ c.in_ok-answer.ensures) (c.in_ok-write_kept_records.ensures (unnumbered d c.args.index.now c.requires.index)) (c.into_bytes.ensures ∙ c.in_ok-push_parts.ensures) in
-    only_tidy edition d e c.into_bytes.result.items told form
+    let told = file_spelled each_used edition [] d (sorted_document edition d) xs c.new-work.result.answer c.write_kept_records.new.work.answer c.in_ok-form.form (kept_document edition d xs listed) (c.new-work.ensures ∙ c.in_ok-answer.ensures) (c.in_ok-write_kept_records.ensures (unnumbered d c.args.index.now c.requires.index)) (c.in_ok-form.ensures ∙ c.in_ok-push_parts.ensures) in
+    only_tidy edition d e c.in_ok-form.form told form

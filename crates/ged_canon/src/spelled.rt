@@ -1,0 +1,84 @@
+// A form of a document in bytes.
+pub(crate) mod reader;
+
+ghost use Rattle.std.specs.Prelude.{◌≡◌, IfOk};
+
+use crate::spelled::reader::{FormReader, Pieces};
+use std::alloc::{AllocError, Global};
+use std::marker::Model;
+
+/// A run of bytes that a form has as they stand in a file, behind others that were made.
+#[derive(Clone, Copy)]
+pub(crate) struct KeptRun {
+    /// How many bytes were made before it, behind the run before.
+    pub(crate) made: u32,
+    /// Where it begins in the file, in bytes.
+    pub(crate) start: u32,
+    /// How many bytes it has.
+    pub(crate) length: u32,
+}
+
+/// A form of a document in bytes, most of them slices of the file that the document was read from. Contracts see it as all
+/// these bytes.
+#[derive(Drop)]
+pub struct SpelledForm<'a> {
+    pub(crate) file: &'a [u8],
+    pub(crate) runs: Vec<KeptRun>,
+    /// What stands before, between and behind the runs.
+    pub(crate) made: Vec<u8>,
+}
+
+impl<'a> Model for SpelledForm<'a> {
+    ghost use Rattle.ged_line.specs.Bytes.{Bytes};
+    ghost use Rattle.ged_canon.specs.SpelledForms.{joined_runs};
+
+    ghost Value = { Bytes };
+
+    ghost view = { λ f. joined_runs f.file.now f.runs.items f.made.items };
+}
+
+impl<'a> SpelledForm<'a> {
+    /// What reads the bytes, from the first on. Takes no memory.
+    pub fn reader(&self) -> FormReader<'_>
+        ensures { result ≡ self.now }
+    {
+        FormReader {
+            piece: &[],
+            pieces: self.pieces(),
+        }
+    }
+
+    fn pieces(&self) -> Pieces<'_>
+        ensures { result ≡ self.now }
+    {
+        Pieces {
+            file: self.file,
+            runs: &self.runs,
+            made: &self.made,
+            kept: &[],
+        }
+    }
+
+    /// All the bytes in one vector. Takes memory where some are slices of the file.
+    pub fn into_bytes(self, alloc: Global) -> Result<Vec<u8>, AllocError>
+        ensures { IfOk result (λ bytes. bytes.items ≡ self.entry) }
+    {
+        if self.runs.is_empty() {
+            let SpelledForm {
+                file: _,
+                runs: _,
+                made,
+            } = self;
+            return Ok(made);
+        }
+        let mut bytes = Vec::with_capacity(alloc, self.file.len())?;
+        let mut pieces = self.pieces();
+        loop {
+            let piece = pieces.next_piece();
+            if piece.is_empty() {
+                return Ok(bytes);
+            }
+            bytes.extend_from_slice(piece)?;
+        }
+    }
+}

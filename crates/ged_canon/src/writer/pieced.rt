@@ -1,0 +1,105 @@
+// Runs of a file, and what was made between them.
+ghost use Rattle.std.specs.Prelude.{◌≡◌, ◌≤◌, ◌-◌, ◌++◌, ◌∷◌, [], IfOk, IfSome, OnOk, length, slice_range};
+ghost use Rattle.ged_canon.specs.SpelledForms.{joined_runs};
+ghost use Rattle.ged_canon.specs.inner.Runs.{ArePlaced};
+
+use crate::spelled::KeptRun;
+use std::alloc::{AllocError, Global};
+
+/// How many bytes are taken for each structure of a document before it is written, a little more than most need.
+const BYTES_PER_STRUCTURE: usize = 28;
+
+/// How many bytes of the file, at least, are kept as a run. Fewer are copied between those that were made, so that there are not
+/// too many runs.
+const SHORTEST_RUN: usize = 32;
+
+/// Runs of a file, and what was made before, between and behind them.
+#[derive(Drop)]
+pub(crate) struct Pieced {
+    pub(crate) runs: Vec<KeptRun>,
+    pub(crate) made: Vec<u8>,
+    /// How many of the bytes that were made stand before the last run.
+    pub(crate) placed: usize,
+}
+
+impl Pieced {
+    /// The byte order mark, in memory for a document of so many structures, from a file of so many bytes. What is made for an
+    /// ordinary one has room there, and any other one makes it grow; the runs of a file always have room.
+    pub(crate) fn start(
+        alloc: Global,
+        structures: usize,
+        bytes: usize,
+    ) -> Result<Pieced, AllocError>
+        ensures runs { IfOk result (λ pieced. pieced.runs.items ≡ []) }
+        ensures made { IfOk result (λ pieced. pieced.made.items ≡ 0xEF ∷ 0xBB ∷ 0xBF ∷ []) }
+        ensures placed { IfOk result (λ pieced. pieced.placed ≡ 0) }
+    {
+        let room = structures.saturating_mul(BYTES_PER_STRUCTURE);
+        let mut made = Vec::with_capacity(alloc, room)?;
+        made.extend_from_slice(&[0xEF, 0xBB, 0xBF])?;
+        let runs = Vec::with_capacity(alloc, bytes / SHORTEST_RUN)?;
+        Ok(Pieced {
+            runs,
+            made,
+            placed: 0,
+        })
+    }
+
+    /// Appends the bytes of a file from one place up to another.
+    #[inline(always)]
+    pub(crate) fn place(&mut self, file: &[u8], start: usize, end: usize) -> Result<(), AllocError>
+        requires order { start ≤ end }
+        requires within { end ≤ length file.now }
+        requires placed { ArePlaced self.old.runs.items self.old.made.items self.old.placed }
+        ensures placed { ArePlaced self.new.runs.items self.new.made.items self.new.placed }
+        ensures joined { OnOk result (joined_runs file.now self.new.runs.items self.new.made.items
+            ≡ joined_runs file.now self.old.runs.items self.old.made.items ++ slice_range file.now start end) }
+    {
+        if start == end {
+            return Ok(());
+        }
+        self.place_some(file, start, end)
+    }
+
+    /// The same where there is a byte.
+    #[inline(never)]
+    fn place_some(&mut self, file: &[u8], start: usize, end: usize) -> Result<(), AllocError>
+        requires order { start ≤ end }
+        requires within { end ≤ length file.now }
+        requires placed { ArePlaced self.old.runs.items self.old.made.items self.old.placed }
+        ensures placed { ArePlaced self.new.runs.items self.new.made.items self.new.placed }
+        ensures joined { OnOk result (joined_runs file.now self.new.runs.items self.new.made.items
+            ≡ joined_runs file.now self.old.runs.items self.old.made.items ++ slice_range file.now start end) }
+    {
+        let Some(run) = run_of(self.made.len() - self.placed, start, end) else {
+            return self.made.extend_from_slice(&file[start..end]);
+        };
+        self.runs.push(run)?;
+        self.placed = self.made.len();
+        Ok(())
+    }
+}
+
+/// A run from one place of the file up to another behind so many bytes that were made, or `None` where it is too short to be
+/// kept, or a number too large.
+fn run_of(made: usize, start: usize, end: usize) -> Option<KeptRun>
+    requires { start ≤ end }
+    ensures { IfSome result (λ run. (run.made ≡ made) × (run.start ≡ start) × (run.length ≡ end - start)) }
+{
+    let length = end - start;
+    if length < SHORTEST_RUN {
+        return None;
+    }
+    let (Ok(made), Ok(start), Ok(length)) = (
+        u32::try_from(made),
+        u32::try_from(start),
+        u32::try_from(length),
+    ) else {
+        return None;
+    };
+    Some(KeptRun {
+        made,
+        start,
+        length,
+    })
+}
