@@ -30,6 +30,12 @@ use ged_schema::{Context, ContextRows};
 use ged_tree::{Forest, end_of_all, next_in_run};
 use std::alloc::{AllocError, Global};
 
+/// How many structures a record has, at least, in an ordinary document of more than a few records. The vector of records grows where
+/// they have fewer.
+const STRUCTURES_PER_RECORD: usize = 16;
+
+const FEW_RECORDS: usize = 4;
+
 /// HEAD, and behind it the records in the order of their tags.
 pub(crate) fn document_siblings<F: Forest>(
     alloc: Global,
@@ -45,7 +51,8 @@ pub(crate) fn document_siblings<F: Forest>(
     let Some(records) = next_in_run(forest, 0, end) else {
         unreachable!()
     };
-    let mut made = Vec::new(alloc);
+    let room = forest.size() / STRUCTURES_PER_RECORD + FEW_RECORDS;
+    let mut made = Vec::with_capacity(alloc, room)?;
     made.push(Sibling {
         tag: forest.tag(0),
         place: 0,

@@ -5,27 +5,57 @@ ghost use Rattle.ged_line.specs.Lines.{line_parts};
 ghost use Rattle.ged_line.specs.Spelling.{spelling};
 ghost use Rattle.ged_tree.specs.DocumentLines.{line_value};
 
-/// Whether bytes begin with a head, a text and a line feed.
+/// What stands behind a level and a space, if bytes begin with this level, which has one digit.
 #[inline(always)]
-fn begins_with_line(bytes: &[u8], head: &[u8], text: &str) -> bool
-    ensures fits { IsTrue result → length head.now + length text.now + 1 ≤ length bytes.now }
-    ensures line { IsTrue result → take (length head.now + length text.now + 1) bytes.now ≡ head.now ++ (text.now ++ line_feed ∷ []) }
+fn behind_level(bytes: &[u8], level: u8) -> Option<&[u8]>
+    requires { level ≤ 9 }
+    ensures count { IfSome result (λ behind. length bytes.now ≡ 2 + length behind.now) }
+    ensures bytes { IfSome result (λ behind. bytes.now ≡ (48 + level) ∷ space ∷ behind.now) }
 {
-    if bytes.len() < head.len() {
-        return false;
+    match bytes {
+        [digit, b' ', behind @ ..] if *digit == b'0' + level => Some(behind),
+        _ => None,
     }
-    let behind = &bytes[head.len()..];
+}
+
+/// What stands behind the tag CONT, if bytes begin with it.
+#[inline(always)]
+fn behind_cont(bytes: &[u8]) -> Option<&[u8]>
+    ensures count { IfSome result (λ behind. length bytes.now ≡ 4 + length behind.now) }
+    ensures bytes { IfSome result (λ behind. bytes.now ≡ codes "CONT" ++ behind.now) }
+{
+    match bytes {
+        [b'C', b'O', b'N', b'T', behind @ ..] => Some(behind),
+        _ => None,
+    }
+}
+
+/// What stands behind a space, if bytes begin with one.
+#[inline(always)]
+fn behind_space(bytes: &[u8]) -> Option<&[u8]>
+    ensures count { IfSome result (λ behind. length bytes.now ≡ 1 + length behind.now) }
+    ensures bytes { IfSome result (λ behind. bytes.now ≡ space ∷ behind.now) }
+{
+    match bytes {
+        [b' ', behind @ ..] => Some(behind),
+        _ => None,
+    }
+}
+
+/// Whether bytes begin with a text and a line feed.
+#[inline(always)]
+fn begins_with_line(bytes: &[u8], text: &str) -> bool
+    ensures fits { IsTrue result → length text.now + 1 ≤ length bytes.now }
+    ensures line { IsTrue result → take (length text.now + 1) bytes.now ≡ text.now ++ line_feed ∷ [] }
+{
     let count = text.len();
-    if behind.len() <= count {
+    if bytes.len() <= count {
         return false;
     }
-    if behind[count] != b'\n' {
+    if bytes[count] != b'\n' {
         return false;
     }
-    if &bytes[..head.len()] != head {
-        return false;
-    }
-    &behind[..count] == text.as_bytes()
+    &bytes[..count] == text.as_bytes()
 }
 
 /// From where up to where a line stands in a file that has this level, no identifier and this rest, if the rest stands at this
@@ -47,8 +77,8 @@ pub(crate) fn kept_line(
     if start > file.len() {
         return None;
     }
-    let line = &file[start..];
-    if !begins_with_line(line, &[b'0' + level, b' '], rest) {
+    let behind = behind_level(&file[start..], level)?;
+    if !begins_with_line(behind, rest) {
         return None;
     }
     Some((start, start + (2 + rest.len() + 1)))
@@ -67,10 +97,10 @@ pub(crate) fn kept_cont(file: &[u8], level: u8, text: &str, place: usize) -> Opt
     if place > file.len() {
         return None;
     }
-    let line = &file[place..];
-    let digit = b'0' + level;
+    let tagged = behind_level(&file[place..], level)?;
+    let value = behind_cont(tagged)?;
     if text.is_empty() {
-        if !begins_with_line(line, &[digit, b' ', b'C', b'O', b'N', b'T'], text) {
+        if !begins_with_line(value, text) {
             return None;
         }
         return Some(place + 7);
@@ -78,7 +108,8 @@ pub(crate) fn kept_cont(file: &[u8], level: u8, text: &str, place: usize) -> Opt
     if text.as_bytes()[0] == b'@' {
         return None;
     }
-    if !begins_with_line(line, &[digit, b' ', b'C', b'O', b'N', b'T', b' '], text) {
+    let behind = behind_space(value)?;
+    if !begins_with_line(behind, text) {
         return None;
     }
     Some(place + (7 + text.len() + 1))

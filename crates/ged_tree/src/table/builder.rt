@@ -11,7 +11,9 @@ use crate::forest::continuations::FurtherLine;
 use crate::judge::{Judge, is_cont, is_trailer};
 use crate::table::closing::close;
 use crate::table::flat::Flat;
-use crate::table::packed::{APART, KeptStructure, TextApart, kept_slice, mark_with_further};
+use crate::table::packed::{
+    APART, KeptStructure, TextApart, kept_slice, mark_with_further, start_if_kept,
+};
 use crate::table::structure::start_of_tag;
 use ged_line::{LineView, SpelledLine, ValueView};
 use std::alloc::{AllocError, Global};
@@ -172,7 +174,8 @@ impl<'a> TableBuilder<'a> {
         ensures { IfOk result (λ _. HasStructure spelled.now.line self.old self.new) }
     {
         let Some((start, length)) = kept_slice(start, spelled.text.len()) else {
-            return self.push_apart(spelled.text, structure_of_line(spelled, 0, APART));
+            let start = start_if_kept(start);
+            return self.push_apart(spelled.text, structure_of_line(spelled, start, APART));
         };
         self.structures
             .push(structure_of_line(spelled, start, length))?;

@@ -12,7 +12,7 @@ pub(crate) const APART: u8 = 255;
 /// A structure as a table keeps it, in 12 bytes.
 #[derive(Clone, Copy)]
 pub(crate) struct KeptStructure {
-    /// Where its line begins in the file, in bytes.
+    /// Where its line begins in the file, in bytes. Of a line that is kept apart this is told only where it is kept.
     pub(crate) start: u32,
     /// How many structures stand below it, or `u32::MAX` where that many or more do.
     pub(crate) size: u32,
@@ -65,10 +65,10 @@ impl KeptStructure {
         Some(self.tag_mark > 127)
     }
 
-    /// Where its tag begins in the file, in bytes; or `None` where that is not kept.
+    /// Where its tag begins in the file, in bytes, or in a file that is too long any other place; or `None` where that is not kept.
     #[inline(always)]
     pub(crate) fn start_of_rest(&self) -> Option<usize> {
-        if self.length == APART || self.tag_length() == 0 {
+        if self.tag_length() == 0 {
             return None;
         }
         Some(self.start as usize + self.tag_start as usize)
@@ -105,6 +105,15 @@ pub(crate) fn kept_slice(start: Option<usize>, length: usize) -> Option<(u32, u8
         return None;
     }
     Some((start, length as u8))
+}
+
+/// Where the line of a structure begins whose text is kept apart, as far as that is kept: it is 0 where no place in the file is told,
+/// or the number is too large.
+pub(crate) fn start_if_kept(start: Option<usize>) -> u32 {
+    match start {
+        Some(start) => u32::try_from(start).unwrap_or(0),
+        None => 0,
+    }
 }
 
 /// The text of the structure at a place among those kept apart.

@@ -13,14 +13,14 @@ returns-clause-within g c =
     let d = g.F.Forest.trees c.args.forest.now in
     let head : Sibling = record { tag = c.tag.result; place = 0 } in
     subst (λ (xs : List Sibling). AllByRecursion (StandsIn d) xs)
-    (sym (headed c.push.new.self.items c.push_sorted.new.siblings.items head (c.in_ok-push.ensures.items ∙ ap (λ (xs : List Sibling). xs ++ head ∷ []) c.new-made.ensures.items) c.in_ok-push_sorted.ensures.kept))
+    (sym (headed c.push.new.self.items c.push_sorted.new.siblings.items head (c.in_ok-push.ensures.items ∙ ap (λ (xs : List Sibling). xs ++ head ∷ []) c.in_ok-made.ensures.items) c.in_ok-push_sorted.ensures.kept))
     ((c.in-Some.ensures.within, c.tag.ensures), c.in_ok-push_sorted.ensures.within)
 
 pub returns-clause-count : goal.returns-clause-count
 returns-clause-count g c =
     let d = g.F.Forest.trees c.args.forest.now in
     let head : Sibling = record { tag = c.tag.result; place = 0 } in
-    let long = ap (λ (xs : List Sibling). length xs) (headed c.push.new.self.items c.push_sorted.new.siblings.items head (c.in_ok-push.ensures.items ∙ ap (λ (xs : List Sibling). xs ++ head ∷ []) c.new-made.ensures.items) c.in_ok-push_sorted.ensures.kept) in
+    let long = ap (λ (xs : List Sibling). length xs) (headed c.push.new.self.items c.push_sorted.new.siblings.items head (c.in_ok-push.ensures.items ∙ ap (λ (xs : List Sibling). xs ++ head ∷ []) c.in_ok-made.ensures.items) c.in_ok-push_sorted.ensures.kept) in
     let same = ap (λ t. length (identifiers t)) (records_listed d c.end_of_all-end.result c.in-Some.records c.end_of_all-end.ensures.all c.in-Some.ensures) in
     omega (arith, long, c.in_ok-push_sorted.ensures.count, same)
 
@@ -29,6 +29,6 @@ returns-clause-trees g c = λ used edition.
     let d = g.F.Forest.trees c.args.forest.now in
     let head : Sibling = record { tag = c.tag.result; place = 0 } in
     let behind = drop (length c.push.new.self.items) c.push_sorted.new.siblings.items in
-    ap (sibling_trees used edition File d) (headed c.push.new.self.items c.push_sorted.new.siblings.items head (c.in_ok-push.ensures.items ∙ ap (λ (xs : List Sibling). xs ++ head ∷ []) c.new-made.ensures.items) c.in_ok-push_sorted.ensures.kept)
+    ap (sibling_trees used edition File d) (headed c.push.new.self.items c.push_sorted.new.siblings.items head (c.in_ok-push.ensures.items ∙ ap (λ (xs : List Sibling). xs ++ head ∷ []) c.in_ok-made.ensures.items) c.in_ok-push_sorted.ensures.kept)
     ∙ document_listed used edition d c.end_of_all-end.result c.in-Some.records head behind c.end_of_all-end.ensures.all c.end_of_all-end.ensures.run c.in-Some.ensures refl c.tag.ensures
     (c.in_ok-push_sorted.ensures.trees used edition File)

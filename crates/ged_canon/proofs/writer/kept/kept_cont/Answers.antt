@@ -8,7 +8,8 @@ pub returns-then-is_empty-clause-line : goal.returns-then-is_empty-clause-line
 returns-then-is_empty-clause-line c =
     let file = c.args.file.now in
     let place = c.args.place in
-    cont_alone file (take (length file - place) (drop place file)) c.args.text.now place c.args.level (take_rest file place) (omega arith) (search rules) (search rules)
+    cont_alone file (take (length file - place) (drop place file)) c.in_ok-tagged.tagged.now c.in_ok-value.value.now c.args.text.now place c.args.level
+    (take_rest file place) (omega arith) (search rules) c.in_ok-tagged.ensures.bytes c.in_ok-value.ensures.bytes (search rules)
 
 pub returns-clause-line : goal.returns-clause-line
 returns-clause-line c =
@@ -16,4 +17,5 @@ returns-clause-line c =
     let place = c.args.place in
     let text = c.args.text.now in
     let single : doubled text ≡ text = single_sign text (λ e. c.if-as_bytes-eq64.false (ap (λ xs. slice_index_or xs 0 0) c.as_bytes.ensures.value ∙ e)) in
-    cont_kept file (take (length file - place) (drop place file)) text place c.args.level (take_rest file place) (omega arith) (search rules) single (search rules)
+    cont_kept file (take (length file - place) (drop place file)) c.in_ok-tagged.tagged.now c.in_ok-value.value.now c.in_ok-behind.behind.now text place c.args.level
+    (take_rest file place) (omega arith) (search rules) single c.in_ok-tagged.ensures.bytes c.in_ok-value.ensures.bytes c.in_ok-behind.ensures.bytes (search rules)

@@ -7,4 +7,5 @@ pub returns-clause-line : goal.returns-clause-line
 returns-clause-line c =
     let file = c.args.file.now in
     let start = c.in_ok-start.start in
-    line_kept file (take (length file - start) (drop start file)) c.args.rest.now start c.args.level (take_rest file start) (omega arith) (search rules)
+    let line = take (length file - start) (drop start file) in
+    line_kept file line c.in_ok-behind.behind.now c.args.rest.now start c.args.level (take_rest file start) (omega arith) c.in_ok-behind.ensures.bytes (search rules)
