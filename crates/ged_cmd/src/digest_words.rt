@@ -9,7 +9,7 @@ ghost use Rattle.ged_cmd.specs.inner.Tasks.{digests_task, names_of};
 
 use crate::arguments::{explain_flag, second_flag, strict_flag};
 use crate::help;
-use crate::words::{named_command, settings_of};
+use crate::words::{named_command, settings_of, with_arg};
 use clap::{Arg, ArgAction, ArgMatches};
 use ged_tool::Settings;
 use std::alloc::{AllocError, Global};
@@ -61,10 +61,10 @@ fn inputs(files: &[&str]) -> usize
 pub(crate) fn digest_command<'a>(alloc: Global) -> Result<clap::Command<'a>, AllocError>
     ensures { IfOk result (IsCommand line.digest) }
 {
-    files_command(alloc)?
-        .arg(strict_flag(alloc))?
-        .arg(second_flag(alloc))?
-        .arg(explain_flag(alloc))
+    let command = files_command(alloc);
+    let command = with_arg(command, strict_flag(alloc));
+    let command = with_arg(command, second_flag(alloc));
+    with_arg(command, explain_flag(alloc))
 }
 
 /// The subcommand over any number of files, without its flags.

@@ -6,7 +6,7 @@ ghost use Rattle.ged_tool.specs.Faults.{status_of};
 use crate::tells::finish;
 use crate::words::Request;
 use ged_explain::{explain_device, explain_fault, explain_notice};
-use ged_tool::{Command, Fault, Outcome, Settings, Told, Which, accept_as, notices};
+use ged_tool::{Accepted, Command, Fault, Outcome, Settings, Told, Which, accept_as, notices};
 use std::alloc::{AllocError, Global};
 use std::io::Write;
 
@@ -134,16 +134,29 @@ fn explain_notices<E: Write>(
     name: &str,
     errors: &mut E,
 ) {
-    let Ok(accepted) = accept_as(alloc, settings, bytes) else {
-        return;
-    };
-    let Ok(found) = notices(alloc, &accepted) else {
+    if let Ok(accepted) = accept_as(alloc, settings, bytes) {
+        explain_accepted(alloc, &accepted, bytes, name, errors);
+    }
+}
+
+fn explain_accepted<E: Write>(
+    alloc: Global,
+    accepted: &Accepted<'_>,
+    bytes: &[u8],
+    name: &str,
+    errors: &mut E,
+) {
+    let Ok(found) = notices(alloc, accepted) else {
         return;
     };
     for notice in found.as_slice().iter().take(MOST) {
         write_text(explain_notice(alloc, bytes, notice, name), errors);
     }
-    let more = found.len().saturating_sub(MOST);
+    tell_more(found.len().saturating_sub(MOST), errors);
+}
+
+/// Tells how many more notices there are, if there are any.
+fn tell_more<E: Write>(more: usize, errors: &mut E) {
     if more > 0 {
         // a line that can't be written changes no status
         let _ = writeln!(errors, "{more} more notices are not explained");

@@ -2,10 +2,10 @@
 ghost use Rattle.std.specs.Prelude.{◌≡◌, [], List, IfOk, IfErr, false, codes, map, option_and_then, option_map, string_bytes};
 ghost use Rattle.std.specs.Prelude.{if◌then◌else◌};
 ghost use Rattle.std.specs.Option.{option_map_or};
-ghost use Rattle.clap.specs.Words.{Row, Text, rows_of, found_of, subcommand_rows_of, fault_of, new_app};
+ghost use Rattle.clap.specs.Words.{App, Row, Rule, Text, rows_of, found_of, subcommand_rows_of, fault_of, new_app, with_rule, with_subcommand};
 ghost use Rattle.clap.specs.Kinds.{HasKind};
 ghost use Rattle.ged_cmd.specs.CommandLine as line;
-ghost use Rattle.ged_cmd.specs.inner.CommandLine.{IsCommand};
+ghost use Rattle.ged_cmd.specs.inner.CommandLine.{IsArg, IsCommand};
 ghost use Rattle.ged_tool.specs.Profiles.{profile_of, edition_of};
 ghost use Rattle.ged_cmd.specs.Tasks.{explain_asked, explanation as explanation_of, single_asked};
 ghost use Rattle.ged_cmd.specs.Tasks.{canon_keeping as canon_keeping_of, command_of, comparison as comparison_task, edition_asked, file_named as file_of, is_set};
@@ -19,7 +19,7 @@ use crate::arguments::{
 use crate::digest_words::digest_command;
 use crate::help::{self, Help};
 use crate::meanings::meaning_called;
-use clap::{ArgMatches, Error};
+use clap::{Arg, ArgMatches, Error};
 use ged_explain::{Meaning, meanings};
 use ged_tool::{Command, Comparison, Edition, Form, Profile, Settings};
 use std::alloc::{AllocError, Global};
@@ -216,14 +216,36 @@ pub(crate) fn is_flagged(matches: &ArgMatches<'_>, flag: &str) -> bool
 pub(crate) fn command_line<'a>(alloc: Global) -> Result<clap::Command<'a>, AllocError>
     ensures { IfOk result (IsCommand line.gedtool) }
 {
-    bare_program(alloc)?
-        .subcommand(lines_command(alloc)?)?
-        .subcommand(check_command(alloc)?)?
-        .subcommand(show_command(alloc)?)?
-        .subcommand(canon_command(alloc)?)?
-        .subcommand(same_command(alloc)?)?
-        .subcommand(explain_command(alloc)?)?
-        .subcommand(digest_command(alloc)?)
+    let program = bare_program(alloc);
+    let program = with_command(program, lines_command(alloc));
+    let program = with_command(program, check_command(alloc));
+    let program = with_command(program, show_command(alloc));
+    let program = with_command(program, canon_command(alloc));
+    let program = with_command(program, same_command(alloc));
+    let program = with_command(program, explain_command(alloc));
+    with_command(program, digest_command(alloc))
+}
+
+/// The program with one more command, if there was memory for both.
+fn with_command<'a>(
+    program: Result<clap::Command<'a>, AllocError>,
+    command: Result<clap::Command<'a>, AllocError>,
+) -> Result<clap::Command<'a>, AllocError>
+    ensures { (app inner : App) → IfOk program.entry (IsCommand app) → IfOk command.entry (IsCommand inner)
+        → IfOk result (IsCommand (with_subcommand app inner.top)) }
+{
+    program?.subcommand(command?)
+}
+
+/// A command with one more argument, if there was memory for the command.
+pub(crate) fn with_arg<'a>(
+    command: Result<clap::Command<'a>, AllocError>,
+    arg: Arg<'a>,
+) -> Result<clap::Command<'a>, AllocError>
+    ensures { (app : App) (rule : Rule) → IfOk command.entry (IsCommand app) → IsArg rule arg.entry
+        → IfOk result (IsCommand (with_rule app rule)) }
+{
+    command?.arg(arg)
 }
 
 /// The program without its commands, of which it needs one. It tells its version.
@@ -249,37 +271,37 @@ pub(crate) fn named_command<'a>(alloc: Global, name: &'a str, help: Help) -> cla
 fn lines_command<'a>(alloc: Global) -> Result<clap::Command<'a>, AllocError>
     ensures { IfOk result (IsCommand line.lines) }
 {
-    file_command(alloc, "lines", help::LINES)?
-        .arg(output_option(alloc))?
-        .arg(explain_flag(alloc))
+    let command = file_command(alloc, "lines", help::LINES);
+    let command = with_arg(command, output_option(alloc));
+    with_arg(command, explain_flag(alloc))
 }
 
 fn check_command<'a>(alloc: Global) -> Result<clap::Command<'a>, AllocError>
     ensures { IfOk result (IsCommand line.check) }
 {
-    file_command(alloc, "check", help::CHECK)?
-        .arg(strict_flag(alloc))?
-        .arg(explain_flag(alloc))
+    let command = file_command(alloc, "check", help::CHECK);
+    let command = with_arg(command, strict_flag(alloc));
+    with_arg(command, explain_flag(alloc))
 }
 
 fn show_command<'a>(alloc: Global) -> Result<clap::Command<'a>, AllocError>
     ensures { IfOk result (IsCommand line.show) }
 {
-    file_command(alloc, "show", help::SHOW)?
-        .arg(strict_flag(alloc))?
-        .arg(output_option(alloc))?
-        .arg(explain_flag(alloc))
+    let command = file_command(alloc, "show", help::SHOW);
+    let command = with_arg(command, strict_flag(alloc));
+    let command = with_arg(command, output_option(alloc));
+    with_arg(command, explain_flag(alloc))
 }
 
 fn canon_command<'a>(alloc: Global) -> Result<clap::Command<'a>, AllocError>
     ensures { IfOk result (IsCommand line.canon) }
 {
-    file_command(alloc, "canon", help::CANON)?
-        .arg(strict_flag(alloc))?
-        .arg(second_flag(alloc))?
-        .arg(keep_names_flag(alloc))?
-        .arg(output_option(alloc))?
-        .arg(explain_flag(alloc))
+    let command = file_command(alloc, "canon", help::CANON);
+    let command = with_arg(command, strict_flag(alloc));
+    let command = with_arg(command, second_flag(alloc));
+    let command = with_arg(command, keep_names_flag(alloc));
+    let command = with_arg(command, output_option(alloc));
+    with_arg(command, explain_flag(alloc))
 }
 
 /// A subcommand over one file.
@@ -306,11 +328,11 @@ fn explain_command<'a>(alloc: Global) -> Result<clap::Command<'a>, AllocError>
 fn same_command<'a>(alloc: Global) -> Result<clap::Command<'a>, AllocError>
     ensures { IfOk result (IsCommand line.same) }
 {
-    two_files_command(alloc)?
-        .arg(strict_flag(alloc))?
-        .arg(second_flag(alloc))?
-        .arg(keep_names_flag(alloc))?
-        .arg(explain_flag(alloc))
+    let command = two_files_command(alloc);
+    let command = with_arg(command, strict_flag(alloc));
+    let command = with_arg(command, second_flag(alloc));
+    let command = with_arg(command, keep_names_flag(alloc));
+    with_arg(command, explain_flag(alloc))
 }
 
 /// The subcommand over two files, without its flags.
@@ -318,7 +340,6 @@ fn two_files_command<'a>(alloc: Global) -> Result<clap::Command<'a>, AllocError>
     ensures { IfOk result (IsCommand line.over_two_files) }
 {
     let second = "The second file to read; standard input if it is left out or '-'";
-    named_command(alloc, "same", help::SAME)
-        .arg(first_argument(alloc))?
-        .arg(file_argument(alloc, "B", second))
+    let command = named_command(alloc, "same", help::SAME).arg(first_argument(alloc));
+    with_arg(command, file_argument(alloc, "B", second))
 }

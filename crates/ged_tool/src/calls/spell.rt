@@ -80,8 +80,8 @@ fn spell_tidy(alloc: Global, settings: Settings, bytes: &[u8]) -> Result<Spelled
 
 /// What stands behind the byte order mark, or all where there is none.
 fn behind_mark(bytes: &[u8]) -> &[u8] {
-    match bytes.strip_prefix(&[0xEF, 0xBB, 0xBF]) {
-        Some(behind) => behind,
-        None => bytes,
+    match bytes {
+        [0xEF, 0xBB, 0xBF, behind @ ..] => behind,
+        _ => bytes,
     }
 }

@@ -1,11 +1,9 @@
-use Rattle.std.proofs.lemmas.Result.{IfOk-weaker}
-use Rattle.ged_cmd.proofs.ClapLemmas.{with_arg}
 use Rattle.ged_cmd.proofs.words.canon_command.Goals as goal
 
 pub returns : goal.returns
 returns c =
-    let strict = with_arg _ _ _ _ _ c.in_ok-file_command.ensures c.strict_flag.ensures c.in_ok-arg.ensures in
-    let second = with_arg _ _ _ _ _ strict c.second_flag.ensures c.in_ok-arg-2.ensures in
-    let kept = with_arg _ _ _ _ _ second c.keep_names_flag.ensures c.in_ok-arg-3.ensures in
-    let output = with_arg _ _ _ _ _ kept c.output_option.ensures c.in_ok-arg-4.ensures in
-    IfOk-weaker c.arg-5.result _ _ (λ command added. with_arg _ _ _ _ _ output c.explain_flag.ensures added) c.arg-5.ensures
+    let strict = c.with_arg-command.ensures _ _ c.file_command-command.ensures c.strict_flag.ensures in
+    let second = c.with_arg-command-2.ensures _ _ strict c.second_flag.ensures in
+    let kept = c.with_arg-command-3.ensures _ _ second c.keep_names_flag.ensures in
+    let output = c.with_arg-command-4.ensures _ _ kept c.output_option.ensures in
+    c.with_arg.ensures _ _ output c.explain_flag.ensures
