@@ -1,15 +1,14 @@
 // One answer by every way: what a call answers is compared with what the others that have the same answer give.
 use crate::answers::Answer;
+use crate::by_trees::{accept_by_parts, canon_by_trees};
 use crate::feeding::is_fed;
-use ged_canon::{canonical_bytes_in, canonical_in, write_document};
-use ged_line::read_lines;
-use ged_link::{LinkFault, Notice, NoticeKind, resolve};
-use ged_schema::check_as;
+use ged_canon::write_document;
+use ged_link::{Notice, NoticeKind};
 use ged_tool::{
-    Accepted, Command, Fault, FileFault, Input, Outcome, Output, Profile, Settings, Which, accept,
+    Accepted, Command, Fault, FileFault, Input, Outcome, Output, Settings, Which, accept,
     accept_as, canonicalise, canonicalise_as, notices, run, run_as, show_text, tidy, tidy_as,
 };
-use ged_tree::{BuildFault, Document, build, to_lines};
+use ged_tree::Document;
 use std::alloc::{AllocError, Global};
 
 /// More bytes than any file here has.
@@ -175,37 +174,6 @@ pub(crate) fn in_file(line: u64, kind: FileFault) -> Fault {
     Fault::InFile { line, kind }
 }
 
-/// A file's document by its lines, or its fault, from the calls that read lines and build trees.
-fn document_by_lines(alloc: Global, file: &[u8]) -> Result<Document, Fault> {
-    let lines = read_lines(alloc, file).map_err(Fault::Memory)?;
-    match build(alloc, &lines) {
-        Ok(document) => Ok(document),
-        Err(BuildFault::At(at)) => Err(in_file(at.line, at.fault.into())),
-        Err(BuildFault::Memory(error)) => Err(Fault::Memory(error)),
-    }
-}
-
-/// What the calls on a document say of it, one after the other.
-fn accept_document(alloc: Global, profile: Profile, document: &Document) -> Result<(), Fault> {
-    match resolve(alloc, document) {
-        Ok(index) => match check_as(profile, document, &index) {
-            Ok(()) => Ok(()),
-            Err(at) => Err(in_file(at.line, at.fault.into())),
-        },
-        Err(LinkFault::Duplicate(line)) => Err(in_file(line, FileFault::DuplicateXref)),
-        Err(LinkFault::Dangling(line)) => Err(in_file(line, FileFault::DanglingPointer)),
-        Err(LinkFault::Memory(error)) => Err(Fault::Memory(error)),
-    }
-}
-
-/// What the calls of the lower crates say of a file, one after the other.
-fn accept_by_parts(alloc: Global, profile: Profile, file: &[u8]) -> Result<(), Fault> {
-    match document_by_lines(alloc, file) {
-        Ok(document) => accept_document(alloc, profile, &document),
-        Err(fault) => Err(fault),
-    }
-}
-
 /// The document of an accepted file as it is written, or the file's fault.
 pub(crate) fn written(alloc: Global, accepted: Result<Accepted<'_>, Fault>) -> Answered {
     match accepted {
@@ -225,49 +193,39 @@ fn written_tree(alloc: Global, document: Result<Document, AllocError>) -> Answer
 pub(crate) fn accept_ways(alloc: Global, settings: Settings, file: &[u8]) -> Ways {
     let mut ways = Ways::of(verdict(alloc, accept_as(alloc, settings, file)));
     if are_plain(settings) {
-        ways.add("accept", verdict(alloc, accept(alloc, file)));
-        ways.add("canonicalise", verdict(alloc, canonicalise(alloc, file)));
+        add_plain_verdicts(alloc, file, &mut ways);
     }
     if file.len() <= MOST_IN_TREES {
         let parts = accept_by_parts(alloc, settings.profile(), file);
         ways.add("the lower crates", verdict(alloc, parts));
     }
+    add_verdicts(alloc, settings, file, &mut ways);
+    add_fed(alloc, settings, file, &mut ways);
+    ways
+}
+
+/// Adds the verdicts of the calls that are handed no settings.
+fn add_plain_verdicts(alloc: Global, file: &[u8], ways: &mut Ways) {
+    ways.add("accept", verdict(alloc, accept(alloc, file)));
+    ways.add("canonicalise", verdict(alloc, canonicalise(alloc, file)));
+}
+
+/// Adds the verdicts of the calls that answer bytes, and of the runs of commands.
+fn add_verdicts(alloc: Global, settings: Settings, file: &[u8], ways: &mut Ways) {
     let canonical = canonicalise_as(alloc, settings, file);
     ways.add("canonicalise_as", verdict(alloc, canonical));
     for command in [Command::Check, Command::Show, Command::Canon, Command::Tidy] {
         let answered = run_with(alloc, settings, command, file);
         ways.add("run_as", verdict(alloc, answered));
     }
+}
+
+/// Adds a way that differs where the file in pieces ends with another answer.
+fn add_fed(alloc: Global, settings: Settings, file: &[u8], ways: &mut Ways) {
     let document = written(alloc, accept_as(alloc, settings, file));
     if !is_fed(alloc, settings, file, &document) {
         ways.add("the file in pieces", Err(Fault::Memory(AllocError)));
     }
-    ways
-}
-
-/// The canonical bytes by way of trees, for a file that is accepted.
-fn canon_by_trees(alloc: Global, settings: Settings, file: &[u8]) -> Answered {
-    match accept_as(alloc, settings, file) {
-        Ok(accepted) => canon_of_tree(alloc, settings, &accepted).map_err(Fault::Memory),
-        Err(fault) => Err(fault),
-    }
-}
-
-/// The canonical form of a tree as it is written, or where they differ, its canonical bytes and an end.
-fn canon_of_tree(
-    alloc: Global,
-    settings: Settings,
-    accepted: &Accepted<'_>,
-) -> Result<Vec<u8>, AllocError> {
-    let document = accepted.document(alloc)?;
-    let (edition, index) = (settings.edition(), accepted.index());
-    let canonical = canonical_in(alloc, edition, &document, index)?;
-    let text = write_document(alloc, &canonical)?;
-    let mut bytes = canonical_bytes_in(alloc, edition, &document, index)?;
-    if bytes.as_slice() != text.as_slice() {
-        bytes.extend_from_slice(b"canonical_bytes_in differs")?;
-    }
-    Ok(bytes)
 }
 
 /// The canonical bytes of a file, by each call that makes them; and canonicalising them once more gives them again.
@@ -308,15 +266,17 @@ pub(crate) fn tidy_ways(alloc: Global, settings: Settings, file: &[u8]) -> Ways 
 /// What Check is to write, from the notices.
 fn check_by_notices(alloc: Global, settings: Settings, file: &[u8]) -> Answered {
     match accept_as(alloc, settings, file) {
-        Ok(accepted) => {
-            let mut text = Answer::new(alloc);
-            if let Some(notices) = text.given(notices(alloc, &accepted)) {
-                say_notices(&mut text, &notices);
-            }
-            answered(text)
-        }
+        Ok(accepted) => told_notices(alloc, &accepted),
         Err(fault) => Err(fault),
     }
+}
+
+fn told_notices(alloc: Global, accepted: &Accepted<'_>) -> Answered {
+    let mut text = Answer::new(alloc);
+    if let Some(notices) = text.given(notices(alloc, accepted)) {
+        say_notices(&mut text, &notices);
+    }
+    answered(text)
 }
 
 fn say_notices(text: &mut Answer, notices: &[Notice]) {
@@ -338,47 +298,17 @@ pub(crate) fn check_ways(alloc: Global, settings: Settings, file: &[u8]) -> Ways
     ways
 }
 
-/// What Show writes, by each call that shows structures.
-pub(crate) fn show_ways(alloc: Global, settings: Settings, file: &[u8]) -> Ways {
-    let shown = match accept_as(alloc, settings, file) {
+/// What Show is to write, from the accepted file.
+fn shown(alloc: Global, settings: Settings, file: &[u8]) -> Answered {
+    match accept_as(alloc, settings, file) {
         Ok(accepted) => show_text(alloc, &accepted).map_err(Fault::Memory),
         Err(fault) => Err(fault),
-    };
-    let mut ways = Ways::of(shown);
+    }
+}
+
+/// What Show writes, by each call that shows structures.
+pub(crate) fn show_ways(alloc: Global, settings: Settings, file: &[u8]) -> Ways {
+    let mut ways = Ways::of(shown(alloc, settings, file));
     add_runs(alloc, settings, Command::Show, file, &mut ways);
     ways
-}
-
-/// Whether a document has the same lines as one that is built.
-fn is_built(alloc: Global, document: &Document, built: &Document) -> bool {
-    match (to_lines(alloc, document), to_lines(alloc, built)) {
-        (Ok(one), Ok(other)) => one.as_slice() == other.as_slice(),
-        _ => false,
-    }
-}
-
-/// The lines of a document of an accepted file, and whether the document that is built of the file's lines has the same.
-fn tree_ways(alloc: Global, file: &[u8], document: &Document) -> Ways {
-    let mut ways = Ways::of(write_document(alloc, document).map_err(Fault::Memory));
-    match document_by_lines(alloc, file) {
-        Err(fault) => ways.add("build", Err(fault)),
-        Ok(built) => {
-            if !is_built(alloc, document, &built) {
-                ways.add("build", Err(Fault::Memory(AllocError)));
-            }
-        }
-    }
-    ways
-}
-
-/// The lines of a file's document, where the one that is built of the file's lines and the one of the accepted file are
-/// the same.
-pub(crate) fn document_ways(alloc: Global, settings: Settings, file: &[u8]) -> Ways {
-    match accept_as(alloc, settings, file) {
-        Ok(accepted) => match accepted.document(alloc) {
-            Ok(document) => tree_ways(alloc, file, &document),
-            Err(error) => Ways::of(Err(Fault::Memory(error))),
-        },
-        Err(fault) => Ways::of(Err(fault)),
-    }
 }

@@ -7,7 +7,8 @@ use ged_explain::{
     Meaning, explain_device, explain_fault, explain_notice, meaning_named, meaning_numbered,
     meaning_of, meanings, piece_at,
 };
-use ged_tool::{Fault, Settings, accept, accept_as, notices};
+use ged_link::Notice;
+use ged_tool::{Accepted, Fault, Settings, accept, accept_as, notices};
 use std::alloc::{AllocError, Global};
 use std::io::Write;
 use std::str;
@@ -44,23 +45,30 @@ fn say_each(texts: &[&str], answer: &mut Answer) {
 }
 
 fn answer_fault(alloc: Global, settings: Settings, file: &[u8], answer: &mut Answer) {
-    match accept_as(alloc, settings, file) {
-        Ok(_) => answer.say("accepted"),
-        Err(fault) => say_text(explain_fault(alloc, file, &fault, NAME), answer),
+    match accept_as(alloc, settings, file).err() {
+        None => answer.say("accepted"),
+        Some(fault) => say_text(explain_fault(alloc, file, &fault, NAME), answer),
     }
 }
 
 /// What is told of the first notice of a file.
 fn answer_notice(alloc: Global, file: &[u8], answer: &mut Answer) {
     match accept(alloc, file) {
-        Ok(accepted) => {
-            if let Some(all) = answer.given(notices(alloc, &accepted)) {
-                if let Some(first) = all.as_slice().first() {
-                    say_text(explain_notice(alloc, file, first, NAME), answer);
-                }
-            }
-        }
+        Ok(accepted) => say_notices(alloc, file, &accepted, answer),
         Err(_) => answer.say("refused"),
+    }
+}
+
+fn say_notices(alloc: Global, file: &[u8], accepted: &Accepted<'_>, answer: &mut Answer) {
+    if let Some(all) = answer.given(notices(alloc, accepted)) {
+        say_first(alloc, file, &all, answer);
+    }
+}
+
+/// What is told of the first of a file's notices.
+fn say_first(alloc: Global, file: &[u8], all: &[Notice], answer: &mut Answer) {
+    if let Some(first) = all.first() {
+        say_text(explain_notice(alloc, file, first, NAME), answer);
     }
 }
 

@@ -64,21 +64,28 @@ fn canonical_of(alloc: Global, accepted: &Accepted<'_>) -> Result<Vec<u8>, Alloc
 /// Says what a feed ends with: the canonical bytes, or the fault; twice where the second time it is another.
 fn say_end(alloc: Global, feed: &Feed, answer: &mut Answer) {
     answer.say("finish: ");
-    let first = written(alloc, feed.finish_as(alloc, Settings::new()));
-    let again = written(alloc, feed.finish_as(alloc, Settings::new()));
-    if !are_same(&first, &again) {
+    if !ends_again(alloc, feed) {
         answer.say("not the same when it is called again, but first ");
     }
     match feed.finish(alloc) {
-        Ok(accepted) => {
-            if let Some(text) = answer.given(canonical_of(alloc, &accepted)) {
-                answer.say_bytes(&text);
-            }
-        }
+        Ok(accepted) => say_canonical(alloc, &accepted, answer),
         Err(fault) => {
             say_fault(answer, fault);
             answer.say("\n");
         }
+    }
+}
+
+/// Whether a feed ends with the same when it is called again.
+fn ends_again(alloc: Global, feed: &Feed) -> bool {
+    let first = written(alloc, feed.finish_as(alloc, Settings::new()));
+    let again = written(alloc, feed.finish_as(alloc, Settings::new()));
+    are_same(&first, &again)
+}
+
+fn say_canonical(alloc: Global, accepted: &Accepted<'_>, answer: &mut Answer) {
+    if let Some(text) = answer.given(canonical_of(alloc, accepted)) {
+        answer.say_bytes(&text);
     }
 }
 

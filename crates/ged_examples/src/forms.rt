@@ -16,16 +16,25 @@ pub(crate) fn answer(alloc: Global, call: &str, argument: &[u8], answer: &mut An
     if !["canonical_form", "tidy_form"].contains(&question.name) {
         return false;
     }
-    let Ok(flat) = flatten(alloc, argument) else {
-        answer.say("no document");
-        return true;
-    };
-    match index_of(alloc, &flat) {
-        Ok(Some(index)) => tell_form(alloc, question, &flat, &index, argument, answer),
-        Ok(None) => answer.say("not checked"),
-        Err(_) => answer.lack_memory(),
+    match flatten(alloc, argument) {
+        Ok(flat) => tell_table(alloc, question, &flat, argument, answer),
+        Err(_) => answer.say("no document"),
     }
     true
+}
+
+fn tell_table(
+    alloc: Global,
+    question: Question<'_>,
+    flat: &Flat<'_>,
+    argument: &[u8],
+    told: &mut Answer,
+) {
+    match index_of(alloc, flat) {
+        Ok(Some(index)) => tell_form(alloc, question, flat, &index, argument, told),
+        Ok(None) => told.say("not checked"),
+        Err(_) => told.lack_memory(),
+    }
 }
 
 fn tell_form(

@@ -29,16 +29,15 @@ fn end_of(alloc: Global, settings: Settings, feed: &Feed) -> Answered {
     written(alloc, feed.finish_as(alloc, settings))
 }
 
-fn say_end(answer: &mut Answer, end: Answered) {
+fn say_end(answer: &mut Answer, end: &Answered) {
     match end {
-        Ok(text) => answer.say_bytes(&text),
+        Ok(text) => answer.say_bytes(text),
         Err(Fault::Memory(_)) => answer.lack_memory(),
-        Err(fault) => say_made_fault(answer, fault),
+        Err(fault) => say_made_fault(answer, *fault),
     }
 }
 
-/// Takes in the second half of a file. Where that found no memory the feed is as before: it ends with what ends the first
-/// half, and once more, with memory, it takes the second half in.
+/// Takes in a file by its halves.
 fn call_piece(
     alloc: Global,
     settings: Settings,
@@ -48,25 +47,44 @@ fn call_piece(
 ) {
     let (first, second) = file.split_at(file.len() / 2);
     let mut feed = Feed::new(alloc);
-    if feed.piece(first).is_err() {
-        return answer.say("the first half is refused");
+    match feed.piece(first) {
+        Ok(()) => call_second(alloc, settings, second, &mut feed, marks, answer),
+        Err(_) => answer.say("the first half is refused"),
     }
-    let before = end_of(alloc, settings, &feed);
+}
+
+/// Takes in the second half of a file. Where that found no memory the feed is as before: it ends with what ends the first
+/// half, and once more, with memory, it takes the second half in.
+fn call_second(
+    alloc: Global,
+    settings: Settings,
+    second: &[u8],
+    feed: &mut Feed,
+    marks: &mut Marks,
+    answer: &mut Answer,
+) {
+    let before = end_of(alloc, settings, feed);
     marks.begin();
     let made = feed.piece(second);
     marks.end();
+    let after = end_of(alloc, settings, feed);
     match made {
-        Ok(()) => say_end(answer, end_of(alloc, settings, &feed)),
+        Ok(()) => say_end(answer, &after),
         Err(Fault::Memory(_)) => {
-            let is_kept = are_same(&before, &end_of(alloc, settings, &feed));
-            let is_taken = feed.piece(second).is_ok() && feed.finish(alloc).is_ok();
-            if is_kept && is_taken {
-                say_memory(answer, None);
-            } else {
-                answer.say("another feed than before");
-            }
+            let is_kept = are_same(&before, &after);
+            say_kept(alloc, second, is_kept, feed, answer);
         }
         Err(fault) => say_made_fault(answer, fault),
+    }
+}
+
+/// Says that a feed found no memory for a piece, where it was kept, and now takes the piece in.
+fn say_kept(alloc: Global, piece: &[u8], is_kept: bool, feed: &mut Feed, answer: &mut Answer) {
+    let is_taken = feed.piece(piece).is_ok() && feed.finish(alloc).is_ok();
+    if is_kept && is_taken {
+        say_memory(answer, None);
+    } else {
+        answer.say("another feed than before");
     }
 }
 
@@ -80,9 +98,20 @@ fn call_finish(
 ) {
     let (first, second) = file.split_at(file.len() / 2);
     let mut feed = Feed::new(alloc);
-    if feed.piece(first).is_err() || feed.piece(second).is_err() {
-        return answer.say("a piece is refused");
+    let taken = feed.piece(first);
+    match taken.and(feed.piece(second)) {
+        Ok(()) => call_end(alloc, settings, &feed, marks, answer),
+        Err(_) => answer.say("a piece is refused"),
     }
+}
+
+fn call_end(
+    alloc: Global,
+    settings: Settings,
+    feed: &Feed,
+    marks: &mut Marks,
+    answer: &mut Answer,
+) {
     marks.begin();
     let made = feed.finish_as(alloc, settings);
     marks.end();

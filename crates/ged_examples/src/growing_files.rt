@@ -1,4 +1,7 @@
 // The calls that grow and are made on a whole file, or on the document of one.
+ghost use Rattle.ged_link.specs.Indexes.{IsIndexOf};
+ghost use Rattle.ged_schema.specs.Checked.{Checked};
+
 use crate::agreement::say_outcome;
 use crate::answers::Answer;
 use crate::growing::{
@@ -9,10 +12,10 @@ use ged_canon::{canonical_bytes_in, canonical_in, write_document};
 use ged_link::{Index, LinkFault, one_way, resolve};
 use ged_schema::unlisted;
 use ged_tool::{
-    Accepted, Command, Fault, Input, Outcome, Output, SameFault, Settings, accept, accept_as,
-    canonicalise_as, notices, run_as, run_same_as, same_as, show_text,
+    Accepted, Command, Edition, Fault, Input, Outcome, Output, SameFault, Settings, accept,
+    accept_as, canonicalise_as, notices, run_as, run_same_as, same_as, show_text,
 };
-use ged_tree::{Document, document_of, flatten, to_lines};
+use ged_tree::{Document, Flat, document_of, flatten, to_lines};
 use std::alloc::Global;
 
 /// More bytes than any file here has.
@@ -53,15 +56,24 @@ pub(crate) fn call_of_accepted(
     answer: &mut Answer,
 ) -> bool {
     match accept(alloc, file) {
-        Ok(accepted) => {
-            call_of_table(alloc, name, &accepted, marks, answer)
-                || call_of_trees(alloc, settings, name, &accepted, marks, answer)
-        }
+        Ok(accepted) => call_on_accepted(alloc, settings, name, &accepted, marks, answer),
         Err(fault) => {
             say_made_fault(answer, fault);
             true
         }
     }
+}
+
+fn call_on_accepted(
+    alloc: Global,
+    settings: Settings,
+    name: &str,
+    accepted: &Accepted<'_>,
+    marks: &mut Marks,
+    answer: &mut Answer,
+) -> bool {
+    call_of_table(alloc, name, accepted, marks, answer)
+        || call_of_trees(alloc, settings, name, accepted, marks, answer)
 }
 
 /// Makes a call that is handed an accepted file; false where there is none of this name.
@@ -105,31 +117,52 @@ fn call_of_trees(
     marks: &mut Marks,
     answer: &mut Answer,
 ) -> bool {
-    let Ok(document) = accepted.document(alloc) else {
-        answer.lack_memory();
-        return true;
-    };
     let (edition, index) = (settings.edition(), accepted.index());
+    match accepted.document(alloc) {
+        Ok(document) => {
+            call_of_index(alloc, edition, name, &document, index, marks, answer)
+                || call_of_document(alloc, name, &document, marks, answer)
+        }
+        Err(_) => {
+            answer.lack_memory();
+            true
+        }
+    }
+}
+
+/// Makes a call that is handed a document and its index; false where there is none of this name.
+fn call_of_index(
+    alloc: Global,
+    edition: Edition,
+    name: &str,
+    document: &Document,
+    index: &Index,
+    marks: &mut Marks,
+    answer: &mut Answer,
+) -> bool
+    requires index { IsIndexOf document.now index.now }
+    requires checked { Checked document.now }
+{
     match name {
         "canonical_in" => {
             marks.begin();
-            let made = canonical_in(alloc, edition, &document, index);
+            let made = canonical_in(alloc, edition, document, index);
             marks.end();
             say_made_document(alloc, answer, made);
         }
         "canonical_bytes_in" => {
             marks.begin();
-            let made = canonical_bytes_in(alloc, edition, &document, index);
+            let made = canonical_bytes_in(alloc, edition, document, index);
             marks.end();
             say_made_bytes(answer, made);
         }
         "one_way" => {
             marks.begin();
-            let made = one_way(alloc, &document, index);
+            let made = one_way(alloc, document, index);
             marks.end();
             say_made_notices(answer, made);
         }
-        _ => return call_of_document(alloc, name, &document, marks, answer),
+        _ => return false,
     }
     true
 }
@@ -186,20 +219,26 @@ fn say_index(answer: &mut Answer, document: &Document, index: &Index) {
 }
 
 fn call_resolve(alloc: Global, file: &[u8], marks: &mut Marks, answer: &mut Answer) {
-    let Ok(flat) = flatten(alloc, file) else {
-        return answer.say("a fault");
-    };
+    match flatten(alloc, file) {
+        Ok(flat) => resolve_table(alloc, &flat, marks, answer),
+        Err(_) => answer.say("a fault"),
+    }
+}
+
+fn resolve_table(alloc: Global, flat: &Flat<'_>, marks: &mut Marks, answer: &mut Answer) {
     marks.begin();
-    let made = resolve(alloc, &flat);
+    let made = resolve(alloc, flat);
     marks.end();
     match made {
-        Ok(index) => {
-            if let Some(document) = answer.given(document_of(alloc, &flat)) {
-                say_index(answer, &document, &index);
-            }
-        }
+        Ok(index) => say_resolved(alloc, flat, &index, answer),
         Err(LinkFault::Memory(_)) => say_memory(answer, None),
         Err(_) => answer.say("a fault"),
+    }
+}
+
+fn say_resolved(alloc: Global, flat: &Flat<'_>, index: &Index, answer: &mut Answer) {
+    if let Some(document) = answer.given(document_of(alloc, flat)) {
+        say_index(answer, &document, index);
     }
 }
 

@@ -44,19 +44,19 @@ pub(crate) fn answer(alloc: Global, call: &str, argument: &[u8], answer: &mut An
     }
     pair.file.say(TRAILER);
     pair.canonical.say(TRAILER);
-    tell_pair(alloc, pair, answer);
+    tell_pair(alloc, &pair, answer);
     true
 }
 
-fn tell_pair(alloc: Global, pair: Pair, answer: &mut Answer) {
-    let Pair { file, canonical } = pair;
-    let (Ok(file), Ok(canonical)) = (file.into_bytes(), canonical.into_bytes()) else {
+fn tell_pair(alloc: Global, pair: &Pair, answer: &mut Answer) {
+    if pair.file.lacks_memory() || pair.canonical.lacks_memory() {
         return answer.lack_memory();
-    };
+    }
+    let (file, canonical) = (pair.file.as_slice(), pair.canonical.as_slice());
     answer.say("accepted=");
-    answer.say_truth(accept(alloc, &file).is_ok());
+    answer.say_truth(accept(alloc, file).is_ok());
     answer.say(" canonical=");
-    answer.say_truth(is_canonical(alloc, &file, &canonical));
+    answer.say_truth(is_canonical(alloc, file, canonical));
     answer.say(" bytes=");
     answer.say_number(canonical.len() as u64);
 }

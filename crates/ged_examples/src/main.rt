@@ -4,6 +4,7 @@
 
 mod agreement;
 mod answers;
+mod by_trees;
 mod canon;
 mod devices;
 mod digests;

@@ -1,26 +1,34 @@
 // What copies of a document's nodes have.
 use crate::answers::Answer;
 use crate::forests::say_payload;
-use ged_tree::{Document, Node, Payload};
+use ged_tree::{Document, Node, Payload, RecordNode};
 use std::alloc::Global;
 
 /// A line for HEAD, each structure right below it and each record, with what copies of their nodes have.
 pub(crate) fn say_nodes(alloc: Global, document: &Document, answer: &mut Answer) {
     if let Some(head) = answer.given(document.head().copy(alloc)) {
-        say_node(alloc, &head, answer);
-        for child in &head.children {
-            say_node(alloc, child, answer);
-        }
+        say_head(alloc, &head, answer);
     }
     for record in document.records() {
         if let Some(copy) = answer.given(record.copy(alloc)) {
-            if let Some(name) = &copy.xref {
-                answer.say(name.as_str());
-                answer.say(" ");
-            }
-            say_node(alloc, &copy.node, answer);
+            say_record(alloc, &copy, answer);
         }
     }
+}
+
+fn say_head(alloc: Global, head: &Node, answer: &mut Answer) {
+    say_node(alloc, head, answer);
+    for child in &head.children {
+        say_node(alloc, child, answer);
+    }
+}
+
+fn say_record(alloc: Global, record: &RecordNode, answer: &mut Answer) {
+    if let Some(name) = &record.xref {
+        answer.say(name.as_str());
+        answer.say(" ");
+    }
+    say_node(alloc, &record.node, answer);
 }
 
 /// The tag and payload of a node, and how many lines, further lines and children it has.

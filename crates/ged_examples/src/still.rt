@@ -97,11 +97,21 @@ fn digest_of(document: &Document, index: &Index, flat: &Flat<'_>) -> u64
 /// Makes all calls that take no memory on a file.
 pub(crate) fn no_growth(alloc: Global, file: &[u8], marks: &mut Marks, answer: &mut Answer) {
     match accept(alloc, file) {
-        Ok(accepted) => match flatten(alloc, file) {
-            Ok(flat) => call_still(alloc, &accepted, &flat, marks, answer),
-            Err(_) => answer.say("a fault"),
-        },
+        Ok(accepted) => call_on_accepted(alloc, file, &accepted, marks, answer),
         Err(fault) => say_made_fault(answer, fault),
+    }
+}
+
+fn call_on_accepted(
+    alloc: Global,
+    file: &[u8],
+    accepted: &Accepted<'_>,
+    marks: &mut Marks,
+    answer: &mut Answer,
+) {
+    match flatten(alloc, file) {
+        Ok(flat) => call_still(alloc, accepted, &flat, marks, answer),
+        Err(_) => answer.say("a fault"),
     }
 }
 

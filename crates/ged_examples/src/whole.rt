@@ -3,10 +3,11 @@
 // A call may begin with `strict.`, with `second.` or with `strict.second.`, for the settings under which it is asked. What
 // each call answers stands at the head of data/whole.rows.
 use crate::agreement::{
-    Answered, Ways, accept_ways, answered, are_plain, canon_ways, check_ways, document_ways,
-    say_fault, say_outcome, show_ways, tidy_ways, two_parts,
+    Answered, Ways, accept_ways, answered, are_plain, canon_ways, check_ways, say_fault,
+    say_outcome, show_ways, tidy_ways, two_parts,
 };
 use crate::answers::Answer;
+use crate::by_trees::document_ways;
 use crate::digests::digest_ways;
 use crate::feeding::answer_pieces;
 use crate::large;
