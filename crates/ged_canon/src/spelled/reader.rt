@@ -111,7 +111,8 @@ impl<'a> FormReader<'a> {
         }
     }
 
-    /// Whether the bytes that are left begin with this text, which is then read. Takes no memory.
+    /// Whether the bytes that are left begin with this text, which is then read; otherwise any part of them may be read. Takes no
+    /// memory.
     pub fn passes(&mut self, text: &[u8]) -> bool
         ensures passed { IsTrue result → self.old ≡ text.now ++ self.new }
         ensures other { result ≡ false → ¬ StartsWith self.old text.now }

@@ -24,7 +24,7 @@ pub(crate) struct Pieced {
 
 impl Pieced {
     /// The byte order mark, in memory for a document of so many structures, from a file of so many bytes. What is made for an
-    /// ordinary one has room there, and any other one makes it grow; the runs of a file always have room.
+    /// ordinary one has room there, and so have the runs of the file; any other one makes them grow.
     pub(crate) fn start(
         alloc: Global,
         structures: usize,

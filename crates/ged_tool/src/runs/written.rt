@@ -24,7 +24,7 @@ use std::alloc::Global;
 /// How many bytes of a form are written at a time.
 const BUFFER: usize = 65536;
 
-/// Makes the answer to a file and writes it. Those of `lines`, `canon` and `canon --tidy` never stand in memory as a whole.
+/// Makes the answer to a file and writes it. Those of Lines, Canon and Tidy never stand in memory as a whole.
 pub(crate) fn write_answer<W: Sink>(
     alloc: Global,
     settings: Settings,
