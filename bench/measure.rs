@@ -4,8 +4,8 @@
 //!
 //! All runs are interleaved: a round runs every command on every file once, so that other work on the machine
 //! falls on all of them alike. CPU time (user and system) is the best of the rounds, peak memory the greatest.
-//! Ratios are to the commands named `wc -l` and `baseline`, where there are such. A program's baseline is the one
-//! whose name begins with `baseline` and ends with the same word; one without such is compared to `baseline` itself.
+//! Ratios are to the command named `wc -l`, and to those whose names begin with `baseline` and `before` and end with the
+//! same word as the program's own, where there are such.
 
 use std::env;
 use std::fs;
@@ -100,8 +100,10 @@ fn run(tool: &Tool<'_>, input: &Input) -> Result<Cost> {
 }
 
 fn print_table(inputs: &[Input], tools: &[Tool<'_>], costs: &[Vec<Cost>]) {
-    println!("| file | MB | tool | CPU s | ns/byte | / wc -l | / baseline | peak MB | peak / file |");
-    println!("|---|---:|---|---:|---:|---:|---:|---:|---:|");
+    let has_before = tools.iter().any(|tool| tool.name.starts_with("before "));
+    let (title, rule) = if has_before { (" / before |", "---:|") } else { ("", "") };
+    println!("| file | MB | tool | CPU s | ns/byte | / wc -l | / baseline |{title} peak MB | peak / file |");
+    println!("|---|---:|---|---:|---:|---:|---:|{rule}---:|---:|");
     for (input, costs) in inputs.iter().zip(costs) {
         let name = input.path.rsplit('/').next().unwrap_or(&input.path);
         for (tool, cost) in tools.iter().zip(costs) {
@@ -109,14 +111,18 @@ fn print_table(inputs: &[Input], tools: &[Tool<'_>], costs: &[Vec<Cost>]) {
                 other.map_or(String::new(), |place| format!("{:.2}", cost.cpu_seconds / costs[place].cpu_seconds))
             };
             let bytes = input.bytes as f64;
+            let before = match has_before {
+                true => format!(" {} |", ratio(twin_of("before ", tool, tools))),
+                false => String::new(),
+            };
             println!(
-                "| {name} | {:.1} | {} | {:.4} | {:.2} | {} | {} | {:.1} | {:.2} |",
+                "| {name} | {:.1} | {} | {:.4} | {:.2} | {} | {} |{before} {:.1} | {:.2} |",
                 bytes / 1e6,
                 tool.name,
                 cost.cpu_seconds,
                 cost.cpu_seconds * 1e9 / bytes,
                 ratio(tools.iter().position(|other| other.name == "wc -l")),
-                ratio(baseline_of(tool, tools)),
+                ratio(twin_of("baseline ", tool, tools)),
                 cost.peak_bytes as f64 / 1e6,
                 cost.peak_bytes as f64 / bytes,
             );
@@ -124,10 +130,8 @@ fn print_table(inputs: &[Input], tools: &[Tool<'_>], costs: &[Vec<Cost>]) {
     }
 }
 
-/// The place of the tool that does the same work in the baseline: the one whose name ends with the same word, as
-/// `baseline check` for `gedtool check`, or else the one that is named `baseline` alone.
-fn baseline_of(tool: &Tool<'_>, tools: &[Tool<'_>]) -> Option<usize> {
+/// The place of the tool whose name begins so and ends with the same word, as `baseline check` for `gedtool check`.
+fn twin_of(start: &str, tool: &Tool<'_>, tools: &[Tool<'_>]) -> Option<usize> {
     let work = |name: &str| name.rsplit(' ').next() == tool.name.rsplit(' ').next();
-    let does_same = |other: &Tool<'_>| other.name.starts_with("baseline ") && work(other.name);
-    tools.iter().position(does_same).or_else(|| tools.iter().position(|other| other.name == "baseline"))
+    tools.iter().position(|other| other.name.starts_with(start) && work(other.name))
 }
