@@ -2,7 +2,6 @@ pub mod Afters
 pub mod Answers
 pub mod Apart
 pub mod Assembly
-pub mod ClosedTables
 pub mod Continuations
 pub mod Flattening
 pub mod PackedStructures

@@ -1,5 +1,5 @@
 -- The rows of a flat table, one for each structure; only the table's own functions cite this.
-use Rattle.std.specs.Prelude.{◌≡◌, ℕ, ◌+◌, ◌-◌, ◌%◌, ◌<◌, ◌==◌, nat_lt, nat_le, if◌then◌else◌, Bool, true, false, List, [], ◌∷◌, ◌++◌, length, map, take, drop, decimal}
+use Rattle.std.specs.Prelude.{◌≡◌, ℕ, ◌+◌, ◌-◌, ◌%◌, ◌≤◌, ◌<◌, ◌==◌, slice_index_or, nat_lt, nat_le, if◌then◌else◌, Bool, true, false, List, [], ◌∷◌, ◌++◌, length, map, take, drop, decimal}
 use Rattle.std.specs.List.{AllByRecursion}
 use Rattle.std.specs.List.Sorted.{IsNonDecreasingBy}
 use Rattle.std.specs.Str.{IsCharBoundary}
@@ -11,6 +11,7 @@ use Rattle.ged_tree.specs.Documents.{is_document}
 use Rattle.ged_tree.specs.Runs.{leading}
 use Rattle.ged_tree.specs.Spelled.{shown_line, payload_from}
 use Rattle.ged_tree.specs.declared.forest.continuations.FurtherLine.{FurtherLine}
+use Rattle.ged_tree.specs.declared.table.closing.Sizes.{Sizes}
 use Rattle.ged_tree.specs.declared.table.packed.KeptStructure.{KeptStructure}
 use Rattle.ged_tree.specs.declared.table.packed.TextApart.{TextApart}
 
@@ -150,10 +151,16 @@ levels_of structures = map (λ s. s.level) structures
 abbrev pub kept_levels : List KeptStructure → List ℕ
 kept_levels structures = map kept_level structures
 
--- the size that each structure keeps is how many stand below it, unless it is the greatest that it can keep
-abbrev pub IsClosed : List KeptStructure → Type 0
-IsClosed [] = Unit {0}
-IsClosed (s ∷ rest) = (s.size < 4294967295 → s.size ≡ deeper (kept_level s) (kept_levels rest)) × IsClosed rest
+-- how many structures stand below the first of these
+abbrev pub size_of_first : List KeptStructure → ℕ
+size_of_first [] = 0
+size_of_first (s ∷ rest) = deeper (kept_level s) (kept_levels rest)
+
+-- the sizes that a table keeps are true: from a place on each structure's byte, unless it is 255, and those kept apart
+pub record AreSizes (structures : List KeptStructure) (sizes : Sizes) (from : ℕ) : Type 0 where
+  pub count : length sizes.bytes.items ≡ length structures
+  pub bytes : (place : ℕ) → from ≤ place → slice_index_or sizes.bytes.items place 0 < 255 → slice_index_or sizes.bytes.items place 0 ≡ size_of_first (drop place structures)
+  pub large : AllByRecursion (λ large. large.size ≡ size_of_first (drop large.place structures)) sizes.large.items
 
 -- the row that a structure of a table stands for, at this place and before these others
 abbrev pub row_of : List Bytes → List ℕ → ℕ → Shown → List Shown → Row
@@ -190,8 +197,8 @@ pub record IsListed (structures : List Shown) (further : List FurtherLine) : Typ
   pub in_order : IsNonDecreasingBy (λ line. line.after) further
 
 -- the structures that a table keeps are those of a document
-pub record IsFlat (file : Bytes) (apart : List TextApart) (structures : List KeptStructure) (further : List FurtherLine) : Type 0 where
+pub record IsFlat (file : Bytes) (apart : List TextApart) (structures : List KeptStructure) (sizes : Sizes) (further : List FurtherLine) : Type 0 where
   pub lists : IsListed (shown_from file apart 0 structures) further
-  pub closed : IsClosed structures
+  pub sized : AreSizes structures sizes 0
   pub slices : AllByRecursion (HasSlice file) structures
   pub apart_in_order : IsNonDecreasingBy (λ text. text.place) apart

@@ -1,10 +1,11 @@
 -- The place after a structure, found from the places after those below it.
-use Rattle.std.proofs.Common.{◌≡◌, ℕ, suc, zero, ◌+◌, ◌<◌, ◌≤◌, List, [], ◌∷◌, length, drop, get_or, refl, sym, subst, ◌∙◌, ap, arith, inl, inr}
+use Rattle.std.proofs.Common.{◌≡◌, ℕ, suc, ◌+◌, ◌<◌, ◌≤◌, List, [], ◌∷◌, length, drop, get_or, refl, sym, ◌∙◌, ap, arith, inl, inr}
 use Rattle.std.proofs.lemmas.Bool.{lt-ltb, le-ltb, cases_lt}
-use Rattle.std.proofs.lemmas.List.{drop-drop, drop-map, drop_more, drop_all, length-drop, length-map}
+use Rattle.std.proofs.lemmas.List.{drop-drop, drop-map, drop_more, drop_all, length-drop, length-map, get_or_past}
+use Rattle.ged_tree.specs.declared.table.closing.Sizes.{Sizes}
 use Rattle.ged_tree.specs.declared.table.packed.KeptStructure.{KeptStructure}
-use Rattle.ged_tree.specs.Rows.{deeper, kept_level, kept_levels, IsClosed}
-use Rattle.ged_tree.specs.inner.Tables.{end_from}
+use Rattle.ged_tree.specs.Rows.{deeper, kept_level, kept_levels, size_of_first, AreSizes}
+use Rattle.ged_tree.specs.inner.Tables.{end_from, size_at}
 
 pub deeper_more : (level next : ℕ) (levels : List ℕ) → level < next → deeper level (next ∷ levels) ≡ 1 + deeper level levels
 deeper_more level next levels h = rw (lt-ltb level next h) refl
@@ -31,11 +32,19 @@ deeper_jump level next (x ∷ xs) h = elim (cases_lt next x) [
   | inr near ↦ rw (deeper_none next x xs near) (omega arith)
 ]
 
--- what is closed is closed from a later place on
-pub closed_later : (k : ℕ) (structures : List KeptStructure) → IsClosed structures → IsClosed (drop k structures)
-closed_later zero structures h = h
-closed_later (suc k) [] h = tt
-closed_later (suc k) (s ∷ rest) h = closed_later k rest h.1
+-- sizes that are kept from a place on are kept from a later place on
+pub sizes_later : (items : List KeptStructure) (sizes : Sizes) (from place : ℕ) → from ≤ place → AreSizes items sizes from → AreSizes items sizes place
+sizes_later items sizes from place h a = record { count = a.count; bytes = λ at past. a.bytes at (omega (arith, h, past)); large = a.large }
+
+-- past the last structure all sizes are kept
+pub sizes_past : (items : List KeptStructure) (sizes : Sizes) → length sizes.bytes.items ≡ length items → sizes.large.items ≡ [] → AreSizes items sizes (length items)
+sizes_past items sizes count none = record {
+  count = count;
+  bytes = λ place past few.
+      let zero_byte : get_or sizes.bytes.items place 0 ≡ 0 = get_or_past sizes.bytes.items place 0 (omega (arith, count, past)) in
+      zero_byte ∙ sym (ap size_of_first (drop_all place items past));
+  large = rw none tt;
+}
 
 module _ (items : List KeptStructure) (place level : ℕ) (s d : KeptStructure) (is : s ≡ get_or items place d) (h : place < length items) where
   pub here : drop place items ≡ s ∷ drop (place + 1) items
@@ -47,34 +56,24 @@ module _ (items : List KeptStructure) (place level : ℕ) (s d : KeptStructure) 
   pub step_here : level < kept_level s → end_from level items place ≡ end_from level items (place + 1)
   step_here e = rw (here, deeper_more level (kept_level s) (kept_levels (drop (place + 1) items)) e) (omega arith)
 
-  pub below_fits : place + 1 + deeper level (kept_levels (drop (place + 1) items)) ≤ length items
-  below_fits = omega (arith, h, deeper_fits level (kept_levels (drop (place + 1) items)), length-map (drop (place + 1) items) kept_level, length-drop (place + 1) items)
+  pub size_here : size_at items place ≡ deeper (kept_level s) (kept_levels (drop (place + 1) items))
+  size_here = ap size_of_first here
 
-  module _ (closed : IsClosed (drop place items)) where
-    unfolded : IsClosed (s ∷ drop (place + 1) items)
-    unfolded = subst IsClosed here closed
+  pub size_fits : place + 1 + size_at items place ≤ length items
+  size_fits = omega (arith, h, size_here, deeper_fits (kept_level s) (kept_levels (drop (place + 1) items)), length-map (drop (place + 1) items) kept_level, length-drop (place + 1) items)
 
-    pub size_is : s.size < 4294967295 → s.size ≡ deeper (kept_level s) (kept_levels (drop (place + 1) items))
-    size_is = unfolded.0
+  module _ (after : ℕ) (after_is : after ≡ place + 1 + size_at items place) where
+    past : drop (deeper (kept_level s) (kept_levels (drop (place + 1) items))) (drop (place + 1) items) ≡ drop after items
+    past = drop-drop (deeper (kept_level s) (kept_levels (drop (place + 1) items))) (place + 1) items ∙ ap (λ (k : ℕ). drop k items) (sym (after_is ∙ ap (λ (k : ℕ). place + 1 + k) size_here))
 
-    module _ (after : ℕ) (after_is : after ≡ place + 1 + deeper (kept_level s) (kept_levels (drop (place + 1) items))) where
-      pub jump_forth : place < after
-      jump_forth = omega (arith, after_is)
-
-      past : drop (deeper (kept_level s) (kept_levels (drop (place + 1) items))) (drop (place + 1) items) ≡ drop after items
-      past = drop-drop (deeper (kept_level s) (kept_levels (drop (place + 1) items))) (place + 1) items ∙ ap (λ (k : ℕ). drop k items) (sym after_is)
-
-      pub jump_closed : IsClosed (drop after items)
-      jump_closed = subst IsClosed past (closed_later (deeper (kept_level s) (kept_levels (drop (place + 1) items))) (drop (place + 1) items) unfolded.1)
-
-      pub jump_is : level < kept_level s → end_from level items place ≡ end_from level items after
-      jump_is e =
-          let r = drop (place + 1) items in
-          let k = deeper (kept_level s) (kept_levels r) in
-          let jumped = deeper_jump level (kept_level s) (kept_levels r) (omega arith) in
-          let seen : drop k (kept_levels r) ≡ kept_levels (drop after items) = drop-map kept_level k r ∙ ap kept_levels past in
-          let sum = rw seen at jumped in
-          rw (here, deeper_more level (kept_level s) (kept_levels r) e) (omega (arith, after_is, sum))
+    pub jump_is : level < kept_level s → end_from level items place ≡ end_from level items after
+    jump_is e =
+        let r = drop (place + 1) items in
+        let k = deeper (kept_level s) (kept_levels r) in
+        let jumped = deeper_jump level (kept_level s) (kept_levels r) (omega arith) in
+        let seen : drop k (kept_levels r) ≡ kept_levels (drop after items) = drop-map kept_level k r ∙ ap kept_levels past in
+        let sum = rw seen at jumped in
+        rw (here, deeper_more level (kept_level s) (kept_levels r) e) (omega (arith, after_is, size_here, sum))
 
 pub stop_end : (items : List KeptStructure) (place level : ℕ) → length items ≤ place → end_from level items place ≡ place
 stop_end items place level h = rw (drop_all place items h) (omega arith)

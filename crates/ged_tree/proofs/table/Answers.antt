@@ -23,6 +23,7 @@ use Rattle.ged_tree.specs.inner.Rows.{rest_of}
 use Rattle.ged_tree.specs.declared.forest.payload.PayloadView.{PayloadView}
 use Rattle.ged_tree.specs.declared.forest.payload.PayloadView.TheVariants as views
 use Rattle.ged_tree.specs.declared.owned.payload.Payload.TheVariants.{Text as Texts}
+use Rattle.ged_tree.specs.declared.table.closing.Sizes.{Sizes}
 use Rattle.ged_tree.specs.declared.table.packed.KeptStructure.{KeptStructure}
 use Rattle.ged_tree.specs.declared.table.packed.TextApart.{TextApart}
 use Rattle.ged_tree.specs.declared.forest.continuations.FurtherLine.{FurtherLine}
@@ -223,7 +224,7 @@ pub record ShowsAt (w : Trees) (place : ℕ) (s : Shown) : Type 0 where
   pub spelled : IsSpelled s
 
 -- a structure as it is kept
-module _ (file : Bytes) (apart : List TextApart) (structures : List KeptStructure) (further : List FurtherLine) (flat : IsFlat file apart structures further) where
+module _ (file : Bytes) (apart : List TextApart) (structures : List KeptStructure) (sizes : Sizes) (further : List FurtherLine) (flat : IsFlat file apart structures sizes further) where
   abbrev all : List Shown
   all = shown_from file apart 0 structures
 

@@ -18,7 +18,7 @@ use Rattle.ged_tree.specs.FileFaults.{ComesAfter, FirstFaultIn, at_piece, at_tex
 use Rattle.ged_tree.specs.Building.{TellsFile}
 use Rattle.ged_tree.specs.declared.fault.TreeFault.{TreeFault}
 use Rattle.ged_tree.proofs.theory.FirstFaults.{no_pass}
-use Rattle.ged_tree.specs.inner.Tables.{HoldsLines, IsSliceAt, TellsLine}
+use Rattle.ged_tree.specs.inner.Tables.{HoldsLines, IsSliceAt, TellsEnd, TellsLine}
 use Rattle.ged_tree.specs.declared.fault.TreeFault.TheVariants.{Line}
 use Rattle.ged_tree.specs.declared.fault.BuildFault.{BuildFault}
 use Rattle.ged_tree.specs.declared.fault.BuildFault.TheVariants.{At, Memory}
@@ -104,10 +104,11 @@ past_all _ _ _ (at_line_of before after line fault p e) pass = absurd (no_pass b
 past_all _ _ _ no_lines pass = refl
 past_all _ _ _ (past_last lines p n t) pass = refl
 
-pub unended : (file : Bytes) (lines : List LineParts) (line : ℕ) (fault : TreeFault) → FileText lines file → FirstFault lines line fault → Pass lines → FirstFaultIn file line fault
-unended file lines line fault text f pass =
-    let e = past_all lines line fault f pass in
-    rw e (at_end file lines fault text (subst (λ (n : ℕ). FirstFault lines n fault) e f))
+pub unended : (file : Bytes) (lines : List LineParts) (fault : BuildFault) → FileText lines file → TellsEnd fault lines → Pass lines → TellsFile fault file
+unended file lines (At at) text f pass =
+    let e = past_all lines at.line at.fault f pass in
+    rw e (at_end file lines at.fault text (subst (λ (n : ℕ). FirstFault lines n at.fault) e f))
+unended file lines (Memory error) text f pass = tt
 
 -- every piece is a line
 pub read_all : (file : Bytes) (table : TableBuilder) (left : List Bytes) (t : HasTaken file table left) → left ≡ [] → FileText t.lines file

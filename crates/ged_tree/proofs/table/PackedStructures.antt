@@ -10,7 +10,7 @@ use Rattle.ged_line.specs.Bytes.{Bytes}
 use Rattle.ged_line.specs.Lines.{LineParts, is_line}
 use Rattle.ged_tree.proofs.theory.LineParts.{line_is}
 use Rattle.ged_tree.specs.Rows.{Shown, shown_with, shown_from, text_at, text_apart, line_shown, IsSpelled, HasSlice, levels_of, kept_level, kept_levels, kept_further}
-use Rattle.ged_tree.specs.inner.Tables.{OwnLine, own_line, go_on, unsized, TellsFurther}
+use Rattle.ged_tree.specs.inner.Tables.{OwnLine, own_line, go_on, TellsFurther}
 use Rattle.ged_tree.specs.declared.table.packed.KeptStructure.{KeptStructure}
 use Rattle.ged_tree.specs.declared.table.packed.TextApart.{TextApart}
 use Rattle.ged_tree.proofs.table.Apart.{apart_other}
@@ -75,32 +75,12 @@ module _ (file : Bytes) (apart : List TextApart) where
       let z : (place + 1) + i ≡ place + suc i = omega arith in
       rw (shown_set (place + 1) rest i y, z) refl
 
-  -- sizes are not shown
-  pub shown_unsized : (place : ℕ) (items : List KeptStructure) → shown_from file apart place (map unsized items) ≡ shown_from file apart place items
-  shown_unsized place [] = refl
-  shown_unsized place (s ∷ rest) = ap (λ (xs : List Shown). shown_with (text_at file apart place s) s ∷ xs) (shown_unsized (place + 1) rest)
-
-  pub same_shown : (place : ℕ) (items others : List KeptStructure) → map unsized items ≡ map unsized others → shown_from file apart place items ≡ shown_from file apart place others
-  same_shown place items others e =
-      sym (shown_unsized place items) ∙ ap (λ (xs : List KeptStructure). shown_from file apart place xs) e ∙ shown_unsized place others
-
   -- a text put apart for a later place is shown for none of the structures before it
   pub shown_apart : (place : ℕ) (items : List KeptStructure) (t : TextApart) → place + length items ≤ t.place → shown_from file (apart ++ t ∷ []) place items ≡ shown_from file apart place items
   shown_apart place [] t h = refl
   shown_apart place (s ∷ rest) t h =
       let other : ¬ (t.place ≡ place) = λ e. omega (arith, e, h) in
       rw (apart_other place apart t other, shown_apart (place + 1) rest t (omega (arith, h))) refl
-
-slices_unsized : (file : Bytes) (items : List KeptStructure) → AllByRecursion (HasSlice file) items → AllByRecursion (HasSlice file) (map unsized items)
-slices_unsized file [] a = tt
-slices_unsized file (s ∷ rest) a = (a.0, slices_unsized file rest a.1)
-
-slices_sized : (file : Bytes) (items : List KeptStructure) → AllByRecursion (HasSlice file) (map unsized items) → AllByRecursion (HasSlice file) items
-slices_sized file [] a = tt
-slices_sized file (s ∷ rest) a = (a.0, slices_sized file rest a.1)
-
-pub same_slices : (file : Bytes) (items others : List KeptStructure) → map unsized items ≡ map unsized others → AllByRecursion (HasSlice file) others → AllByRecursion (HasSlice file) items
-same_slices file items others e a = slices_sized file items (subst (λ (xs : List KeptStructure). AllByRecursion (HasSlice file) xs) (sym e) (slices_unsized file others a))
 
 pub slice_at : (file : Bytes) (items : List KeptStructure) (i : ℕ) (s : KeptStructure) → i < length items → s ≡ get_or items i s → AllByRecursion (HasSlice file) items → HasSlice file s
 slice_at file [] i s h e a = absurd (omega arith)
@@ -144,7 +124,7 @@ go_on_set (x ∷ z ∷ xs) (suc i) s y is l e = last (slice_set (z ∷ xs) i y) 
 
 -- the mark tells the level as before, and that the payload goes on
 abbrev remarked : KeptStructure → ℕ → KeptStructure
-remarked s mark = record { start = s.start; size = s.size; length = s.length; mark = mark; tag_start = s.tag_start; tag_mark = s.tag_mark }
+remarked s mark = record { start = s.start; length = s.length; mark = mark; tag_start = s.tag_start; tag_mark = s.tag_mark }
 
 module _ (items : List KeptStructure) (i : ℕ) (s : KeptStructure) (mark : ℕ) (is : s ≡ get_or items i s) (last : i + 1 ≡ length items)
     (level : mark % 128 ≡ s.mark % 128) (further : kept_further (remarked s mark) ≡ true) where

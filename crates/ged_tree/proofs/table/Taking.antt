@@ -1,7 +1,7 @@
 -- One more line in a table, and its end.
 use Rattle.std.proofs.Common.{◌≡◌, ℕ, suc, ◌+◌, ◌<◌, ◌^◌, Bool, true, false, ◌&&◌, ◌==◌, not, List, [], ◌∷◌, ◌++◌, length, map, None, refl, sym, subst, ◌∙◌, ap, arith, inl, inr, append-nil, length-append}
 use Rattle.std.specs.Prelude.{nat_lt}
-use Rattle.std.specs.List.{list_all, list_any, AllByRecursion}
+use Rattle.std.specs.List.{list_all, list_any}
 use Rattle.std.proofs.lemmas.Bool.{both_ways, cases_Bool, ltb-false, or_parts, and_parts, and_from}
 use Rattle.std.proofs.lemmas.Bool.Decides.{nat_tests}
 use Rattle.std.proofs.lemmas.List.{length-map, append_cancel_right}
@@ -11,14 +11,14 @@ use Rattle.ged_tree.specs.Trees.{Trees}
 use Rattle.ged_tree.specs.DocumentLines.{lines_of, trailer_line, HasLines}
 use Rattle.ged_tree.specs.TreeFaults.{is_cont, is_trailer, is_empty, has_trailer, fault_after, Pass, more, FirstFault, no_lines, past_last}
 use Rattle.ged_tree.specs.Judging.{StandsFor}
-use Rattle.ged_tree.specs.Rows.{Shown, shown_from, IsSpelled, IsClosed, IsFlat}
-use Rattle.ged_tree.specs.inner.Tables.{OwnLine, own_line, own_lines, begins_cont, go_on, with_line, further_places, further_texts, but_trailer, unsized, table_shown, IsKept, HoldsLines, IsPut}
-use Rattle.ged_tree.specs.declared.table.packed.KeptStructure.{KeptStructure}
+use Rattle.ged_tree.specs.Rows.{AreSizes, IsFlat}
+use Rattle.ged_tree.specs.inner.Tables.{OwnLine, own_line, own_lines, begins_cont, go_on, with_line, further_places, further_texts, but_trailer, table_shown, IsKept, HoldsLines, IsPut}
+use Rattle.ged_tree.specs.declared.table.closing.Sizes.{Sizes}
 use Rattle.ged_tree.specs.declared.table.builder.TableBuilder.{TableBuilder}
 use Rattle.ged_tree.specs.declared.fault.TreeFault.TheVariants.{NoHeader, NoTrailer}
 use Rattle.ged_tree.proofs.theory.OneDocument.{made, free_after, ended}
 use Rattle.ged_tree.proofs.table.Assembly.{Lists, lists}
-use Rattle.ged_tree.proofs.table.PackedStructures.{length-shown, same_shown, same_slices}
+use Rattle.ged_tree.proofs.table.PackedStructures.{length-shown}
 
 -- no line follows TRLR without a fault
 ongoing : (lines : List LineParts) (line : LineParts) → fault_after lines line ≡ None → has_trailer lines ≡ false
@@ -158,30 +158,26 @@ nothing [] count e z = rw e no_lines
 nothing (x ∷ xs) count e z = absurd (omega (arith, e, z))
 
 -- the closed table of lines without a fault that end
-pub record Finished (lines : List LineParts) (builder : TableBuilder) (items : List KeptStructure) : Type 0 where
+pub record Finished (lines : List LineParts) (builder : TableBuilder) (sizes : Sizes) : Type 0 where
   pub shown : Trees
   pub has : HasLines shown lines
-  pub lists : Lists (shown_from builder.file.now builder.apart.items 0 items) builder.further.items shown
-  pub flat : IsFlat builder.file.now builder.apart.items items builder.further.items
+  pub lists : Lists (table_shown builder) builder.further.items shown
+  pub flat : IsFlat builder.file.now builder.apart.items builder.structures.items sizes builder.further.items
 
-pub finished : (builder : TableBuilder) (lines : List LineParts) (items : List KeptStructure) → HoldsLines builder lines → has_trailer lines ≡ true → length lines < 2 ^ 63
-    → map unsized items ≡ map unsized builder.structures.items → IsClosed items → Finished lines builder items
-finished builder lines items h t few others closed =
+pub finished : (builder : TableBuilder) (lines : List LineParts) (sizes : Sizes) → HoldsLines builder lines → has_trailer lines ≡ true → length lines < 2 ^ 63
+    → AreSizes builder.structures.items sizes 0 → Finished lines builder sizes
+finished builder lines sizes h t few sized =
     let m = made lines h.pass t h.are_lines few in
     let told : lines ≡ lines_of 0 m.0 ++ trailer_line ∷ [] = m.1.told in
     let end = ended lines h.pass t in
     let same : end.before ≡ lines_of 0 m.0 = append_cancel_right end.before (lines_of 0 m.0) (trailer_line ∷ []) (sym end.cut ∙ told) in
     let ongoing_body : has_trailer (lines_of 0 m.0) ≡ false = ap has_trailer (sym same) ∙ end.ongoing in
     let body : but_trailer lines ≡ lines_of 0 m.0 = ap but_trailer told ∙ filter-append (λ (l : LineParts). not (is_trailer l)) (lines_of 0 m.0) (trailer_line ∷ []) ∙ append-nil (but_trailer (lines_of 0 m.0)) ∙ kept (lines_of 0 m.0) ongoing_body in
-    let file = builder.file.now in
-    let apart = builder.apart.items in
-    let again : shown_from file apart 0 items ≡ table_shown builder = same_shown file apart 0 items builder.structures.items others in
-    let rows : map own_line (shown_from file apart 0 items) ≡ own_lines (lines_of 0 m.0) = ap (λ (xs : List Shown). map own_line xs) again ∙ h.structures ∙ ap own_lines body in
-    let spelled : AllByRecursion IsSpelled (shown_from file apart 0 items) = subst (λ (xs : List Shown). AllByRecursion IsSpelled xs) (sym again) h.kept.spelled in
-    let listed = lists m.0 (shown_from file apart 0 items) builder.further.items m.1.allowed rows (h.places ∙ ap (further_places 0) body) (h.further ∙ ap further_texts body) spelled in
+    let rows : map own_line (table_shown builder) ≡ own_lines (lines_of 0 m.0) = h.structures ∙ ap own_lines body in
+    let listed = lists m.0 (table_shown builder) builder.further.items m.1.allowed rows (h.places ∙ ap (further_places 0) body) (h.further ∙ ap further_texts body) h.kept.spelled in
     record {
       shown = m.0;
       has = m.1;
       lists = listed;
-      flat = record { lists = listed.flat; closed = closed; slices = same_slices file items builder.structures.items others h.kept.slices; apart_in_order = h.kept.apart_in_order };
+      flat = record { lists = listed.flat; sized = sized; slices = h.kept.slices; apart_in_order = h.kept.apart_in_order };
     }

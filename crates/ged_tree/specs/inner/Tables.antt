@@ -8,9 +8,9 @@ use Rattle.ged_line.specs.Bytes.{Bytes}
 use Rattle.ged_line.specs.Lines.{LineParts, is_line, Value}
 use Rattle.ged_line.specs.Lines as value
 use Rattle.ged_tree.specs.DocumentLines.{line_value}
-use Rattle.ged_tree.specs.TreeFaults.{is_cont, is_trailer, Pass, fault_after}
+use Rattle.ged_tree.specs.TreeFaults.{is_cont, is_trailer, Pass, FirstFault, fault_after}
 use Rattle.ged_tree.specs.Judging.{StandsFor}
-use Rattle.ged_tree.specs.Rows.{Shown, shown_with, shown_from, kept_further, line_shown, IsSpelled, HasSlice, deeper, kept_levels, texts_of, places_of}
+use Rattle.ged_tree.specs.Rows.{Shown, shown_with, shown_from, kept_further, line_shown, IsSpelled, HasSlice, deeper, kept_levels, size_of_first, texts_of, places_of}
 use Rattle.ged_tree.specs.declared.fault.BuildFault.{BuildFault}
 use Rattle.ged_tree.specs.declared.fault.BuildFault.TheVariants.{At, Memory}
 use Rattle.ged_tree.specs.declared.forest.payload.PayloadView.{PayloadView}
@@ -71,13 +71,13 @@ abbrev pub further_texts : List LineParts → List Bytes
 further_texts [] = []
 further_texts (line ∷ lines) = if is_cont line then line_text line.value ∷ further_texts lines else further_texts lines
 
+-- how many structures stand below the one at a place
+abbrev pub size_at : List KeptStructure → ℕ → ℕ
+size_at structures place = size_of_first (drop place structures)
+
 -- the first place from a place on that has no greater level
 abbrev pub end_from : ℕ → List KeptStructure → ℕ → ℕ
 end_from level structures place = place + deeper level (kept_levels (drop place structures))
-
--- a structure apart from its size
-abbrev pub unsized : KeptStructure → KeptStructure
-unsized s = record { start = s.start; size = 0; length = s.length; mark = s.mark; tag_start = s.tag_start; tag_mark = s.tag_mark }
 
 -- the same structures, the last of which goes on
 pub record TellsFurther (old new : List KeptStructure) : Type 0 where
@@ -153,3 +153,8 @@ pub record IsPut (line : LineParts) (old new : TableBuilder) : Type 0 where
 abbrev pub TellsLine : BuildFault → List LineParts → LineParts → Type 0
 TellsLine (At at) lines line = Pass lines × (fault_after lines line ≡ Some at.fault) × (at.line ≡ length lines + 1)
 TellsLine (Memory error) lines line = Unit {0}
+
+-- the fault stands past the last of the lines; of want of memory nothing is said
+abbrev pub TellsEnd : BuildFault → List LineParts → Type 0
+TellsEnd (At at) lines = FirstFault lines at.line at.fault
+TellsEnd (Memory error) lines = Unit {0}

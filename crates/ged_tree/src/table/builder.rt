@@ -3,13 +3,12 @@ ghost use Rattle.std.specs.Prelude.{◌≡◌, ◌<◌, ◌+◌, ◌%◌, ◌^�
 ghost use Rattle.ged_line.specs.Lines.{LineParts, LineText};
 ghost use Rattle.ged_tree.specs.DocumentLines.{HasLines};
 ghost use Rattle.ged_tree.specs.Rows.{names_record};
-ghost use Rattle.ged_tree.specs.TreeFaults.{FirstFault};
-ghost use Rattle.ged_tree.specs.inner.Tables.{line_text, HoldsLines, HasStructure, IsPut, IsSliceAt, Shows, TellsFurther, TellsLine};
+ghost use Rattle.ged_tree.specs.inner.Tables.{line_text, HoldsLines, HasStructure, IsPut, IsSliceAt, Shows, TellsEnd, TellsFurther, TellsLine};
 
 use crate::fault::{BuildFault, TreeAt, TreeFault};
 use crate::forest::continuations::FurtherLine;
 use crate::judge::{Judge, is_cont, is_trailer};
-use crate::table::closing::close;
+use crate::table::closing::sizes_of;
 use crate::table::flat::Flat;
 use crate::table::packed::{
     APART, KeptStructure, TextApart, kept_slice, mark_with_further, start_if_kept,
@@ -62,7 +61,6 @@ fn structure_of_line(spelled: &SpelledLine<'_>, start: u32, length: u8) -> KeptS
     let (tag_start, tag_mark) = kept_tag(start_of_tag(line), line.tag().len(), points);
     KeptStructure {
         start,
-        size: 0,
         length,
         mark: line.level(),
         tag_start,
@@ -196,12 +194,12 @@ impl<'a> TableBuilder<'a> {
     }
 
     /// The document of the lines that were taken, or what stands past the last of them.
-    pub(crate) fn finish(mut self) -> Result<Flat<'a>, TreeAt>
+    pub(crate) fn finish(self, alloc: Global) -> Result<Flat<'a>, BuildFault>
         requires few { self.count < 2 ^ 63 }
         requires lines { (lines : List LineParts) × HoldsLines self lines × (length lines < 2 ^ 63) }
         ensures { (lines : List LineParts) → HoldsLines self.entry lines → length lines < 2 ^ 63 → MatchResult result
             (λ flat. HasLines flat lines)
-            (λ at. FirstFault lines at.line at.fault) }
+            (λ fault. TellsEnd fault lines) }
     {
         if !self.judge.has_ended() {
             let fault = if self.count == 0 {
@@ -209,12 +207,18 @@ impl<'a> TableBuilder<'a> {
             } else {
                 TreeFault::NoTrailer
             };
-            return Err(TreeAt {
-                line: self.count + 1,
-                fault,
-            });
+            let line = self.count + 1;
+            return Err(BuildFault::At(TreeAt { line, fault }));
         }
-        close(&mut self.structures);
-        Ok(Flat::of_table(self.file, self.structures, self.apart, self.further))
+        match sizes_of(alloc, self.structures.as_slice()) {
+            Ok(sizes) => Ok(Flat::of_table(
+                self.file,
+                self.structures,
+                sizes,
+                self.apart,
+                self.further,
+            )),
+            Err(error) => Err(BuildFault::Memory(error)),
+        }
     }
 }

@@ -1,10 +1,32 @@
-// The structures of a table and how many stand below each.
-ghost use Rattle.std.specs.Prelude.{◌≡◌, ◌≤◌, ◌<◌, ◌+◌, map, drop, length, slice_index_or};
-ghost use Rattle.ged_tree.specs.Rows.{IsClosed, kept_level};
-ghost use Rattle.ged_tree.specs.inner.Tables.{end_from, unsized};
+// How many structures stand below each structure of a table.
+ghost use Rattle.std.specs.Prelude.{◌≡◌, ◌≤◌, ◌<◌, ◌+◌, List, IfOk, length};
+ghost use Rattle.ged_tree.specs.Rows.{AreSizes};
+ghost use Rattle.ged_tree.specs.inner.Tables.{end_from, size_at};
 ghost use Rattle.ged_tree.specs.declared.table.packed.KeptStructure.{KeptStructure};
 
 use crate::table::packed::KeptStructure;
+use std::alloc::{AllocError, Global};
+
+/// The byte that says of a size that it is too large for one.
+const TOO_LARGE: u8 = 255;
+
+/// A size that is too large for a byte.
+#[derive(Clone, Copy)]
+pub(crate) struct LargeSize {
+    /// The place of the structure.
+    pub(crate) place: u32,
+    pub(crate) size: u32,
+}
+
+/// How many structures stand below each structure of a table.
+#[derive(Drop)]
+pub(crate) struct Sizes {
+    /// For each structure how many stand below it, or [`TOO_LARGE`] where as many or more do.
+    bytes: Vec<u8>,
+    /// Those that are too large for a byte, the last structure's first. One whose place or size does not fit is left out: it
+    /// is counted when it is asked for.
+    large: Vec<LargeSize>,
+}
 
 /// The first place from a place on whose level is not greater, found by the levels alone.
 #[cold]
@@ -19,54 +41,95 @@ fn end_of_deeper(structures: &[KeptStructure], place: usize, level: u8) -> usize
     next
 }
 
-/// The first place past a structure and all below it, where the structures from it on keep their sizes.
-pub(crate) fn after_in(structures: &[KeptStructure], place: usize) -> usize
-    requires within { place < length structures.now }
-    requires closed { IsClosed (drop place structures.now) }
-    ensures { (d : KeptStructure) → result ≡ end_from (kept_level (slice_index_or structures.now place d)) structures.now (place + 1) }
-{
-    let structure = structures[place];
-    if structure.size < u32::MAX {
-        return place + 1 + structure.size as usize;
+impl Sizes {
+    /// The first place past a structure and all below it, where the sizes from it on are kept.
+    #[inline(always)]
+    pub(crate) fn after(&self, structures: &[KeptStructure], place: usize) -> usize
+        requires within { place < length structures.now }
+        requires sizes { AreSizes structures.now self.now place }
+        ensures { result ≡ place + 1 + size_at structures.now place }
+    {
+        let size = self.bytes[place];
+        if size < TOO_LARGE {
+            return place + 1 + size as usize;
+        }
+        self.after_large(structures, place)
     }
-    end_of_deeper(structures, place + 1, structure.level())
+
+    /// The same, where the size may be among those that are too large for a byte.
+    #[inline(never)]
+    fn after_large(&self, structures: &[KeptStructure], place: usize) -> usize
+        requires within { place < length structures.now }
+        requires sizes { AreSizes structures.now self.now place }
+        ensures { result ≡ place + 1 + size_at structures.now place }
+    {
+        let index = self.large.partition_point(|large: &LargeSize| -> bool {
+            large.place as usize > place
+        });
+        if index < self.large.len() {
+            let large = self.large[index];
+            if large.place as usize == place {
+                return place + 1 + large.size as usize;
+            }
+        }
+        end_of_deeper(structures, place + 1, structures[place].level())
+    }
+
+    /// The first place from a place on whose level is not greater, where the sizes from it on are kept.
+    fn next_place(&self, structures: &[KeptStructure], place: usize, level: u8) -> usize
+        requires within { place ≤ length structures.now }
+        requires sizes { AreSizes structures.now self.now place }
+        ensures { result ≡ end_from level structures.now place }
+    {
+        let mut next = place;
+        while next < structures.len() && structures[next].level() > level {
+            next = self.after(structures, next);
+        }
+        next
+    }
+
+    /// Keeps a size, where those of the structures past its own are kept.
+    #[inline(always)]
+    fn keep(&mut self, place: usize, size: usize) -> Result<(), AllocError>
+        requires { place < length self.now.bytes.items }
+        ensures { (structures : List KeptStructure) → AreSizes structures self.old (place + 1) → size ≡ size_at structures place
+            → IfOk result (λ _. AreSizes structures self.new place) }
+    {
+        if size < TOO_LARGE as usize {
+            self.bytes[place] = size as u8;
+            return Ok(());
+        }
+        self.keep_large(place, size)
+    }
+
+    /// The same of a size that is too large for a byte.
+    #[inline(never)]
+    fn keep_large(&mut self, place: usize, size: usize) -> Result<(), AllocError>
+        requires { place < length self.now.bytes.items }
+        ensures { (structures : List KeptStructure) → AreSizes structures self.old (place + 1) → size ≡ size_at structures place
+            → IfOk result (λ _. AreSizes structures self.new place) }
+    {
+        self.bytes[place] = TOO_LARGE;
+        if let (Ok(place), Ok(size)) = (u32::try_from(place), u32::try_from(size)) {
+            self.large.push(LargeSize { place, size })?;
+        }
+        Ok(())
+    }
 }
 
-/// The first place from a place on whose level is not greater, where the structures from it on keep their sizes.
-fn next_place(structures: &[KeptStructure], place: usize, level: u8) -> usize
-    requires within { place ≤ length structures.now }
-    requires closed { IsClosed (drop place structures.now) }
-    ensures { result ≡ end_from level structures.now place }
+/// The size of each structure, found from the last one on.
+pub(crate) fn sizes_of(alloc: Global, structures: &[KeptStructure]) -> Result<Sizes, AllocError>
+    ensures { IfOk result (λ sizes. AreSizes structures.now sizes 0) }
 {
-    let mut next = place;
-    while next < structures.len() && structures[next].level() > level {
-        next = after_in(structures, next);
-    }
-    next
-}
-
-/// A size as it is kept: the greatest stands for itself and for all above it.
-fn kept_size(size: usize) -> u32
-    ensures { result < 4294967295 → result ≡ size }
-{
-    if size < u32::MAX as usize {
-        size as u32
-    } else {
-        u32::MAX
-    }
-}
-
-/// Gives each structure its size.
-pub(crate) fn close(structures: &mut Vec<KeptStructure>)
-    ensures others { map unsized structures.new.items ≡ map unsized structures.old.items }
-    ensures closed { IsClosed structures.new.items }
-{
+    let mut sizes = Sizes {
+        bytes: Vec::from_elem(alloc, 0, structures.len())?,
+        large: Vec::new(alloc),
+    };
     let mut place = structures.len();
     while place > 0 {
         place -= 1;
-        let mut structure = structures[place];
-        let after = next_place(structures.as_slice(), place + 1, structure.level());
-        structure.size = kept_size(after - place - 1);
-        structures[place] = structure;
+        let after = sizes.next_place(structures, place + 1, structures[place].level());
+        sizes.keep(place, after - place - 1)?;
     }
+    Ok(sizes)
 }

@@ -15,7 +15,7 @@ ghost use Rattle.ged_tree.specs.declared.forest.payload.PayloadView.{PayloadView
 use crate::forest::Forest;
 use crate::forest::continuations::{FurtherLine, FurtherLines};
 use crate::forest::payload::PayloadView;
-use crate::table::closing::after_in;
+use crate::table::closing::Sizes;
 use crate::table::packed::{KeptStructure, TextApart, text_of};
 use crate::table::structure::FlatStructure;
 use std::marker::Model;
@@ -38,6 +38,7 @@ fn further_before(further: &[FurtherLine<'_>], place: usize) -> usize
 pub struct Flat<'a> {
     file: &'a str,
     structures: Vec<KeptStructure>,
+    sizes: Sizes,
     /// The texts of structures that keep no slice of the file, in order of their places.
     apart: Vec<TextApart<'a>>,
     further: Vec<FurtherLine<'a>>,
@@ -54,7 +55,7 @@ impl<'a> Model for Flat<'a> {
 
     ghost view = { λ f. flat_trees (shown_from f.file.now f.apart.items 0 f.structures.items) f.further.items };
 
-    ghost invariant = { λ f. IsFlat f.file.now f.apart.items f.structures.items f.further.items };
+    ghost invariant = { λ f. IsFlat f.file.now f.apart.items f.structures.items f.sizes f.further.items };
 }
 
 impl<'a> Flat<'a> {
@@ -62,15 +63,17 @@ impl<'a> Flat<'a> {
     pub(crate) fn of_table(
         file: &'a str,
         structures: Vec<KeptStructure>,
+        sizes: Sizes,
         apart: Vec<TextApart<'a>>,
         further: Vec<FurtherLine<'a>>,
     ) -> Flat<'a>
-        requires { IsFlat file.now apart.items structures.items further.items }
+        requires { IsFlat file.now apart.items structures.items sizes further.items }
         ensures { result ≡ flat_trees (shown_from file.now apart.entry.items 0 structures.items) further.entry.items }
     {
         Flat {
             file,
             structures,
+            sizes,
             apart,
             further,
         }
@@ -137,7 +140,7 @@ impl<'a> Flat<'a> {
         requires { place < trees_count self.now }
         ensures { result ≡ place_after self.now place }
     {
-        after_in(self.structures.as_slice(), place)
+        self.sizes.after(self.structures.as_slice(), place)
     }
 
     fn line_at(&self, place: usize) -> u64

@@ -47,9 +47,9 @@ fn flatten_text(alloc: Global, text: &str) -> Result<Flat<'_>, BuildFault>
             }
         }
     }
-    match table.finish() {
+    match table.finish(alloc) {
         Ok(flat) => Ok(flat),
-        Err(at) => Err(BuildFault::At(at)),
+        Err(fault) => Err(fault),
     }
 }
 
@@ -75,8 +75,8 @@ fn flatten_lines(alloc: Global, bytes: &[u8]) -> Result<Flat<'_>, BuildFault>
             }
         }
     }
-    match table.finish() {
+    match table.finish(alloc) {
         Ok(flat) => Ok(flat),
-        Err(at) => Err(BuildFault::At(at)),
+        Err(fault) => Err(fault),
     }
 }

@@ -9,13 +9,11 @@ use std::mem::size_of;
 /// The length that says of a text that it is kept apart.
 pub(crate) const APART: u8 = 255;
 
-/// A structure as a table keeps it, in 12 bytes.
+/// A structure as a table keeps it, in 8 bytes.
 #[derive(Clone, Copy)]
 pub(crate) struct KeptStructure {
     /// Where its line begins in the file, in bytes. Of a line that is kept apart this is told only where it is kept.
     pub(crate) start: u32,
-    /// How many structures stand below it, or `u32::MAX` where that many or more do.
-    pub(crate) size: u32,
     /// How many bytes its line has, or [`APART`] where the line has as many or more, or begins too far behind in the
     /// file: then its text is among those kept apart.
     pub(crate) length: u8,
@@ -28,7 +26,7 @@ pub(crate) struct KeptStructure {
     pub(crate) tag_mark: u8,
 }
 
-const _: () = prove!(size_of::<KeptStructure>() == 12);
+const _: () = prove!(size_of::<KeptStructure>() == 8);
 
 /// The whole line of a structure that keeps no slice of the file.
 #[derive(Clone, Copy)]

@@ -8,7 +8,7 @@ pub loop-next-preserved : goal.loop-next-preserved
 loop-next-preserved c =
     let items = c.args.structures.now in
     let place = c.loop-next.next in
-    let d : KeptStructure = record { start = 0; size = 0; length = 0; mark = 0; tag_start = 0; tag_mark = 0 } in
+    let d : KeptStructure = record { start = 0; length = 0; mark = 0; tag_start = 0; tag_mark = 0 } in
     let s = slice_index_or items place d in
     let within : place < length items = omega (arith, c.loop-next-test.true) in
     let deep : c.args.level < kept_level s = omega (arith, c.if-level.true, c.level.ensures) in

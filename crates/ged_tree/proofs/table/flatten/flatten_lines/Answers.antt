@@ -60,4 +60,4 @@ returns-in-Err-finish-clause-fault c =
     let taken = c.loop-line.invariant in
     let small : length c.args.bytes.now < 2 ^ 63 = search rules in
     let few : length taken.lines < 2 ^ 63 = omega (arith, lines_few c.args.bytes.now c.loop-line.table c.loop-line.line-iterator taken, small) in
-    unended c.args.bytes.now taken.lines c.in-Err-finish.at.line c.in-Err-finish.at.fault (read_all c.args.bytes.now c.loop-line.table c.loop-line.line-iterator taken c.in-None.ensures.steps.0) (c.in-Err-finish.ensures taken.lines taken.holds few) taken.holds.pass
+    unended c.args.bytes.now taken.lines c.in-Err-finish.fault (read_all c.args.bytes.now c.loop-line.table c.loop-line.line-iterator taken c.in-None.ensures.steps.0) (c.in-Err-finish.ensures taken.lines taken.holds few) taken.holds.pass

@@ -77,4 +77,4 @@ returns-in-Err-finish-clause-fault c = λ file mark.
     let taken = taken_in c.args.text.now c.loop-line.table c.loop-line.rest.now all file mark in
     let small : length c.args.text.now < 2 ^ 63 = search rules in
     let few : length all.lines < 2 ^ 63 = omega (arith, lines_few_in c.args.text.now c.loop-line.table c.loop-line.rest.now all, small) in
-    unended file all.lines c.in-Err-finish.at.line c.in-Err-finish.at.fault (read_all file c.loop-line.table (pieces_of c.loop-line.rest.now) taken (ap pieces_of c.in_default.ensures.line)) (c.in-Err-finish.ensures all.lines all.holds few) all.holds.pass
+    unended file all.lines c.in-Err-finish.fault (read_all file c.loop-line.table (pieces_of c.loop-line.rest.now) taken (ap pieces_of c.in_default.ensures.line)) (c.in-Err-finish.ensures all.lines all.holds few) all.holds.pass

@@ -17,10 +17,12 @@ of_table-requires c =
     let lines = c.requires.lines.0 in
     let holds = c.requires.lines.1 in
     let end : has_trailer lines ≡ true = sym (c.has_ended.ensures lines holds.judged) ∙ c.if-not-has_ended.false in
-    (finished c.args.self lines c.close.new.structures.items holds end c.requires.lines.2 c.close.ensures.others c.close.ensures.closed).flat
+    let sized = rw c.as_slice.ensures.value at c.in-Ok.ensures in
+    (finished c.args.self lines c.in-Ok.sizes holds end c.requires.lines.2 sized).flat
 
-pub returns : goal.returns
-returns c = λ lines holds few.
+pub returns-in-Ok : goal.returns-in-Ok
+returns-in-Ok c = λ lines holds few.
     let end : has_trailer lines ≡ true = sym (c.has_ended.ensures lines holds.judged) ∙ c.if-not-has_ended.false in
-    let done = finished c.args.self lines c.close.new.structures.items holds end few c.close.ensures.others c.close.ensures.closed in
+    let sized = rw c.as_slice.ensures.value at c.in-Ok.ensures in
+    let done = finished c.args.self lines c.in-Ok.sizes holds end few sized in
     rw (c.of_table.ensures, done.lists.seen) done.has

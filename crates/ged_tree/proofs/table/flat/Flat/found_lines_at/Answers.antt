@@ -8,7 +8,7 @@ use Rattle.ged_tree.proofs.table.flat.Flat.found_lines_at.Goals as goal
 
 pub overflow_add-place : goal.overflow_add-place
 overflow_add-place c =
-    let size = kept_count c.self.inside.file.now c.self.inside.apart.items c.self.inside.structures.items c.self.inside.further.items c.self.invariant in
+    let size = kept_count c.self.inside.file.now c.self.inside.apart.items c.self.inside.structures.items c.self.inside.sizes c.self.inside.further.items c.self.invariant in
     let below = rw (← c.self.view_is) at c.requires in
     omega (arith, size, below, c.self.inside.structures.ok.0, c.self.inside.structures.small)
 
@@ -46,7 +46,7 @@ pub returns : goal.returns
 returns c =
     let further = c.self.inside.further.items in
     let long = length-shown c.self.inside.file.now c.self.inside.apart.items 0 c.self.inside.structures.items in
-    let size = kept_count c.self.inside.file.now c.self.inside.apart.items c.self.inside.structures.items c.self.inside.further.items c.self.invariant in
+    let size = kept_count c.self.inside.file.now c.self.inside.apart.items c.self.inside.structures.items c.self.inside.sizes c.self.inside.further.items c.self.invariant in
     let below = rw (← c.self.view_is) at c.requires in
     let start = rw c.as_slice-further.ensures.value at c.further_before-start.ensures in
     let end = rw c.as_slice-further.ensures.value at c.further_before-end.ensures in

@@ -10,7 +10,7 @@ further_before-before-requires c = rw c.as_slice.ensures.value c.self.invariant.
 pub overflow_add-result-2 : goal.overflow_add-result-2
 overflow_add-result-2 c =
     let long = length-shown c.self.inside.file.now c.self.inside.apart.items 0 c.self.inside.structures.items in
-    let size = kept_count c.self.inside.file.now c.self.inside.apart.items c.self.inside.structures.items c.self.inside.further.items c.self.invariant in
+    let size = kept_count c.self.inside.file.now c.self.inside.apart.items c.self.inside.structures.items c.self.inside.sizes c.self.inside.further.items c.self.invariant in
     let below = rw (← c.self.view_is) at c.requires in
     let number = flat_number (shown_from c.self.inside.file.now c.self.inside.apart.items 0 c.self.inside.structures.items) c.self.inside.further.items c.self.invariant.lists c.args.place (omega (arith, long, size, below)) in
     let small = flat_line (shown_from c.self.inside.file.now c.self.inside.apart.items 0 c.self.inside.structures.items) c.self.inside.further.items c.self.invariant.lists c.args.place (omega (arith, long, size, below)) in
@@ -23,7 +23,7 @@ overflow_add-result c = (let all = overflow_add-result-2 c in omega (arith, all)
 pub returns : goal.returns
 returns c =
     let long = length-shown c.self.inside.file.now c.self.inside.apart.items 0 c.self.inside.structures.items in
-    let size = kept_count c.self.inside.file.now c.self.inside.apart.items c.self.inside.structures.items c.self.inside.further.items c.self.invariant in
+    let size = kept_count c.self.inside.file.now c.self.inside.apart.items c.self.inside.structures.items c.self.inside.sizes c.self.inside.further.items c.self.invariant in
     let below = rw (← c.self.view_is) at c.requires in
     let number = flat_number (shown_from c.self.inside.file.now c.self.inside.apart.items 0 c.self.inside.structures.items) c.self.inside.further.items c.self.invariant.lists c.args.place (omega (arith, long, size, below)) in
     let before = rw c.as_slice.ensures.value at c.further_before-before.ensures in

@@ -1,12 +1,12 @@
-use Rattle.std.proofs.Common.{◌≡◌, ◌≤◌, ◌-◌, drop, length}
-use Rattle.ged_tree.specs.Rows.{IsClosed}
+use Rattle.std.proofs.Common.{◌≡◌, ◌≤◌, ◌-◌, length}
+use Rattle.ged_tree.specs.Rows.{AreSizes}
 use Rattle.ged_tree.specs.inner.Tables.{end_from}
-use Rattle.ged_tree.proofs.table.closing.next_place.Given as goal
+use Rattle.ged_tree.proofs.table.closing.Sizes.next_place.Given as goal
 
 abbrev pub invariant-loop-next : goal.invariant-loop-next
 invariant-loop-next l = record {
   within : l.next ≤ length l.structures;
-  closed : IsClosed (drop l.next l.structures);
+  sizes : AreSizes l.structures l.self l.next;
   told : end_from l.level l.structures l.place ≡ end_from l.level l.structures l.next;
 }
 
