@@ -4,6 +4,7 @@ pub mod Apart
 pub mod Assembly
 pub mod Continuations
 pub mod Flattening
+pub mod FurtherTexts
 pub mod PackedStructures
 pub mod Pushing
 pub mod SpelledTexts

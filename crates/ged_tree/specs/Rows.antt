@@ -10,7 +10,9 @@ use Rattle.ged_tree.specs.Trees.{Structure, Trees, none, tree, trees_count, furt
 use Rattle.ged_tree.specs.Documents.{is_document}
 use Rattle.ged_tree.specs.Runs.{leading}
 use Rattle.ged_tree.specs.Spelled.{shown_line, payload_from}
-use Rattle.ged_tree.specs.declared.forest.continuations.FurtherLine.{FurtherLine}
+use Rattle.ged_tree.specs.declared.forest.continuations.FurtherApart.{FurtherApart}
+use Rattle.ged_tree.specs.declared.forest.continuations.FurtherSlice.{FurtherSlice}
+use Rattle.ged_tree.specs.declared.forest.continuations.FurtherTable.{FurtherTable}
 use Rattle.ged_tree.specs.declared.table.closing.Sizes.{Sizes}
 use Rattle.ged_tree.specs.declared.table.packed.KeptStructure.{KeptStructure}
 use Rattle.ged_tree.specs.declared.table.packed.TextApart.{TextApart}
@@ -124,11 +126,30 @@ HasTagKept s = 0 < s.tag_length
 abbrev pub IsSpelled : Shown → Type 0
 IsSpelled s = LineText (line_shown s) s.text × HasTagKept s
 
--- the texts of further lines, and the places past the structures whose they are
-abbrev pub texts_of : List FurtherLine → List Bytes
-texts_of further = map (λ line. line.text.now) further
+-- a further line of a payload: the place past the structure whose it is, and its text
+pub record Further : Type 0 where
+  pub after : ℕ
+  pub text : Bytes
 
-abbrev pub places_of : List FurtherLine → List ℕ
+-- the further lines of a table: slices of the file, and then those whose texts are kept
+abbrev pub sliced : Bytes → FurtherSlice → Further
+sliced file line = record { after = line.after; text = take line.length (drop line.start file) }
+
+abbrev pub set_apart : FurtherApart → Further
+set_apart line = record { after = line.after; text = line.text.now }
+
+abbrev pub further_of : Bytes → FurtherTable → List Further
+further_of file table = map (sliced file) table.slices.items ++ map set_apart table.apart.items
+
+-- the file may be cut at both ends of each slice
+abbrev pub HasFurther : Bytes → FurtherTable → Type 0
+HasFurther file table = AllByRecursion (λ line. IsCharBoundary file line.start × IsCharBoundary file (line.start + line.length)) table.slices.items
+
+-- the texts of further lines, and the places past the structures whose they are
+abbrev pub texts_of : List Further → List Bytes
+texts_of further = map (λ line. line.text) further
+
+abbrev pub places_of : List Further → List ℕ
 places_of further = map (λ line. line.after) further
 
 -- how many further lines stand before the structure at a place, where each has the place past its structure's
@@ -182,23 +203,24 @@ abbrev pub rows_from : List Bytes → List ℕ → ℕ → List Shown → List R
 rows_from texts afters place [] = []
 rows_from texts afters place (s ∷ rest) = row_of texts afters place s rest ∷ rows_from texts afters (place + 1) rest
 
-abbrev pub flat_rows : List Shown → List FurtherLine → List Row
+abbrev pub flat_rows : List Shown → List Further → List Row
 flat_rows structures further = rows_from (texts_of further) (places_of further) 0 structures
 
 -- the trees that a table lists
-abbrev pub flat_trees : List Shown → List FurtherLine → Trees
+abbrev pub flat_trees : List Shown → List Further → Trees
 flat_trees structures further = trees_of_rows 0 (flat_rows structures further)
 
 -- a table lists the structures of a document, from level 0, place 0 and line 1 on
-pub record IsListed (structures : List Shown) (further : List FurtherLine) : Type 0 where
+pub record IsListed (structures : List Shown) (further : List Further) : Type 0 where
   pub listed : flat_rows structures further ≡ rows_of 0 0 1 (flat_trees structures further)
   pub document : is_document (flat_trees structures further) ≡ true
   pub spelled : AllByRecursion IsSpelled structures
-  pub in_order : IsNonDecreasingBy (λ line. line.after) further
 
 -- the structures that a table keeps are those of a document
-pub record IsFlat (file : Bytes) (apart : List TextApart) (structures : List KeptStructure) (sizes : Sizes) (further : List FurtherLine) : Type 0 where
-  pub lists : IsListed (shown_from file apart 0 structures) further
+pub record IsFlat (file : Bytes) (apart : List TextApart) (structures : List KeptStructure) (sizes : Sizes) (further : FurtherTable) : Type 0 where
+  pub lists : IsListed (shown_from file apart 0 structures) (further_of file further)
   pub sized : AreSizes structures sizes 0
   pub slices : AllByRecursion (HasSlice file) structures
   pub apart_in_order : IsNonDecreasingBy (λ text. text.place) apart
+  pub further_slices : HasFurther file further
+  pub further_in_order : IsNonDecreasingBy (λ line. line.after) further.slices.items × IsNonDecreasingBy (λ line. line.after) further.apart.items

@@ -2,7 +2,7 @@
 use Rattle.std.proofs.Common.{true, false, take, drop, [], ◌∷◌, Some, slice_get, inl, inr, ◌≡◌, ℕ, suc, zero, ◌+◌, ◌-◌, ◌^◌, ◌<◌, ◌≤◌, List, length, get_or, sym, subst, ◌∙◌, ap, refl, arith, ◌++◌, decimal, length-append}
 use Rattle.std.specs.Option.{option_map}
 use Rattle.std.specs.List.{AllByRecursion}
-use Rattle.std.proofs.lemmas.List.{length-map, drop-map, take-map, get_or_default, length-take, length-drop, get_or-take, get_or-drop}
+use Rattle.std.proofs.lemmas.List.{length-map, get_or_default, length-take, length-drop, get_or-take, get_or-drop}
 use Rattle.std.proofs.lemmas.Option.{slice_get-get_or, slice_get-map}
 use Rattle.std.proofs.Math.Nat.{min-le_left, min-le_right}
 use Rattle.ged_line.specs.Bytes.{Bytes}
@@ -18,15 +18,15 @@ use Rattle.ged_tree.specs.Views.{payload_of, is_pointer}
 use Rattle.ged_tree.specs.Spelled.{payload_from}
 use Rattle.ged_tree.specs.DocumentLines.{line_value, first_value, rest_of_line}
 use Rattle.ged_tree.specs.inner.Tables.{own_value}
-use Rattle.ged_tree.specs.Rows.{Row, row_of, rows_from, texts_of, places_of, further_before, further_at, flat_trees, IsListed, IsFlat, IsSpelled, line_shown, Shown, shown_from, shown_with, text_at, kept_level, kept_levels, kept_further, kept_tag_length, kept_points, names_record, HasSlice, deeper}
+use Rattle.ged_tree.specs.Rows.{Row, row_of, rows_from, texts_of, places_of, further_before, further_at, flat_trees, Further, further_of, IsListed, IsFlat, IsSpelled, line_shown, Shown, shown_from, shown_with, text_at, kept_level, kept_levels, kept_further, kept_tag_length, kept_points, names_record, HasSlice, deeper}
 use Rattle.ged_tree.specs.inner.Rows.{rest_of}
 use Rattle.ged_tree.specs.declared.forest.payload.PayloadView.{PayloadView}
 use Rattle.ged_tree.specs.declared.forest.payload.PayloadView.TheVariants as views
 use Rattle.ged_tree.specs.declared.owned.payload.Payload.TheVariants.{Text as Texts}
+use Rattle.ged_tree.specs.declared.forest.continuations.FurtherTable.{FurtherTable}
 use Rattle.ged_tree.specs.declared.table.closing.Sizes.{Sizes}
 use Rattle.ged_tree.specs.declared.table.packed.KeptStructure.{KeptStructure}
 use Rattle.ged_tree.specs.declared.table.packed.TextApart.{TextApart}
-use Rattle.ged_tree.specs.declared.forest.continuations.FurtherLine.{FurtherLine}
 use Rattle.ged_tree.proofs.theory.Walks.{line_first, line_below, line_next, few_of_document}
 use Rattle.ged_tree.proofs.theory.RowsAtPlaces.{length-rows_of, rows_at, row_at}
 use Rattle.ged_tree.proofs.table.PackedStructures.{length-shown, levels_behind, shown_here, slice_at}
@@ -92,11 +92,6 @@ pub nothing : (lines : List Bytes) → length lines ≡ 0 → lines ≡ []
 nothing [] e = refl
 nothing (line ∷ lines) e = absurd (omega (arith, e))
 
-pub texts_cut : (count start : ℕ) (further : List FurtherLine) → texts_of (take count (drop start further)) ≡ take count (drop start (texts_of further))
-texts_cut count start further =
-    sym (take-map (λ (line : FurtherLine). line.text.now) count (drop start further))
-    ∙ ap (λ (xs : List Bytes). take count xs) (sym (drop-map (λ (line : FurtherLine). line.text.now) start further))
-
 -- further lines before a place are some of all, and some of those before the next place
 pub before_within : (place : ℕ) (afters : List ℕ) → further_before place afters ≤ length afters
 before_within place [] = omega arith
@@ -127,7 +122,7 @@ line_within l (tree s b n) p h = elim (cases_lt 0 p) [
   ]
 ]
 
-module _ (structures : List Shown) (further : List FurtherLine) (flat : IsListed structures further) where
+module _ (structures : List Shown) (further : List Further) (flat : IsListed structures further) where
   pub flat_count : length structures ≡ trees_count (flat_trees structures further)
   flat_count =
       sym (length-rows_from (texts_of further) (places_of further) 0 structures)
@@ -156,7 +151,7 @@ module _ (structures : List Shown) (further : List FurtherLine) (flat : IsListed
       omega (arith, line_within 1 w place (omega (arith, h, flat_count)), (few_of_document w flat.document).1)
 
   pub flat_further : (place n : ℕ) → place < length structures → n < length (further_lines (structure_at (flat_trees structures further) place).payload)
-      → (further_before place (places_of further) + n < length further) × (slice_get (further_lines (structure_at (flat_trees structures further) place).payload) n ≡ option_map (λ line. line.text.now) (slice_get further (further_before place (places_of further) + n)))
+      → (further_before place (places_of further) + n < length further) × (slice_get (further_lines (structure_at (flat_trees structures further) place).payload) n ≡ option_map (λ line. line.text) (slice_get further (further_before place (places_of further) + n)))
   unfolding structure_at
   flat_further place n h k =
       let texts = texts_of further in
@@ -170,7 +165,7 @@ module _ (structures : List Shown) (further : List FurtherLine) (flat : IsListed
       let inside : n < length (further_lines (payload_from (line_shown s).value part)) = rw (← same) at k in
       let kept : further_lines (payload_from (line_shown s).value part) ≡ part = further_kept (line_shown s).value part n inside in
       let at = part_at texts start count n (rw kept at inside) in
-      (omega (arith, at.0, length-map further (λ (line : FurtherLine). line.text.now)), ap (λ (xs : List (Bytes)). slice_get xs n) (sym same ∙ kept) ∙ at.1 ∙ slice_get-map (λ (line : FurtherLine). line.text.now) further (start + n))
+      (omega (arith, at.0, length-map further (λ (line : Further). line.text)), ap (λ (xs : List (Bytes)). slice_get xs n) (sym same ∙ kept) ∙ at.1 ∙ slice_get-map (λ (line : Further). line.text) further (start + n))
 
   -- the further lines of a structure stand side by side
   pub flat_lines : (place : ℕ) → place < length structures
@@ -224,9 +219,12 @@ pub record ShowsAt (w : Trees) (place : ℕ) (s : Shown) : Type 0 where
   pub spelled : IsSpelled s
 
 -- a structure as it is kept
-module _ (file : Bytes) (apart : List TextApart) (structures : List KeptStructure) (sizes : Sizes) (further : List FurtherLine) (flat : IsFlat file apart structures sizes further) where
+module _ (file : Bytes) (apart : List TextApart) (structures : List KeptStructure) (sizes : Sizes) (table : FurtherTable) (flat : IsFlat file apart structures sizes table) where
   abbrev all : List Shown
   all = shown_from file apart 0 structures
+
+  abbrev further : List Further
+  further = further_of file table
 
   size : length all ≡ length structures
   size = length-shown file apart 0 structures

@@ -9,13 +9,12 @@ use Rattle.ged_line.specs.Lines.{LineParts, line_parts}
 use Rattle.ged_tree.specs.Trees.{Structure, Trees, none, tree, trees_count, further_lines, line_count, lines_count}
 use Rattle.ged_tree.specs.Documents.{is_document, are_at}
 use Rattle.ged_tree.specs.DocumentLines.{line_value, first_value, continued, lines_of}
-use Rattle.ged_tree.specs.Rows.{Row, rows_of, rows_from, further_before, places_of, texts_of, trees_of_rows, flat_rows, flat_trees, IsListed, IsSpelled, Shown, deeper, levels_of}
+use Rattle.ged_tree.specs.Rows.{Row, rows_of, rows_from, further_before, places_of, texts_of, trees_of_rows, flat_rows, flat_trees, IsListed, IsSpelled, Further, Shown, deeper, levels_of}
 use Rattle.ged_tree.specs.inner.Tables.{OwnLine, own_line, own_lines, begins_cont, further_places, further_texts, line_text}
-use Rattle.ged_tree.specs.declared.forest.continuations.FurtherLine.{FurtherLine}
 use Rattle.ged_tree.specs.Spelled.{payload_from}
 use Rattle.ged_tree.proofs.theory.LinesAgain.{tree_is, payload_again, laid, document_placed}
 use Rattle.ged_tree.proofs.theory.RowsAtPlaces.{trees_of_rows_of}
-use Rattle.ged_tree.proofs.table.Continuations.{before_all, places_to, StartedLine, starts, started_lines, started, further_in_order}
+use Rattle.ged_tree.proofs.table.Continuations.{before_all, places_to, StartedLine, starts, started_lines, started}
 use Rattle.ged_tree.proofs.table.Afters.{deeper_more, deeper_none}
 
 abbrev own_levels : List StartedLine → List ℕ
@@ -194,7 +193,7 @@ texts_of_trees k (tree s b n) rest f =
     ∙ sym (append_assoc own (tree_texts b ++ tree_texts n) (further_texts rest))
 
 -- a closed table of a document's lines lists the document's rows
-listed : (w : Trees) (items : List Shown) (further : List FurtherLine) → is_document w ≡ true → map own_line items ≡ own_lines (lines_of 0 w) → places_of further ≡ further_places 0 (lines_of 0 w) → texts_of further ≡ further_texts (lines_of 0 w)
+listed : (w : Trees) (items : List Shown) (further : List Further) → is_document w ≡ true → map own_line items ≡ own_lines (lines_of 0 w) → places_of further ≡ further_places 0 (lines_of 0 w) → texts_of further ≡ further_texts (lines_of 0 w)
     → flat_rows items further ≡ rows_of 0 0 1 w
 listed w items further a r p t =
     let f = document_placed w a in
@@ -205,7 +204,7 @@ listed w items further a r p t =
     let whole_lines : starts afters 0 (map own_line items) ≡ tree_lines 0 0 w ++ [] = began ∙ ap (λ (ls : List LineParts). started_lines 0 ls) (sym (append-nil lines)) ∙ own_of_trees 0 0 w [] f refl in
     let whole_texts : texts ≡ tree_texts w ++ [] = t ∙ ap further_texts (sym (append-nil lines)) ∙ texts_of_trees 0 w [] f in
     let size : length texts ≡ 0 + length (tree_texts w) = (let q = ap (λ (xs : List Bytes). length xs) (whole_texts ∙ append-nil (tree_texts w)) in omega (arith, q)) in
-    let ends : length afters ≡ length texts = omega (arith, length-map further (λ (line : FurtherLine). line.after), length-map further (λ (line : FurtherLine). line.text.now)) in
+    let ends : length afters ≡ length texts = omega (arith, length-map further (λ (line : Further). line.after), length-map further (λ (line : Further). line.text)) in
     let count : 0 + length (own_lines lines) ≡ 0 + length items = (let q = ap (λ (rs : List OwnLine). length rs) r in omega (arith, q, length-map items own_line)) in
     let few : AllByRecursion (λ a. a ≤ 0 + length items) afters = rw p (subst (λ (n : ℕ). AllByRecursion (λ a. a ≤ n) (further_places 0 lines)) count (places_to 0 lines)) in
     table_rows texts afters (length texts) 0 items ends few
@@ -214,13 +213,13 @@ listed w items further a r p t =
     ∙ append-nil (rows_of 0 0 1 w)
 
 -- and it is seen as the document
-pub record Lists (items : List Shown) (further : List FurtherLine) (w : Trees) : Type 0 where
+pub record Lists (items : List Shown) (further : List Further) (w : Trees) : Type 0 where
   pub flat : IsListed items further
   pub seen : flat_trees items further ≡ w
 
-pub lists : (w : Trees) (items : List Shown) (further : List FurtherLine) → is_document w ≡ true → map own_line items ≡ own_lines (lines_of 0 w) → places_of further ≡ further_places 0 (lines_of 0 w) → texts_of further ≡ further_texts (lines_of 0 w)
+pub lists : (w : Trees) (items : List Shown) (further : List Further) → is_document w ≡ true → map own_line items ≡ own_lines (lines_of 0 w) → places_of further ≡ further_places 0 (lines_of 0 w) → texts_of further ≡ further_texts (lines_of 0 w)
     → AllByRecursion IsSpelled items → Lists items further w
 lists w items further a r p t spelled =
     let e : flat_rows items further ≡ rows_of 0 0 1 w = listed w items further a r p t in
     let seen : flat_trees items further ≡ w = ap (trees_of_rows 0) e ∙ trees_of_rows_of 0 0 1 w in
-    record { flat = record { listed = e ∙ ap (rows_of 0 0 1) (sym seen); document = ap is_document seen ∙ a; spelled = spelled; in_order = further_in_order further (lines_of 0 w) p }; seen = seen }
+    record { flat = record { listed = e ∙ ap (rows_of 0 0 1) (sym seen); document = ap is_document seen ∙ a; spelled = spelled }; seen = seen }

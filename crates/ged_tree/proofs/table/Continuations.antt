@@ -1,13 +1,17 @@
 -- How many further lines stand before a place.
-use Rattle.std.proofs.Common.{◌≡◌, ℕ, Bool, suc, zero, ◌+◌, ◌<◌, ◌≤◌, true, false, List, [], ◌∷◌, ◌++◌, length, get_or, refl, sym, ◌∙◌, ap, subst, arith, inl, inr, append_assoc, length-append}
-use Rattle.std.specs.Prelude.{nat_le, if◌then◌else◌}
+use Rattle.std.proofs.Common.{◌≡◌, ℕ, Bool, suc, zero, ◌+◌, ◌<◌, ◌≤◌, true, false, List, [], ◌∷◌, ◌++◌, length, map, get_or, refl, sym, ◌∙◌, ap, subst, arith, inl, inr, append_assoc, length-append}
+use Rattle.std.specs.Prelude.{nat_le, if◌then◌else◌, Some, take, drop, slice_get}
 use Rattle.std.specs.List.{AllByRecursion}
 use Rattle.std.specs.List.Sorted.{IsNonDecreasingBy, IsPartitionPoint}
 use Rattle.std.proofs.lemmas.Bool.{cases_Bool}
 use Rattle.std.proofs.lemmas.Bool.Decides.{nat_tests}
+use Rattle.std.proofs.lemmas.List.{length-map, map-append}
+use Rattle.ged_line.specs.Bytes.{Bytes}
 use Rattle.ged_line.specs.Lines.{LineParts}
-use Rattle.ged_tree.specs.Rows.{further_before, places_of}
-use Rattle.ged_tree.specs.declared.forest.continuations.FurtherLine.{FurtherLine}
+use Rattle.ged_tree.specs.Rows.{Further, further_before, further_of, places_of, set_apart, sliced, texts_of}
+use Rattle.ged_tree.specs.declared.forest.continuations.FurtherApart.{FurtherApart}
+use Rattle.ged_tree.specs.declared.forest.continuations.FurtherSlice.{FurtherSlice}
+use Rattle.ged_tree.specs.declared.forest.continuations.FurtherTable.{FurtherTable}
 use Rattle.ged_tree.specs.TreeFaults.{is_cont}
 use Rattle.ged_tree.specs.inner.Tables.{OwnLine, own_lines, begins_cont, further_places}
 
@@ -28,13 +32,40 @@ before_all p [] h = refl
 before_all p (a ∷ as') h = rw (low a p h.0) (let more = before_all p as' h.1 in omega (arith, more))
 
 -- a search for the first line behind a place counts those before it
-pub point_is : (p : ℕ) (further : List FurtherLine) (n : ℕ) → n ≤ length further
-    → IsPartitionPoint (λ line. nat_le line.after p ≡ true) (λ line. nat_le line.after p ≡ false) further n → n ≡ further_before p (places_of further)
-point_is p [] zero h point = refl
-point_is p [] (suc n) h point = absurd (omega arith)
-point_is p (x ∷ xs) zero h point = rw (point.1 0 x (omega arith) (omega arith)) refl
-point_is p (x ∷ xs) (suc n) h point =
-    rw (point.0 0 x (omega arith) (omega arith)) (let more = point_is p xs n (omega arith) (λ k d low high. point.0 (suc k) d (omega arith) (omega arith), λ k d low high. point.1 (suc k) d (omega arith) (omega arith)) in omega (arith, more))
+pub point_is : {A : Type 0} (place : A → ℕ) (p : ℕ) (lines : List A) (n : ℕ) → n ≤ length lines
+    → IsPartitionPoint (λ line. nat_le (place line) p ≡ true) (λ line. nat_le (place line) p ≡ false) lines n → n ≡ further_before p (map place lines)
+point_is place p [] zero h point = refl
+point_is place p [] (suc n) h point = absurd (omega arith)
+point_is place p (x ∷ xs) zero h point = rw (point.1 0 x (omega arith) (omega arith)) refl
+point_is place p (x ∷ xs) (suc n) h point =
+    rw (point.0 0 x (omega arith) (omega arith)) (let more = point_is place p xs n (omega arith) (λ k d low high. point.0 (suc k) d (omega arith) (omega arith), λ k d low high. point.1 (suc k) d (omega arith) (omega arith)) in omega (arith, more))
+
+-- where all of the first ones stand before a place, others may too, and where one of them does not, none of the others is counted
+pub before_behind : (p : ℕ) (xs ys : List ℕ) → further_before p xs ≡ length xs → further_before p (xs ++ ys) ≡ length xs + further_before p ys
+before_behind p [] ys h = omega arith
+before_behind p (x ∷ xs) ys h = elim (cases_Bool (nat_le x p)) [
+  | inl t ↦ (let some = rw t at h in let rest = before_behind p xs ys (omega (arith, some)) in rw t (omega (arith, rest)))
+  | inr f ↦ absurd (let none_left = rw f at h in omega (arith, none_left))
+]
+
+pub before_within_first : (p : ℕ) (xs ys : List ℕ) → further_before p xs < length xs → further_before p (xs ++ ys) ≡ further_before p xs
+before_within_first p [] ys h = absurd (omega (arith, h))
+before_within_first p (x ∷ xs) ys h = elim (cases_Bool (nat_le x p)) [
+  | inl t ↦ (let few = rw t at h in let rest = before_within_first p xs ys (omega (arith, few)) in rw t (omega (arith, rest)))
+  | inr f ↦ rw f refl
+]
+
+-- the places of a table's further lines
+pub places_of_table : (file : Bytes) (table : FurtherTable) → places_of (further_of file table) ≡ map (λ line. line.after) table.slices.items ++ map (λ line. line.after) table.apart.items
+places_of_table file table = map-append (λ (line : Further). line.after) (map (sliced file) table.slices.items) (map set_apart table.apart.items) ∙ rw (places_sliced table.slices.items, places_apart table.apart.items) refl
+  where
+    places_sliced : (lines : List FurtherSlice) → map (λ (line : Further). line.after) (map (sliced file) lines) ≡ map (λ (line : FurtherSlice). line.after) lines
+    places_sliced [] = refl
+    places_sliced (line ∷ lines) = ap (λ (ps : List ℕ). line.after ∷ ps) (places_sliced lines)
+
+    places_apart : (lines : List FurtherApart) → map (λ (line : Further). line.after) (map set_apart lines) ≡ map (λ (line : FurtherApart). line.after) lines
+    places_apart [] = refl
+    places_apart (line ∷ lines) = ap (λ (ps : List ℕ). line.after ∷ ps) (places_apart lines)
 
 all_push : (p : ℕ) (places : List ℕ) (a : ℕ) → AllByRecursion (λ x. x ≤ p) places → a ≤ p → AllByRecursion (λ x. x ≤ p) (places ++ a ∷ [])
 all_push p [] a h e = (e, tt)
@@ -111,17 +142,49 @@ places_rise p (l ∷ ls) = elim (cases_Bool (is_cont l)) [
   | inr e ↦ rw e (places_rise (p + 1) ls)
 ]
 
-all_at : (a : ℕ) (further : List FurtherLine) (j : ℕ) (d : FurtherLine) → AllByRecursion (λ x. a ≤ x) (places_of further) → j < length further → a ≤ (get_or further j d).after
-all_at a [] j d h l = absurd (omega arith)
-all_at a (x ∷ xs) zero d h l = h.0
-all_at a (x ∷ xs) (suc j) d h l = all_at a xs j d h.1 (omega arith)
+all_at : {A : Type 0} (place : A → ℕ) (a : ℕ) (lines : List A) (j : ℕ) (d : A) → AllByRecursion (λ x. a ≤ x) (map place lines) → j < length lines → a ≤ place (get_or lines j d)
+all_at place a [] j d h l = absurd (omega arith)
+all_at place a (x ∷ xs) zero d h l = h.0
+all_at place a (x ∷ xs) (suc j) d h l = all_at place a xs j d h.1 (omega arith)
 
-in_order : (further : List FurtherLine) → AreRising (places_of further) → IsNonDecreasingBy (λ line. line.after) further
-in_order [] h i j d le lt = absurd (omega arith)
-in_order (x ∷ xs) h zero zero d le lt = omega arith
-in_order (x ∷ xs) h zero (suc j) d le lt = all_at x.after xs j d h.0 (omega arith)
-in_order (x ∷ xs) h (suc i) zero d le lt = absurd (omega arith)
-in_order (x ∷ xs) h (suc i) (suc j) d le lt = in_order xs h.1 i j d (omega arith) (omega arith)
+in_order : {A : Type 0} (place : A → ℕ) (lines : List A) → AreRising (map place lines) → IsNonDecreasingBy place lines
+in_order place [] h i j d le lt = absurd (omega arith)
+in_order place (x ∷ xs) h zero zero d le lt = omega arith
+in_order place (x ∷ xs) h zero (suc j) d le lt = all_at place (place x) xs j d h.0 (omega arith)
+in_order place (x ∷ xs) h (suc i) zero d le lt = absurd (omega arith)
+in_order place (x ∷ xs) h (suc i) (suc j) d le lt = in_order place xs h.1 i j d (omega arith) (omega arith)
 
-pub further_in_order : (further : List FurtherLine) (lines : List LineParts) → places_of further ≡ further_places 0 lines → IsNonDecreasingBy (λ line. line.after) further
-further_in_order further lines e = in_order further (subst AreRising (sym e) (places_rise 0 lines))
+all_first : (a : ℕ) (xs ys : List ℕ) → AllByRecursion (λ x. a ≤ x) (xs ++ ys) → AllByRecursion (λ x. a ≤ x) xs
+all_first a [] ys h = tt
+all_first a (x ∷ xs) ys h = (h.0, all_first a xs ys h.1)
+
+rise_apart : (xs ys : List ℕ) → AreRising (xs ++ ys) → AreRising xs × AreRising ys
+rise_apart [] ys h = (tt, h)
+rise_apart (x ∷ xs) ys h = (let rest = rise_apart xs ys h.1 in ((all_first x xs ys h.0, rest.0), rest.1))
+
+pub further_in_order : (file : Bytes) (table : FurtherTable) (lines : List LineParts) → places_of (further_of file table) ≡ further_places 0 lines
+    → IsNonDecreasingBy (λ line. line.after) table.slices.items × IsNonDecreasingBy (λ line. line.after) table.apart.items
+further_in_order file table lines e =
+    let rise = subst AreRising (sym e ∙ places_of_table file table) (places_rise 0 lines) in
+    let both = rise_apart (map (λ line. line.after) table.slices.items) (map (λ line. line.after) table.apart.items) rise in
+    (in_order (λ line. line.after) table.slices.items both.0, in_order (λ line. line.after) table.apart.items both.1)
+
+-- the text of a line that is a slice, and of one behind those
+pub text_sliced : (file : Bytes) (slices : List FurtherSlice) (others : List Further) (n : ℕ) (s : FurtherSlice) → n < length slices → s ≡ get_or slices n s
+    → slice_get (texts_of (map (sliced file) slices ++ others)) n ≡ Some (take s.length (drop s.start file))
+text_sliced file [] others n s h e = absurd (omega (arith, h))
+text_sliced file (x ∷ xs) others zero s h e = ap (λ (line : FurtherSlice). Some (take line.length (drop line.start file))) (sym e)
+text_sliced file (x ∷ xs) others (suc n) s h e = text_sliced file xs others n s (omega (arith, h)) e
+
+pub text_behind : (file : Bytes) (slices : List FurtherSlice) (others : List Further) (n k : ℕ) → n ≡ length slices + k → slice_get (texts_of (map (sliced file) slices ++ others)) n ≡ slice_get (texts_of others) k
+text_behind file [] others n k e = ap (λ (i : ℕ). slice_get (texts_of others) i) (e ∙ (let z : 0 + k ≡ k = omega arith in z))
+text_behind file (x ∷ xs) others zero k e = absurd (omega (arith, e))
+text_behind file (x ∷ xs) others (suc n) k e = text_behind file xs others n k (omega (arith, e))
+
+pub text_set_apart : (lines : List FurtherApart) (k : ℕ) (line : FurtherApart) → k < length lines → line ≡ get_or lines k line → slice_get (texts_of (map set_apart lines)) k ≡ Some line.text.now
+text_set_apart [] k line h e = absurd (omega (arith, h))
+text_set_apart (x ∷ xs) zero line h e = ap (λ (l : FurtherApart). Some l.text.now) (sym e)
+text_set_apart (x ∷ xs) (suc k) line h e = text_set_apart xs k line (omega (arith, h)) e
+
+pub length-further : (file : Bytes) (table : FurtherTable) → length (further_of file table) ≡ length table.slices.items + length table.apart.items
+length-further file table = (let size = length-append (map (sliced file) table.slices.items) (map set_apart table.apart.items) in omega (arith, size, length-map table.slices.items (sliced file), length-map table.apart.items set_apart))

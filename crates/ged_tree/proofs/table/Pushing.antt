@@ -6,10 +6,9 @@ use Rattle.std.proofs.lemmas.List.Sorted.{IsNonDecreasingBy-push}
 use Rattle.ged_line.specs.Bytes.{Bytes}
 use Rattle.ged_line.specs.Lines.{LineParts}
 use Rattle.ged_tree.specs.Rows.{Shown, shown_with, shown_from, text_at, IsSpelled, HasSlice}
-use Rattle.ged_tree.specs.Rows.{texts_of, places_of}
+use Rattle.ged_tree.specs.Rows.{Further, texts_of, places_of}
 use Rattle.ged_tree.specs.TreeFaults.{is_cont, is_trailer}
-use Rattle.ged_tree.specs.inner.Tables.{OwnLine, own_line, line_text, table_shown, IsKept, IsSliceAt, Shows, HasStructure, IsPut, TellsFurther}
-use Rattle.ged_tree.specs.declared.forest.continuations.FurtherLine.{FurtherLine}
+use Rattle.ged_tree.specs.inner.Tables.{OwnLine, own_line, line_text, table_shown, IsKept, IsSliceAt, Shows, HasStructure, IsFurtherPut, IsPut, TellsFurther, table_further}
 use Rattle.ged_tree.specs.declared.table.packed.KeptStructure.{KeptStructure}
 use Rattle.ged_tree.specs.declared.table.packed.TextApart.{TextApart}
 use Rattle.ged_tree.specs.declared.table.builder.TableBuilder.{TableBuilder}
@@ -70,6 +69,7 @@ module _ (old new : TableBuilder) (line : LineParts) (text : Bytes) (s : KeptStr
         slices = slices_more slice_here k.slices;
         apart_within = rw apart (low_later (length old.structures.items) (length new.structures.items) old.apart.items (omega (arith, size)) k.apart_within);
         apart_in_order = rw apart k.apart_in_order;
+        further_slices = rw (file, further) k.further_slices;
       };
     }
 
@@ -99,24 +99,26 @@ module _ (old new : TableBuilder) (line : LineParts) (text : Bytes) (s : KeptStr
         slices = slices_more apart_here_slice k.slices;
         apart_within = rw apart (low_push (length new.structures.items) old.apart.items t (low_later (length old.structures.items) (length new.structures.items) old.apart.items (omega (arith, size)) k.apart_within) (omega (arith, size, place)));
         apart_in_order = rw apart (IsNonDecreasingBy-push (λ (x : TextApart). x.place) old.apart.items t k.apart_in_order (λ d some. (let low = low_at (length old.structures.items) old.apart.items (length old.apart.items - 1) d k.apart_within (omega arith) in omega (arith, low, place))));
+        further_slices = rw (file, further) k.further_slices;
       };
     }
 
 -- one more further line
-pub put_further : (old new : TableBuilder) (line : LineParts) (t : FurtherLine) → is_trailer line ≡ false → is_cont line ≡ true → new.judge ≡ old.judge → new.count ≡ old.count
-    → new.file ≡ old.file → new.apart ≡ old.apart → TellsFurther old.structures.items new.structures.items → new.further.items ≡ old.further.items ++ t ∷ []
-    → t.after ≡ length old.structures.items → t.text.now ≡ line_text line.value → IsPut line old new
-put_further old new line t trailer cont judge count file apart tells items after text = record {
+pub put_further : (old new : TableBuilder) (line : LineParts) (after : ℕ) (text : Bytes) → is_trailer line ≡ false → is_cont line ≡ true → new.judge ≡ old.judge → new.count ≡ old.count
+    → new.file ≡ old.file → new.apart ≡ old.apart → TellsFurther old.structures.items new.structures.items → IsFurtherPut old.file.now old.further new.further after text
+    → after ≡ length old.structures.items → text ≡ line_text line.value → IsPut line old new
+put_further old new line after text trailer cont judge count file apart tells put after_is text_is = record {
   judge = judge;
   count = count;
   file = file;
   structures = λ k. rw (file, apart, trailer, cont) (tells.structures old.file.now old.apart.items);
-  places = rw (items, trailer, cont) (map-append (λ (x : FurtherLine). x.after) old.further.items (t ∷ []) ∙ ap (λ (n : ℕ). places_of old.further.items ++ n ∷ []) after);
-  further = rw (items, trailer, cont) (map-append (λ (x : FurtherLine). x.text.now) old.further.items (t ∷ []) ∙ ap (λ (bs : Bytes). texts_of old.further.items ++ bs ∷ []) text);
+  places = rw (file, put.lines, trailer, cont) (map-append (λ (x : Further). x.after) (table_further old) (record { after = after; text = text } ∷ []) ∙ ap (λ (n : ℕ). places_of (table_further old) ++ n ∷ []) after_is);
+  further = rw (file, put.lines, trailer, cont) (map-append (λ (x : Further). x.text) (table_further old) (record { after = after; text = text } ∷ []) ∙ ap (λ (bs : Bytes). texts_of (table_further old) ++ bs ∷ []) text_is);
   kept = λ k. record {
     spelled = rw (file, apart) (tells.spelled old.file.now old.apart.items k.spelled);
     slices = rw file (tells.slices old.file.now k.slices);
     apart_within = rw apart (low_later (length old.structures.items) (length new.structures.items) old.apart.items (omega (arith, tells.count)) k.apart_within);
     apart_in_order = rw apart k.apart_in_order;
+    further_slices = rw file (put.slices k.further_slices);
   };
 }

@@ -12,12 +12,13 @@ use Rattle.ged_tree.specs.DocumentLines.{lines_of, trailer_line, HasLines}
 use Rattle.ged_tree.specs.TreeFaults.{is_cont, is_trailer, is_empty, has_trailer, fault_after, Pass, more, FirstFault, no_lines, past_last}
 use Rattle.ged_tree.specs.Judging.{StandsFor}
 use Rattle.ged_tree.specs.Rows.{AreSizes, IsFlat}
-use Rattle.ged_tree.specs.inner.Tables.{OwnLine, own_line, own_lines, begins_cont, go_on, with_line, further_places, further_texts, but_trailer, table_shown, IsKept, HoldsLines, IsPut}
+use Rattle.ged_tree.specs.inner.Tables.{OwnLine, own_line, own_lines, begins_cont, go_on, with_line, further_places, further_texts, but_trailer, table_shown, table_further, IsKept, HoldsLines, IsPut}
 use Rattle.ged_tree.specs.declared.table.closing.Sizes.{Sizes}
 use Rattle.ged_tree.specs.declared.table.builder.TableBuilder.{TableBuilder}
 use Rattle.ged_tree.specs.declared.fault.TreeFault.TheVariants.{NoHeader, NoTrailer}
 use Rattle.ged_tree.proofs.theory.OneDocument.{made, free_after, ended}
 use Rattle.ged_tree.proofs.table.Assembly.{Lists, lists}
+use Rattle.ged_tree.proofs.table.Continuations.{further_in_order}
 use Rattle.ged_tree.proofs.table.PackedStructures.{length-shown}
 
 -- no line follows TRLR without a fault
@@ -110,21 +111,23 @@ all_more [] line h e = rw e refl
 all_more (x ∷ xs) line h e = let p = and_parts (is_line x) (list_all is_line xs) h in and_from (is_line x) _ p.0 (all_more xs line p.1 e)
 
 -- a table without structures
-pub none_kept : (builder : TableBuilder) → builder.structures.items ≡ [] → builder.apart.items ≡ [] → IsKept builder
-none_kept builder s a = record {
+pub none_kept : (builder : TableBuilder) → builder.structures.items ≡ [] → builder.apart.items ≡ [] → builder.further.slices.items ≡ [] → IsKept builder
+none_kept builder s a f = record {
   spelled = rw s tt;
   slices = rw s tt;
   apart_within = rw a tt;
   apart_in_order = rw a (λ i j d le lt. absurd (omega (arith, lt)));
+  further_slices = rw f tt;
 }
 
 -- what is kept does not change with the judge and the count
-same_kept : (old mid : TableBuilder) → mid.file ≡ old.file → mid.apart ≡ old.apart → mid.structures ≡ old.structures → IsKept old → IsKept mid
-same_kept old mid f a s k = record {
+same_kept : (old mid : TableBuilder) → mid.file ≡ old.file → mid.apart ≡ old.apart → mid.structures ≡ old.structures → mid.further ≡ old.further → IsKept old → IsKept mid
+same_kept old mid f a s t k = record {
   spelled = rw (f, a, s) k.spelled;
   slices = rw (f, s) k.slices;
   apart_within = rw (a, s) k.apart_within;
   apart_in_order = rw a k.apart_in_order;
+  further_slices = rw (f, t) k.further_slices;
 }
 
 -- a line more
@@ -137,15 +140,15 @@ taken old mid new lines line h none is stands counted file apart same also put =
     let split : but_trailer (lines ++ line ∷ []) ≡ body ++ last = filter-append (λ (l : LineParts). not (is_trailer l)) lines (line ∷ []) in
     let size = length-shown old.file.now old.apart.items 0 old.structures.items in
     let count : length old.structures.items ≡ 0 + length (own_lines body) = (let q = ap (λ (rs : List OwnLine). length rs) h.structures in omega (arith, length-map (table_shown old) own_line, q, size)) in
-    let kept : IsKept mid = same_kept old mid file apart same h.kept in
+    let kept : IsKept mid = same_kept old mid file apart same also h.kept in
     record {
       judged = rw put.judge stands;
       pass = more lines line h.pass none;
       are_lines = all_more lines line h.are_lines is;
       counted = omega (arith, put.count, counted, h.counted, length-append lines (line ∷ []));
       structures = put.structures kept ∙ rw (file, apart, same, h.structures, split) (sym (own_lines_more body line));
-      places = put.places ∙ rw (also, same, h.places, count, split) (sym (further_places-append 0 body last));
-      further = put.further ∙ rw (also, h.further, split) (sym (further_texts-append body last));
+      places = put.places ∙ rw (file, also, same, h.places, count, split) (sym (further_places-append 0 body last));
+      further = put.further ∙ rw (file, also, h.further, split) (sym (further_texts-append body last));
       kept = put.kept kept;
     }
 
@@ -161,8 +164,8 @@ nothing (x ∷ xs) count e z = absurd (omega (arith, e, z))
 pub record Finished (lines : List LineParts) (builder : TableBuilder) (sizes : Sizes) : Type 0 where
   pub shown : Trees
   pub has : HasLines shown lines
-  pub lists : Lists (table_shown builder) builder.further.items shown
-  pub flat : IsFlat builder.file.now builder.apart.items builder.structures.items sizes builder.further.items
+  pub lists : Lists (table_shown builder) (table_further builder) shown
+  pub flat : IsFlat builder.file.now builder.apart.items builder.structures.items sizes builder.further
 
 pub finished : (builder : TableBuilder) (lines : List LineParts) (sizes : Sizes) → HoldsLines builder lines → has_trailer lines ≡ true → length lines < 2 ^ 63
     → AreSizes builder.structures.items sizes 0 → Finished lines builder sizes
@@ -174,10 +177,10 @@ finished builder lines sizes h t few sized =
     let ongoing_body : has_trailer (lines_of 0 m.0) ≡ false = ap has_trailer (sym same) ∙ end.ongoing in
     let body : but_trailer lines ≡ lines_of 0 m.0 = ap but_trailer told ∙ filter-append (λ (l : LineParts). not (is_trailer l)) (lines_of 0 m.0) (trailer_line ∷ []) ∙ append-nil (but_trailer (lines_of 0 m.0)) ∙ kept (lines_of 0 m.0) ongoing_body in
     let rows : map own_line (table_shown builder) ≡ own_lines (lines_of 0 m.0) = h.structures ∙ ap own_lines body in
-    let listed = lists m.0 (table_shown builder) builder.further.items m.1.allowed rows (h.places ∙ ap (further_places 0) body) (h.further ∙ ap further_texts body) h.kept.spelled in
+    let listed = lists m.0 (table_shown builder) (table_further builder) m.1.allowed rows (h.places ∙ ap (further_places 0) body) (h.further ∙ ap further_texts body) h.kept.spelled in
     record {
       shown = m.0;
       has = m.1;
       lists = listed;
-      flat = record { lists = listed.flat; sized = sized; slices = h.kept.slices; apart_in_order = h.kept.apart_in_order };
+      flat = record { lists = listed.flat; sized = sized; slices = h.kept.slices; apart_in_order = h.kept.apart_in_order; further_slices = h.kept.further_slices; further_in_order = further_in_order builder.file.now builder.further (lines_of 0 m.0) (h.places ∙ ap (further_places 0) body) };
     }

@@ -10,11 +10,12 @@ use Rattle.ged_line.specs.Lines as value
 use Rattle.ged_tree.specs.DocumentLines.{line_value}
 use Rattle.ged_tree.specs.TreeFaults.{is_cont, is_trailer, Pass, FirstFault, fault_after}
 use Rattle.ged_tree.specs.Judging.{StandsFor}
-use Rattle.ged_tree.specs.Rows.{Shown, shown_with, shown_from, kept_further, line_shown, IsSpelled, HasSlice, deeper, kept_levels, size_of_first, texts_of, places_of}
+use Rattle.ged_tree.specs.Rows.{Shown, shown_with, shown_from, kept_further, line_shown, IsSpelled, HasSlice, deeper, kept_levels, size_of_first, texts_of, places_of, Further, further_of, HasFurther}
 use Rattle.ged_tree.specs.declared.fault.BuildFault.{BuildFault}
 use Rattle.ged_tree.specs.declared.fault.BuildFault.TheVariants.{At, Memory}
 use Rattle.ged_tree.specs.declared.forest.payload.PayloadView.{PayloadView}
 use Rattle.ged_tree.specs.declared.forest.payload.PayloadView.TheVariants.{Void, Pointer, Text}
+use Rattle.ged_tree.specs.declared.forest.continuations.FurtherTable.{FurtherTable}
 use Rattle.ged_tree.specs.declared.table.packed.KeptStructure.{KeptStructure}
 use Rattle.ged_tree.specs.declared.table.packed.TextApart.{TextApart}
 use Rattle.ged_tree.specs.declared.table.builder.TableBuilder.{TableBuilder}
@@ -92,6 +93,11 @@ pub record IsSliceAt (file : Bytes) (start : ℕ) (text : Bytes) : Type 0 where
   pub ends : IsCharBoundary file (start + length text)
   pub text_is : take (length text) (drop start file) ≡ text
 
+-- one more further line, behind the others
+pub record IsFurtherPut (file : Bytes) (old new : FurtherTable) (after : ℕ) (text : Bytes) : Type 0 where
+  pub lines : further_of file new ≡ further_of file old ++ record { after = after; text = text } ∷ []
+  pub slices : HasFurther file old → HasFurther file new
+
 -- the lines but TRLR
 abbrev pub but_trailer : List LineParts → List LineParts
 but_trailer lines = filter (λ line. not (is_trailer line)) lines
@@ -100,12 +106,17 @@ but_trailer lines = filter (λ line. not (is_trailer line)) lines
 abbrev pub table_shown : TableBuilder → List Shown
 table_shown builder = shown_from builder.file.now builder.apart.items 0 builder.structures.items
 
+-- the further lines of a table's structures
+abbrev pub table_further : TableBuilder → List Further
+table_further builder = further_of builder.file.now builder.further
+
 -- the texts of a table's structures are lines, and stand where they are kept
 pub record IsKept (builder : TableBuilder) : Type 0 where
   pub spelled : AllByRecursion IsSpelled (table_shown builder)
   pub slices : AllByRecursion (HasSlice builder.file.now) builder.structures.items
   pub apart_within : AllByRecursion (λ text. text.place < length builder.structures.items) builder.apart.items
   pub apart_in_order : IsNonDecreasingBy (λ text. text.place) builder.apart.items
+  pub further_slices : HasFurther builder.file.now builder.further
 
 -- the structures and further lines of a table are those of lines without a fault
 pub record HoldsLines (builder : TableBuilder) (lines : List LineParts) : Type 0 where
@@ -114,8 +125,8 @@ pub record HoldsLines (builder : TableBuilder) (lines : List LineParts) : Type 0
   pub are_lines : list_all is_line lines ≡ true
   pub counted : builder.count ≡ length lines
   pub structures : map own_line (table_shown builder) ≡ own_lines (but_trailer lines)
-  pub places : places_of builder.further.items ≡ further_places 0 (but_trailer lines)
-  pub further : texts_of builder.further.items ≡ further_texts (but_trailer lines)
+  pub places : places_of (table_further builder) ≡ further_places 0 (but_trailer lines)
+  pub further : texts_of (table_further builder) ≡ further_texts (but_trailer lines)
   pub kept : IsKept builder
 
 -- own lines and one line more, or none
@@ -144,9 +155,9 @@ pub record IsPut (line : LineParts) (old new : TableBuilder) : Type 0 where
   pub count : new.count ≡ old.count
   pub file : new.file ≡ old.file
   pub structures : IsKept old → map own_line (table_shown new) ≡ with_line (map own_line (table_shown old)) (but_trailer (line ∷ []))
-  pub places : places_of new.further.items
-      ≡ places_of old.further.items ++ further_places (length old.structures.items) (but_trailer (line ∷ []))
-  pub further : texts_of new.further.items ≡ texts_of old.further.items ++ further_texts (but_trailer (line ∷ []))
+  pub places : places_of (table_further new)
+      ≡ places_of (table_further old) ++ further_places (length old.structures.items) (but_trailer (line ∷ []))
+  pub further : texts_of (table_further new) ≡ texts_of (table_further old) ++ further_texts (but_trailer (line ∷ []))
   pub kept : IsKept old → IsKept new
 
 -- the fault is the lowest that stands at a line put after lines without a fault; of want of memory nothing is said

@@ -1,39 +1,171 @@
 // The lines of a payload past the first.
-ghost use Rattle.std.specs.Prelude.{◌≡◌, ◌<◌, Some, length, slice_get};
-ghost use Rattle.ged_tree.specs.Rows.{texts_of};
+ghost use Rattle.std.specs.Prelude.{◌≡◌, ◌≤◌, ◌<◌, ◌+◌, ◌++◌, ◌∷◌, [], List, Some, IfOk, IfSome, length, take, drop, nat_le, slice_get};
+ghost use Rattle.std.specs.List.Sorted.{IsNonDecreasingBy};
+ghost use Rattle.ged_line.specs.Bytes.{Bytes};
+ghost use Rattle.ged_tree.specs.Rows.{further_before, further_of, places_of, texts_of, HasFurther};
+ghost use Rattle.ged_tree.specs.inner.Tables.{IsFurtherPut, IsSliceAt};
 
+use std::alloc::{AllocError, Global};
 use std::marker::Model;
+use std::mem::size_of;
 
-/// A line of a payload past the first.
+/// A line of a payload past the first as a slice of the file, in 12 bytes.
 #[derive(Clone, Copy)]
-pub(crate) struct FurtherLine<'a> {
+pub(crate) struct FurtherSlice {
     /// The place past the structure whose payload has it.
+    pub(crate) after: u32,
+    /// Where its text begins in the file, in bytes.
+    pub(crate) start: u32,
+    /// How many bytes its text has.
+    pub(crate) length: u32,
+}
+
+const _: () = prove!(size_of::<FurtherSlice>() == 12);
+
+/// A line of a payload past the first whose text is kept as it is.
+#[derive(Clone, Copy)]
+pub(crate) struct FurtherApart<'a> {
     pub(crate) after: usize,
     pub(crate) text: &'a str,
+}
+
+/// The lines of all payloads past their first ones, in the order of the file.
+#[derive(Drop)]
+pub(crate) struct FurtherTable<'a> {
+    slices: Vec<FurtherSlice>,
+    /// Those from the first on that is no slice of the file, or has a number that is too large to be kept.
+    apart: Vec<FurtherApart<'a>>,
+}
+
+/// A line as a slice of the file, or `None` where no place in the file is told, or one of the numbers is too large.
+#[inline(always)]
+fn further_slice(after: usize, start: Option<usize>, length: usize) -> Option<FurtherSlice>
+    ensures { IfSome result (λ slice. (after ≡ slice.after) × (start ≡ Some slice.start) × (length ≡ slice.length)) }
+{
+    let (Ok(after), Ok(start), Ok(length)) = (
+        u32::try_from(after),
+        u32::try_from(start?),
+        u32::try_from(length),
+    ) else {
+        return None;
+    };
+    Some(FurtherSlice {
+        after,
+        start,
+        length,
+    })
+}
+
+impl<'a> FurtherTable<'a> {
+    pub(crate) fn new(alloc: Global) -> FurtherTable<'a>
+        ensures slices { result.slices.items ≡ [] }
+        ensures apart { result.apart.items ≡ [] }
+    {
+        FurtherTable {
+            slices: Vec::new(alloc),
+            apart: Vec::new(alloc),
+        }
+    }
+
+    /// Adds a line behind the others. `start` tells where in the file its text begins; without it the text is kept apart.
+    #[inline(always)]
+    pub(crate) fn push(
+        &mut self,
+        after: usize,
+        text: &'a str,
+        start: Option<usize>,
+    ) -> Result<(), AllocError>
+        ensures { (file : Bytes) → IfSome start (λ at. IsSliceAt file at text.now)
+            → IfOk result (λ _. IsFurtherPut file self.old self.new after text.now) }
+    {
+        if self.apart.len() == 0 {
+            if let Some(slice) = further_slice(after, start, text.len()) {
+                self.slices.push(slice)?;
+                return Ok(());
+            }
+        }
+        self.apart.push(FurtherApart { after, text })?;
+        Ok(())
+    }
+
+    /// How many lines stand before the structure at a place.
+    pub(crate) fn before(&self, place: usize) -> usize
+        requires slices { IsNonDecreasingBy (λ line. line.after) self.now.slices.items }
+        requires apart { IsNonDecreasingBy (λ line. line.after) self.now.apart.items }
+        ensures { (file : Bytes) → result ≡ further_before place (places_of (further_of file self.now)) }
+    {
+        let before = self.slices.partition_point(
+            |line: &FurtherSlice| -> bool
+                ensures { result ≡ nat_le line.now.after place }
+            { line.after as usize <= place },
+        );
+        if before < self.slices.len() {
+            return before;
+        }
+        before
+            + self.apart.partition_point(
+                |line: &FurtherApart<'_>| -> bool
+                    ensures { result ≡ nat_le line.now.after place }
+                { line.after <= place },
+            )
+    }
+
+    /// The text of the line of a number.
+    pub(crate) fn text(&self, file: &'a str, number: usize) -> &'a str
+        requires within { number < length (further_of file.now self.now) }
+        requires slices { HasFurther file.now self.now }
+        ensures { slice_get (texts_of (further_of file.now self.now)) number ≡ Some result.now }
+    {
+        let count = self.slices.len();
+        if number < count {
+            let slice = self.slices[number];
+            let start = slice.start as usize;
+            let end = start + slice.length as usize;
+            return &file[start..end];
+        }
+        self.apart[number - count].text
+    }
 }
 
 /// The lines of a payload past the first, counted from 0. Contracts see them as the list of their texts.
 #[derive(Drop)]
 pub struct FurtherLines<'a> {
-    lines: &'a [FurtherLine<'a>],
+    file: &'a str,
+    table: &'a FurtherTable<'a>,
+    start: usize,
+    count: usize,
 }
 
 impl<'a> Model for FurtherLines<'a> {
-    ghost use Rattle.std.specs.Prelude.{List};
+    ghost use Rattle.std.specs.Prelude.{◌+◌, ◌≤◌, List, length, take, drop};
     ghost use Rattle.ged_line.specs.Bytes.{Bytes};
-    ghost use Rattle.ged_tree.specs.Rows.{texts_of};
+    ghost use Rattle.ged_tree.specs.Rows.{further_of, texts_of, HasFurther};
 
     ghost Value = { List Bytes };
 
-    ghost view = { λ further. texts_of further.lines.now };
+    ghost view = { λ f. take f.count (drop f.start (texts_of (further_of f.file.now f.table.now))) };
+
+    ghost invariant = { λ f. HasFurther f.file.now f.table.now × (f.start + f.count ≤ length (further_of f.file.now f.table.now)) };
 }
 
 impl<'a> FurtherLines<'a> {
     #[inline(always)]
-    pub(crate) fn of(lines: &'a [FurtherLine<'a>]) -> FurtherLines<'a>
-        ensures { result ≡ texts_of lines.entry.now }
+    pub(crate) fn of(
+        file: &'a str,
+        table: &'a FurtherTable<'a>,
+        start: usize,
+        count: usize,
+    ) -> FurtherLines<'a>
+        requires slices { HasFurther file.now table.now }
+        requires within { start + count ≤ length (further_of file.now table.now) }
+        ensures { result ≡ take count (drop start (texts_of (further_of file.now table.entry.now))) }
     {
-        FurtherLines { lines }
+        FurtherLines {
+            file,
+            table,
+            start,
+            count,
+        }
     }
 
     /// How many lines there are. Takes no memory.
@@ -41,7 +173,7 @@ impl<'a> FurtherLines<'a> {
     pub fn count(&self) -> usize
         ensures { result ≡ length self.now }
     {
-        self.lines.len()
+        self.count
     }
 
     /// The line of a number. Takes no memory.
@@ -49,9 +181,6 @@ impl<'a> FurtherLines<'a> {
         requires { number < length self.now }
         ensures { slice_get self.now number ≡ Some result.now }
     {
-        match self.lines.get(number) {
-            Some(line) => line.text,
-            None => unreachable!(),
-        }
+        self.table.text(self.file, self.start + number)
     }
 }

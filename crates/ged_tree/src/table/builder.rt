@@ -1,12 +1,12 @@
 // The table of a document's structures, made line by line.
-ghost use Rattle.std.specs.Prelude.{◌≡◌, ◌<◌, ◌+◌, ◌%◌, ◌^◌, ◌++◌, ◌∷◌, [], List, MatchResult, IfOk, IfSome, length, nat_lt};
+ghost use Rattle.std.specs.Prelude.{◌≡◌, ◌<◌, ◌+◌, ◌%◌, ◌^◌, ◌++◌, ◌∷◌, [], List, MatchResult, IfOk, IfSome, None, Some, length, nat_lt};
 ghost use Rattle.ged_line.specs.Lines.{LineParts, LineText};
 ghost use Rattle.ged_tree.specs.DocumentLines.{HasLines};
 ghost use Rattle.ged_tree.specs.Rows.{names_record};
 ghost use Rattle.ged_tree.specs.inner.Tables.{line_text, HoldsLines, HasStructure, IsPut, IsSliceAt, Shows, TellsEnd, TellsFurther, TellsLine};
 
 use crate::fault::{BuildFault, TreeAt, TreeFault};
-use crate::forest::continuations::FurtherLine;
+use crate::forest::continuations::FurtherTable;
 use crate::judge::{Judge, is_cont, is_trailer};
 use crate::table::closing::sizes_of;
 use crate::table::flat::Flat;
@@ -23,6 +23,19 @@ fn text_of_line<'a>(line: &LineView<'a>) -> &'a str
     match line.value() {
         ValueView::Text(text) => text,
         _ => "",
+    }
+}
+
+/// The place in the file so many bytes behind another.
+#[inline(always)]
+fn start_behind(start: Option<usize>, bytes: usize) -> Option<usize>
+    requires { IfSome start (λ at. at + bytes < 2 ^ 64) }
+    ensures told { IfSome start (λ at. result ≡ Some (at + bytes)) }
+    ensures untold { start ≡ None → result ≡ None }
+{
+    match start {
+        Some(start) => Some(start + bytes),
+        None => None,
     }
 }
 
@@ -91,7 +104,7 @@ pub(crate) struct TableBuilder<'a> {
     pub(crate) file: &'a str,
     structures: Vec<KeptStructure>,
     apart: Vec<TextApart<'a>>,
-    further: Vec<FurtherLine<'a>>,
+    further: FurtherTable<'a>,
 }
 
 impl<'a> TableBuilder<'a> {
@@ -105,7 +118,7 @@ impl<'a> TableBuilder<'a> {
             file,
             structures: Vec::new(alloc),
             apart: Vec::new(alloc),
-            further: Vec::new(alloc),
+            further: FurtherTable::new(alloc),
         }
     }
 
@@ -153,7 +166,8 @@ impl<'a> TableBuilder<'a> {
         if is_cont(line) {
             let after = self.structures.len();
             let text = text_of_line(line);
-            self.further.push(FurtherLine { after, text })?;
+            let start = start_behind(start, spelled.text.len() - text.len());
+            self.further.push(after, text, start)?;
             tell_further(&mut self.structures);
             return Ok(());
         }

@@ -5,32 +5,18 @@ ghost use Rattle.ged_tree.specs.Documents.{is_document};
 ghost use Rattle.ged_tree.specs.DocumentLines.{rest_of_line};
 ghost use Rattle.ged_tree.specs.Places.{structure_at, place_after, level_at, line_at};
 ghost use Rattle.ged_tree.specs.Views.{payload_of, is_pointer};
-ghost use Rattle.ged_tree.specs.Rows.{flat_trees, IsFlat, IsSpelled, line_shown, shown_from, places_of};
+ghost use Rattle.ged_tree.specs.Rows.{flat_trees, further_of, IsFlat, IsSpelled, line_shown, shown_from};
 ghost use Rattle.ged_tree.specs.inner.Rows.{rest_of, shown_of};
-ghost use Rattle.ged_tree.specs.Rows.{further_before as tests_before};
-ghost use Rattle.std.specs.List.Sorted.{IsNonDecreasingBy};
 ghost use Rattle.ged_tree.specs.inner.Tables.{own_value};
 ghost use Rattle.ged_tree.specs.declared.forest.payload.PayloadView.{PayloadView};
 
 use crate::forest::Forest;
-use crate::forest::continuations::{FurtherLine, FurtherLines};
+use crate::forest::continuations::{FurtherLines, FurtherTable};
 use crate::forest::payload::PayloadView;
 use crate::table::closing::Sizes;
 use crate::table::packed::{KeptStructure, TextApart, text_of};
 use crate::table::structure::FlatStructure;
 use std::marker::Model;
-
-/// How many further lines stand before the structure at a place.
-fn further_before(further: &[FurtherLine<'_>], place: usize) -> usize
-    requires { IsNonDecreasingBy (λ line. line.after) further.now }
-    ensures { result ≡ tests_before place (places_of further.now) }
-{
-    further.partition_point(
-        |line: &FurtherLine<'_>| -> bool
-            ensures { result ≡ nat_le line.now.after place }
-        { line.after <= place },
-    )
-}
 
 /// A document as a vector of its structures, in the order of the file, and a vector of the further lines of their
 /// payloads. All texts are slices of the file. Contracts see it as they see a [`crate::Document`].
@@ -41,21 +27,21 @@ pub struct Flat<'a> {
     sizes: Sizes,
     /// The texts of structures that keep no slice of the file, in order of their places.
     apart: Vec<TextApart<'a>>,
-    further: Vec<FurtherLine<'a>>,
+    further: FurtherTable<'a>,
 }
 
 impl<'a> Model for Flat<'a> {
     ghost use Rattle.ged_tree.specs.Trees.{Trees};
     ghost use Rattle.ged_tree.specs.inner.TreeCodes.{trees_code};
-    ghost use Rattle.ged_tree.specs.Rows.{flat_trees, shown_from, IsFlat};
+    ghost use Rattle.ged_tree.specs.Rows.{flat_trees, shown_from, further_of, IsFlat};
 
     ghost Value = { Trees };
 
     ghost coded = { trees_code };
 
-    ghost view = { λ f. flat_trees (shown_from f.file.now f.apart.items 0 f.structures.items) f.further.items };
+    ghost view = { λ f. flat_trees (shown_from f.file.now f.apart.items 0 f.structures.items) (further_of f.file.now f.further) };
 
-    ghost invariant = { λ f. IsFlat f.file.now f.apart.items f.structures.items f.sizes f.further.items };
+    ghost invariant = { λ f. IsFlat f.file.now f.apart.items f.structures.items f.sizes f.further };
 }
 
 impl<'a> Flat<'a> {
@@ -65,10 +51,10 @@ impl<'a> Flat<'a> {
         structures: Vec<KeptStructure>,
         sizes: Sizes,
         apart: Vec<TextApart<'a>>,
-        further: Vec<FurtherLine<'a>>,
+        further: FurtherTable<'a>,
     ) -> Flat<'a>
-        requires { IsFlat file.now apart.items structures.items sizes further.items }
-        ensures { result ≡ flat_trees (shown_from file.now apart.entry.items 0 structures.items) further.entry.items }
+        requires { IsFlat file.now apart.items structures.items sizes further }
+        ensures { result ≡ flat_trees (shown_from file.now apart.entry.items 0 structures.items) (further_of file.now further.entry) }
     {
         Flat {
             file,
@@ -147,7 +133,7 @@ impl<'a> Flat<'a> {
         requires { place < trees_count self.now }
         ensures { result ≡ line_at 1 self.now place }
     {
-        let before = further_before(self.further.as_slice(), place);
+        let before = self.further.before(place);
         (place + before) as u64 + 1
     }
 
@@ -159,8 +145,8 @@ impl<'a> Flat<'a> {
         if !self.structures[place].has_further() {
             return 0;
         }
-        let start = further_before(self.further.as_slice(), place);
-        let end = further_before(self.further.as_slice(), place + 1);
+        let start = self.further.before(place);
+        let end = self.further.before(place + 1);
         end.saturating_sub(start)
     }
 
@@ -171,7 +157,7 @@ impl<'a> Flat<'a> {
         ensures { result ≡ further_lines (structure_at self.now place).payload }
     {
         if !self.structures[place].has_further() {
-            return FurtherLines::of(&[]);
+            return FurtherLines::of(self.file, &self.further, 0, 0);
         }
         self.found_lines_at(place)
     }
@@ -182,10 +168,9 @@ impl<'a> Flat<'a> {
         requires { place < trees_count self.now }
         ensures { result ≡ further_lines (structure_at self.now place).payload }
     {
-        let further = self.further.as_slice();
-        let start = further_before(further, place);
-        let end = further_before(further, place + 1);
-        FurtherLines::of(&further[start..end])
+        let start = self.further.before(place);
+        let end = self.further.before(place + 1);
+        FurtherLines::of(self.file, &self.further, start, end - start)
     }
 
     /// A further line of the payload at a place.
@@ -194,8 +179,8 @@ impl<'a> Flat<'a> {
         requires further { number < length (further_lines (structure_at self.now place).payload) }
         ensures { slice_get (further_lines (structure_at self.now place).payload) number ≡ Some result.now }
     {
-        let start = further_before(self.further.as_slice(), place);
-        self.further[start + number].text
+        let start = self.further.before(place);
+        self.further.text(self.file, start + number)
     }
 }
 
