@@ -63,10 +63,18 @@ impl Sizes {
         requires sizes { AreSizes structures.now self.now place }
         ensures { result ≡ place + 1 + size_at structures.now place }
     {
+        let count = self.large.len();
+        // While the sizes are found, the one that is asked for is often the last that was kept.
+        if count > 0 {
+            let last = self.large[count - 1];
+            if last.place as usize == place {
+                return place + 1 + last.size as usize;
+            }
+        }
         let index = self.large.partition_point(|large: &LargeSize| -> bool {
             large.place as usize > place
         });
-        if index < self.large.len() {
+        if index < count {
             let large = self.large[index];
             if large.place as usize == place {
                 return place + 1 + large.size as usize;
