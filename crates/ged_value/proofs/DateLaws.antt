@@ -9,7 +9,8 @@ use Rattle.std.proofs.lemmas.Bool.{and_right, or_cases, false≢true, false_from
 use Rattle.std.proofs.lemmas.Bool.Decides.{Decides-eqb, same_from_decides}
 use Rattle.std.proofs.lemmas.Slice.Eq.{bytes_eq-Decides}
 use Rattle.ged_value.specs.Words.{Bytes, is_integer, is_extension_tag, is_one_of}
-use Rattle.ged_value.specs.Dates.{CalendarName, gregorian, julian, french_r, hebrew, extension, DateParts, calendar_word, calendar_words, months_of_31, months_of_30, roman_days, is_month, is_epoch, is_calendar, is_day_and_month, is_date, date_words, SpellsDate}
+use Rattle.ged_value.specs.Dates.{CalendarName, gregorian, julian, french_r, hebrew, extension, DateParts, calendar_word, roman_days, is_month, is_epoch, is_calendar, is_day_and_month, is_date, date_words, SpellsDate}
+use Rattle.ged_value.specs.inner.Months.{calendar_words, months_of_31, months_of_30}
 use Rattle.ged_value.specs.inner.DateReading.{standard_calendar, or_extension, calendar_at, parts_at, parts_behind, if_date, date_at}
 use Rattle.ged_value.proofs.WordLaws.{both}
 

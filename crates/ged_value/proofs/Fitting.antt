@@ -21,7 +21,7 @@ use Rattle.ged_value.specs.inner.TimeReading.{time_at}
 use Rattle.ged_value.specs.inner.AgeReading.{age_at}
 use Rattle.ged_value.specs.inner.NameReading.{name_at}
 use Rattle.ged_value.specs.inner.RestrictionReading.{trim_start, trim_end}
-use Rattle.ged_value.specs.Kinds.{IsVersion, FitsLine, takes_lines, takes_links}
+use Rattle.ged_value.specs.Kinds.{IsVersion, FitsLine}
 use Rattle.ged_value.specs.declared.kind.Kind.{Kind}
 use Rattle.ged_value.specs.declared.kind.Kind.TheVariants as kinds
 use Rattle.ged_value.proofs.ReadingLaws.{reads}

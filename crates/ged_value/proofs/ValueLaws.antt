@@ -7,7 +7,8 @@ use Rattle.std.proofs.lemmas.Bool.{ne_eqb, and_parts, false≢true}
 use Rattle.std.proofs.lemmas.Slice.Eq.{bytes_eq-Decides}
 use Rattle.ged_value.specs.Words.{Bytes}
 use Rattle.ged_value.specs.inner.WordReading.{around}
-use Rattle.ged_value.specs.Dates.{DateParts, calendar_words, SpellsDate}
+use Rattle.ged_value.specs.Dates.{DateParts, SpellsDate}
+use Rattle.ged_value.specs.inner.Months.{calendar_words}
 use Rattle.ged_value.specs.inner.DateReading.{date_at}
 use Rattle.ged_value.specs.Values.{PeriodParts, empty, to, from, from_to, ValueParts, span, plain, between, after, before, about, calculated, estimated, Behind, BothBehind, SpellsPeriod, SpellsValue}
 use Rattle.ged_value.specs.inner.ValueReading.{both_dates, dates_at, from_at, period_at, keyword_at, behind, value_behind, value_at}

@@ -1,5 +1,5 @@
 -- Dates: their parts, and the words that spell them (FamilySearch GEDCOM 7.0, "Date").
-use Rattle.std.specs.Prelude.{◌≡◌, ℕ, Bool, true, false, List, [], ◌∷◌, ◌++◌, ◌&&◌, ◌||◌, ◌⊎◌, Option, Some, None, is_some, IsTrue, map, not, nat_le, if◌then◌else◌, codes}
+use Rattle.std.specs.Prelude.{◌≡◌, ℕ, Bool, true, false, List, ◌∷◌, ◌++◌, ◌&&◌, ◌||◌, ◌⊎◌, Option, Some, None, is_some, IsTrue, not, nat_le, if◌then◌else◌, codes}
 use Rattle.std.specs.Option.{option_map_or, option_to_list}
 use Rattle.std.specs.Str.{bytes_eq}
 use Rattle.ged_value.specs.Words.{Bytes, words_of, is_one_of, is_integer, is_standard_tag, is_extension_tag, number}
@@ -28,50 +28,25 @@ calendar_word french_r = codes "FRENCH_R"
 calendar_word hebrew = codes "HEBREW"
 calendar_word (extension tag) = tag
 
--- the words of the standard's calendars
-abbrev pub calendar_words : List Bytes
-calendar_words = map calendar_word (gregorian ∷ julian ∷ french_r ∷ hebrew ∷ [])
-
--- the words that stand before a date or between two
-abbrev pub keywords : List Bytes
-keywords = words_of (codes "FROM TO BET AND BEF AFT ABT CAL EST")
-
--- the standard's word for an epoch: before the common era
-abbrev pub epoch_word : Bytes
-epoch_word = codes "BCE"
-
--- a word that is no month of an extension's calendar, as it has a meaning of its own
+-- a word that is no month of an extension's calendar, as it has a meaning of its own: it stands before a date or between
+-- two, names a calendar of the standard's, or is the word for an epoch
 abbrev pub is_reserved : Bytes → Bool
-is_reserved word = (is_one_of keywords word || is_one_of calendar_words word) || bytes_eq epoch_word word
-
--- the months of 31 days of the Gregorian and the Julian calendar
-abbrev pub months_of_31 : List Bytes
-months_of_31 = words_of (codes "JAN MAR MAY JUL AUG OCT DEC")
-
--- the months of 30 days of the Gregorian and the Julian calendar
-abbrev pub months_of_30 : List Bytes
-months_of_30 = words_of (codes "APR JUN SEP NOV")
-
--- the months of 30 days of the French Republican calendar
-abbrev pub french_months : List Bytes
-french_months = words_of (codes "VEND BRUM FRIM NIVO PLUV VENT GERM FLOR PRAI MESS THER FRUC")
-
--- the months of the Hebrew calendar
-abbrev pub hebrew_months : List Bytes
-hebrew_months = words_of (codes "TSH CSH KSL TVT SHV ADR ADS NSN IYR SVN TMZ AAV ELL")
+is_reserved word =
+    (is_one_of (words_of (codes "FROM TO BET AND BEF AFT ABT CAL EST")) word
+    || is_one_of (words_of (codes "GREGORIAN JULIAN FRENCH_R HEBREW")) word) || bytes_eq (codes "BCE") word
 
 -- the greatest day of a month of the Gregorian and the Julian calendar; leap years aren't looked at
 abbrev pub roman_days : Bytes → Option ℕ
 roman_days month =
-    if is_one_of months_of_31 month then Some 31
-    else (if is_one_of months_of_30 month then Some 30
+    if is_one_of (words_of (codes "JAN MAR MAY JUL AUG OCT DEC")) month then Some 31
+    else (if is_one_of (words_of (codes "APR JUN SEP NOV")) month then Some 30
     else (if bytes_eq (codes "FEB") month then Some 29
     else None))
 
 -- the greatest day of a month of the French Republican calendar, the six days that end its year among them
 abbrev pub french_days : Bytes → Option ℕ
 french_days month =
-    if is_one_of french_months month then Some 30
+    if is_one_of (words_of (codes "VEND BRUM FRIM NIVO PLUV VENT GERM FLOR PRAI MESS THER FRUC")) month then Some 30
     else (if bytes_eq (codes "COMP") month then Some 6
     else None)
 
@@ -81,7 +56,7 @@ abbrev pub greatest_day : CalendarName → Bytes → Option ℕ
 greatest_day gregorian month = roman_days month
 greatest_day julian month = roman_days month
 greatest_day french_r month = french_days month
-greatest_day hebrew month = if is_one_of hebrew_months month then Some 30 else None
+greatest_day hebrew month = if is_one_of (words_of (codes "TSH CSH KSL TVT SHV ADR ADS NSN IYR SVN TMZ AAV ELL")) month then Some 30 else None
 greatest_day (extension tag) month = None
 
 -- the calendar has the month: any tag that isn't reserved may be a month of an extension's
@@ -95,13 +70,12 @@ is_day calendar month day =
     is_integer day && (nat_le 1 (number day)
     && option_map_or (λ greatest. nat_le (number day) greatest) (greatest_day calendar month) true)
 
--- the calendar has the epoch
+-- the calendar has the epoch; BCE is before the common era
 abbrev pub is_epoch : CalendarName → Bytes → Bool
-is_epoch gregorian epoch = bytes_eq epoch_word epoch
-is_epoch julian epoch = bytes_eq epoch_word epoch
-is_epoch french_r epoch = false
-is_epoch hebrew epoch = false
-is_epoch (extension tag) epoch = bytes_eq epoch_word epoch || is_extension_tag epoch
+is_epoch gregorian epoch = bytes_eq (codes "BCE") epoch
+is_epoch julian epoch = bytes_eq (codes "BCE") epoch
+is_epoch (extension tag) epoch = bytes_eq (codes "BCE") epoch || is_extension_tag epoch
+is_epoch _ epoch = false
 
 -- the calendar is one of the standard's, or its tag is an extension tag
 abbrev pub is_calendar : CalendarName → Bool

@@ -10,3 +10,4 @@ pub mod Texts
 pub mod TimeReading
 pub mod ValueReading
 pub mod WordReading
+pub mod Months

@@ -1,6 +1,6 @@
 -- `search` goes through the ways in which two of these words differ
 use Rattle.std.proofs.Common.{sym}
-use Rattle.ged_value.specs.Dates.{months_of_31}
+use Rattle.ged_value.specs.inner.Months.{months_of_31}
 use Rattle.ged_value.proofs.WordLaws.{none_of}
 use Rattle.ged_value.proofs.date.has_31_days.Goals as goal
 

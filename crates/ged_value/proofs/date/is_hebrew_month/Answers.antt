@@ -1,6 +1,6 @@
 -- `search` goes through the ways in which two of these words differ
 use Rattle.std.proofs.Common.{sym}
-use Rattle.ged_value.specs.Dates.{hebrew_months}
+use Rattle.ged_value.specs.inner.Months.{hebrew_months}
 use Rattle.ged_value.proofs.WordLaws.{none_of}
 use Rattle.ged_value.proofs.date.is_hebrew_month.Goals as goal
 

@@ -1,6 +1,6 @@
 -- `search` goes through the ways in which two of these words differ
 use Rattle.std.proofs.Common.{sym}
-use Rattle.ged_value.specs.Dates.{keywords}
+use Rattle.ged_value.specs.inner.Months.{keywords}
 use Rattle.ged_value.proofs.WordLaws.{none_of}
 use Rattle.ged_value.proofs.date.is_keyword.Goals as goal
 
