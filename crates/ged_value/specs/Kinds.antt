@@ -43,7 +43,7 @@ kind_word ToObje = codes "ToObje"
 abbrev pub IsVersion : Bytes → Type 0
 IsVersion text = (text ≡ codes "7.0") ⊎ ((digits : Bytes) × IsTrue (is_integer digits) × (text ≡ codes "7.0." ++ digits))
 
--- the texts of one line that are of a kind
+-- the texts of one line that are of a kind; a kind of pointers has none
 abbrev pub FitsLine : Kind → Bytes → Type 0
 FitsLine Nothing text = text ≡ []
 FitsLine Text text = ⊤
@@ -63,12 +63,7 @@ FitsLine PediEnum text = IsTrue (is_of_set pedigrees text)
 FitsLine StatEnum text = IsTrue (is_of_set statuses text)
 FitsLine NameTypeEnum text = IsTrue (is_of_set name_types text)
 FitsLine ResnList text = AreRestrictions text
-FitsLine ToFam text = ⊥
-FitsLine ToIndi text = ⊥
-FitsLine ToSubm text = ⊥
-FitsLine ToSnote text = ⊥
-FitsLine ToSour text = ⊥
-FitsLine ToObje text = ⊥
+FitsLine _ text = ⊥
 
 -- the kinds of a text of several lines
 abbrev pub takes_lines : Kind → Bool
