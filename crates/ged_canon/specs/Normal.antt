@@ -12,6 +12,7 @@ use Rattle.ged_tree.specs.Trees.{Trees, none, tree, records_of}
 use Rattle.ged_value.specs.Words.{words_of}
 use Rattle.ged_value.specs.Default.{default_word}
 use Rattle.ged_value.specs.Zeros.{has_leading_zero}
+use Rattle.ged_value.specs.ZeroKinds.{has_integers}
 use Rattle.ged_link.specs.Links.{IsAmong, xrefs, IsNamed}
 use Rattle.ged_schema.specs.declared.context.Context.{Context}
 use Rattle.ged_schema.specs.declared.context.Context.TheVariants.{File}
@@ -19,12 +20,12 @@ use Rattle.ged_schema.specs.Rows.{Row}
 use Rattle.ged_schema.specs.Tables.{row, context_below}
 use Rattle.ged_canon.specs.declared.edition.Edition.{Edition}
 use Rattle.ged_canon.specs.declared.edition.Edition.TheVariants.{Second}
-use Rattle.ged_canon.specs.Steps.{is_dated, is_numeric, Equivalent}
+use Rattle.ged_canon.specs.Steps.{has_calendar, has_kind, Equivalent}
 
 -- a line in which nothing can be left out at a place with this row
 pub record IsBrief (edition : Edition) (r : Option Row) (line : Bytes) : Type 0 where
-  pub no_calendar : is_dated r ≡ true → AllByRecursion (λ word. word ≢ default_word) (words_of line)
-  pub no_leading_zero : edition ≡ Second → is_numeric r ≡ true → AllByRecursion (λ word. has_leading_zero word ≡ false) (words_of line)
+  pub no_calendar : has_kind has_calendar r ≡ true → AllByRecursion (λ word. word ≢ default_word) (words_of line)
+  pub no_leading_zero : edition ≡ Second → has_kind has_integers r ≡ true → AllByRecursion (λ word. has_leading_zero word ≡ false) (words_of line)
 
 -- a text of several lines, the void pointer and a pointer are always brief
 abbrev pub IsBriefPayload : Edition → Option Row → Payload → Type 0

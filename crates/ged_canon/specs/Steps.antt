@@ -1,16 +1,17 @@
 -- What may be done to a document without changing what it says, one small step at a time
 -- (FamilySearch GEDCOM 7.0, "Structures", "Lines", "Date" and "Integer").
 use Rattle.std.specs.Prelude.{◌≡◌, ◌≢◌, Bool, true, false, cond, List, [], ◌∷◌, map, Option, Some, None}
+use Rattle.std.specs.Option.{option_map, option_map_or}
 use Rattle.std.specs.Str.{bytes_eq}
 use Rattle.ged_line.specs.Bytes.{Bytes}
 use Rattle.ged_tree.specs.declared.owned.payload.Payload.{Payload}
-use Rattle.ged_tree.specs.declared.owned.payload.Payload.TheVariants.{Void, Pointer, Text}
+use Rattle.ged_tree.specs.declared.owned.payload.Payload.TheVariants.{Pointer, Text}
 use Rattle.ged_tree.specs.Trees.{Structure, Trees, none, tree}
 use Rattle.ged_tree.specs.Documents.{is_document}
 use Rattle.ged_value.specs.declared.kind.Kind.{Kind}
 use Rattle.ged_value.specs.declared.kind.Kind.TheVariants.{DateValue, DatePeriod}
 use Rattle.ged_value.specs.Words.{words_of}
-use Rattle.ged_value.specs.Default.{TextLeavesOut}
+use Rattle.ged_value.specs.Default.{LeavesOut}
 use Rattle.ged_value.specs.Zeros.{LeavesOutZero}
 use Rattle.ged_value.specs.ZeroKinds.{has_integers}
 use Rattle.ged_link.specs.Links.{IsAmong, AreDistinct, xrefs, IsNamed}
@@ -30,25 +31,15 @@ has_calendar DateValue = true
 has_calendar DatePeriod = true
 has_calendar _ = false
 
--- the row has such a kind
-abbrev pub is_dated : Option Row → Bool
-is_dated None = false
-is_dated (Some r) = has_calendar r.kind
-
--- the row has a kind with Integers
-abbrev pub is_numeric : Option Row → Bool
-is_numeric None = false
-is_numeric (Some r) = has_integers r.kind
-
--- the second line is the first with one leading zero of one word left out
-abbrev pub LeavesZero : Bytes → Bytes → Type 0
-LeavesZero longer shorter = LeavesOutZero (words_of longer) (words_of shorter)
+-- there is a row, and its kind passes the test
+abbrev pub has_kind : (Kind → Bool) → Option Row → Bool
+has_kind test r = option_map_or (λ some. test some.kind) r false
 
 -- the second line is the first without something that has no meaning at a place with this row: a word of the default
 -- calendar, or, in the second edition, a leading zero
 pub data Shortened (edition : Edition) (r : Option Row) (longer shorter : Bytes) : Type 0 where
-  calendar : is_dated r ≡ true → TextLeavesOut longer shorter → Shortened edition r longer shorter
-  leading_zero : edition ≡ Second → is_numeric r ≡ true → LeavesZero longer shorter → Shortened edition r longer shorter
+  calendar : has_kind has_calendar r ≡ true → LeavesOut (words_of longer) (words_of shorter) → Shortened edition r longer shorter
+  leading_zero : edition ≡ Second → has_kind has_integers r ≡ true → LeavesOutZero (words_of longer) (words_of shorter) → Shortened edition r longer shorter
 
 -- a payload of one line is shortened, and both lines are of the row's kind
 pub data Respelt (edition : Edition) (r : Option Row) : Payload → Payload → Type 0 where
@@ -87,38 +78,26 @@ abbrev pub new_name : List (Bytes × Bytes) → Bytes → Bytes
 new_name [] name = name
 new_name (pair ∷ pairs) name = cond (bytes_eq pair.0 name) pair.1 (new_name pairs name)
 
-abbrev pub renamed_xref : (Bytes → Bytes) → Option Bytes → Option Bytes
-renamed_xref new None = None
-renamed_xref new (Some name) = Some (new name)
-
 abbrev pub renamed_payload : (Bytes → Bytes) → Payload → Payload
-renamed_payload new Void = Void
 renamed_payload new (Pointer name) = Pointer (new name)
-renamed_payload new (Text lines) = Text lines
+renamed_payload new payload = payload
 
 abbrev pub renamed_structure : (Bytes → Bytes) → Structure → Structure
-renamed_structure new s = record { xref = renamed_xref new s.xref; tag = s.tag; payload = renamed_payload new s.payload }
+renamed_structure new s = record { xref = option_map new s.xref; tag = s.tag; payload = renamed_payload new s.payload }
 
 -- each identifier and each pointer gets its new name
 abbrev pub renamed : (Bytes → Bytes) → Trees → Trees
 renamed new none = none
 renamed new (tree s below next) = tree (renamed_structure new s) (renamed new below) (renamed new next)
 
--- the old names of pairs, and the new ones
-abbrev pub olds : List (Bytes × Bytes) → List Bytes
-olds pairs = map (λ pair. pair.0) pairs
-
-abbrev pub news : List (Bytes × Bytes) → List Bytes
-news pairs = map (λ pair. pair.1) pairs
-
--- the records get new identifiers, and the pointers with them, all at once
+-- the records get new identifiers, and the pointers with them, all at once; each pair has a record's old name and its new one
 pub record Renamed (d e : Trees) : Type 0 where
   pub pairs : List (Bytes × Bytes)
-  pub olds_are_xrefs : olds pairs ≡ xrefs d
-  pub olds_distinct : AreDistinct (olds pairs)
-  pub news_distinct : AreDistinct (news pairs)
-  -- a pointer that has no new name names no new one
-  pub no_other_names_a_new : (name : Bytes) → IsNamed d name → IsAmong name (news pairs) → IsAmong name (olds pairs)
+  pub olds_are_xrefs : map (λ pair. pair.0) pairs ≡ xrefs d
+  pub olds_distinct : AreDistinct (xrefs d)
+  pub news_distinct : AreDistinct (map (λ pair. pair.1) pairs)
+  -- a pointer that names no record names no new name either
+  pub no_other_names_a_new : (name : Bytes) → IsNamed d name → IsAmong name (map (λ pair. pair.1) pairs) → IsAmong name (xrefs d)
   pub all_at_once : e ≡ renamed (new_name pairs) d
 
 -- the structure with another identifier, or none

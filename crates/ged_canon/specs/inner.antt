@@ -3,3 +3,4 @@ pub mod Runs
 pub mod Siblings
 pub mod Working
 pub mod Writing
+pub mod StepParts

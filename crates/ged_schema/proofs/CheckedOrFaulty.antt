@@ -16,8 +16,9 @@ use Rattle.ged_schema.specs.declared.fault.FaultPlace.{FaultPlace}
 use Rattle.ged_schema.specs.declared.fault.SchemaFault.TheVariants.{WrongTarget, TooMany, Missing}
 use Rattle.ged_schema.specs.Rows.{Row}
 use Rattle.ged_schema.specs.Tables.{rows, row, context_below}
-use Rattle.ged_schema.specs.Payloads.{target}
-use Rattle.ged_schema.specs.Checked.{IsRecordNamed, PointsRight, count_of, CountsRight, MeetsRow, AreChecked}
+use Rattle.ged_value.specs.Kinds.{target}
+use Rattle.ged_schema.specs.Checked.{PointsRight, count_of, CountsRight, MeetsRow, AreChecked}
+use Rattle.ged_schema.specs.inner.Lookups.{IsRecordNamed}
 use Rattle.ged_schema.specs.Faults.{fault_at, payload_fault, StandsAfter, CountFault, FirstCountFault, OwnFault, FirstFault}
 use Rattle.ged_schema.proofs.Runs.{count_same, count_other}
 use Rattle.ged_schema.proofs.Fitting.{kind_decided}

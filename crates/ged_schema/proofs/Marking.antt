@@ -1,6 +1,6 @@
 -- Structures of a run, marked by the numbers of their rows.
 use Rattle.std.proofs.Common.{◌≡◌, ◌≢◌, ℕ, zero, suc, ◌+◌, ◌*◌, ◌%◌, ◌^◌, bit_and, bit_or, min, ◌<◌, ◌≤◌, ◌==◌, ◌&&◌, Bool, sym, ◌∙◌, ap, refl, arith, true, false, List, [], ◌∷◌, inl, inr, Option, Some, None, get_or, slice_get, length, map, eqb→eq, subst, T}
-use Rattle.std.specs.Prelude.{◌⊎◌, ◌↔◌, IsTrue}
+use Rattle.std.specs.Prelude.{◌⊎◌, ◌↔◌, IsTrue, IfSome}
 use Rattle.std.specs.List.{AllByRecursion}
 use Rattle.std.specs.Bool.{OnTrue}
 use Rattle.std.specs.Str.{bytes_eq}
@@ -15,8 +15,9 @@ use Rattle.ged_schema.specs.declared.context.Context.{Context}
 use Rattle.ged_schema.specs.declared.rule.Rule.{Rule}
 use Rattle.ged_schema.specs.Rows.{Row, as_row}
 use Rattle.ged_schema.specs.Tables.{rows, row}
-use Rattle.ged_schema.specs.Payloads.{IsOfKind, target}
-use Rattle.ged_schema.specs.Checked.{count_of, IsAtMost, CountsRight, PointsRight, AreChecked}
+use Rattle.ged_schema.specs.Payloads.{IsOfKind}
+use Rattle.ged_value.specs.Kinds.{target}
+use Rattle.ged_schema.specs.Checked.{count_of, CountsRight, PointsRight, AreChecked}
 use Rattle.ged_schema.specs.inner.Marks.{allows_one, are_simple, AreNeededMarked, AreMarkedAsNeeded, MarksOneMore}
 use Rattle.ged_schema.proofs.Numbers.{rule_stands, numbered_row}
 use Rattle.ged_schema.proofs.Runs.{count_same, count_other, IsOnlyNumber, checked_some}
@@ -125,7 +126,7 @@ needed_marked needed marks rs simple = by (bit_and marks needed == needed) refl
         (needed, simple, marked)
     by false other = tt
 
-most_right : (most : Option ℕ) (mark count : ℕ) → allows_one most ≡ true → mark ≤ 1 → (most ≡ None) ⊎ (count ≤ mark) → IsAtMost count most
+most_right : (most : Option ℕ) (mark count : ℕ) → allows_one most ≡ true → mark ≤ 1 → (most ≡ None) ⊎ (count ≤ mark) → IfSome most (λ greatest. count ≤ greatest)
 most_right None mark count one small each = tt
 most_right (Some k) mark count one small (inl any) = cc
 most_right (Some k) mark count one small (inr few) = let e : k ≡ 1 = eqb→eq k 1 (subst T (sym one) tt) in omega (arith, e, small, few)

@@ -10,7 +10,8 @@ use Rattle.ged_schema.proofs.Decided.{bool_cases, and_left, and_right}
 use Rattle.ged_schema.specs.declared.context.Context.{Context}
 use Rattle.ged_schema.specs.declared.rule.Rule.{Rule}
 use Rattle.ged_schema.specs.Rows.{Row, as_row}
-use Rattle.ged_schema.specs.Tables.{row, row_of, rows}
+use Rattle.ged_schema.specs.Tables.{row, rows}
+use Rattle.ged_schema.specs.inner.Lookups.{row_of}
 use Rattle.ged_schema.specs.Slots.{are_numbered}
 
 some_is : {X : Type 0} (x y : X) → Some x ≡ Some y → x ≡ y

@@ -9,8 +9,9 @@ use Rattle.ged_value.specs.Kinds.{takes_links}
 use Rattle.ged_value.specs.declared.kind.Kind.{Kind}
 use Rattle.ged_value.specs.declared.kind.Kind.TheVariants as kinds
 use Rattle.ged_link.specs.Links.{SomeTree}
-use Rattle.ged_schema.specs.Payloads.{target}
-use Rattle.ged_schema.specs.Checked.{IsRecordNamed, PointsRight}
+use Rattle.ged_value.specs.Kinds.{target}
+use Rattle.ged_schema.specs.Checked.{PointsRight}
+use Rattle.ged_schema.specs.inner.Lookups.{IsRecordNamed}
 
 takes_pointers : (kind : Kind) (tag : Bytes) → target kind ≡ Some tag → takes_links kind ≡ true
 unfolding target

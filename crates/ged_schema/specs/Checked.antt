@@ -1,25 +1,22 @@
 -- What the structure tables ask of a document (FamilySearch GEDCOM 7.0, "Structure Organization").
-use Rattle.std.specs.Prelude.{◌≡◌, ℕ, ◌+◌, ◌≤◌, cond, Option, Some, None, ⊤}
+use Rattle.std.specs.Prelude.{◌≡◌, ℕ, ◌+◌, ◌≤◌, cond, Option, Some, None, IfSome, ⊤}
 use Rattle.std.specs.Str.{bytes_eq}
 use Rattle.std.specs.List.{AllByRecursion}
 use Rattle.ged_line.specs.Bytes.{Bytes}
 use Rattle.ged_tree.specs.declared.owned.payload.Payload.{Payload}
 use Rattle.ged_tree.specs.declared.owned.payload.Payload.TheVariants.{Pointer}
-use Rattle.ged_tree.specs.Trees.{Structure, Trees, none, tree}
+use Rattle.ged_tree.specs.Trees.{Trees, none, tree}
 use Rattle.ged_link.specs.Links.{SomeTree}
 use Rattle.ged_schema.specs.declared.context.Context.{Context}
 use Rattle.ged_schema.specs.declared.context.Context.TheVariants.{File}
 use Rattle.ged_schema.specs.Rows.{Row}
 use Rattle.ged_schema.specs.Tables.{rows, row, context_below}
-use Rattle.ged_schema.specs.Payloads.{Fits, target}
-
--- a record with this cross-reference identifier and this tag
-abbrev pub IsRecordNamed : Bytes → Bytes → Structure → Trees → Type 0
-IsRecordNamed name tag s below = (s.xref ≡ Some name) × (s.tag ≡ tag)
+use Rattle.ged_schema.specs.Payloads.{Fits}
+use Rattle.ged_value.specs.Kinds.{target}
 
 -- where a tag is named, a pointer leads to a record of the document with that tag
 abbrev pub PointsRight : Trees → Option Bytes → Payload → Type 0
-PointsRight d (Some tag) (Pointer name) = SomeTree (IsRecordNamed name tag) d
+PointsRight d (Some tag) (Pointer name) = SomeTree (λ s below. (s.xref ≡ Some name) × (s.tag ≡ tag)) d
 PointsRight d wanted payload = ⊤
 
 -- how many of the trees side by side have the tag
@@ -27,14 +24,9 @@ abbrev pub count_of : Bytes → Trees → ℕ
 count_of tag none = 0
 count_of tag (tree s below next) = cond (bytes_eq s.tag tag) 1 0 + count_of tag next
 
--- no more than the greatest number, where there is one
-abbrev pub IsAtMost : ℕ → Option ℕ → Type 0
-IsAtMost n None = ⊤
-IsAtMost n (Some most) = n ≤ most
-
 -- as many of the trees have the row's tag as the row allows
 abbrev pub CountsRight : Trees → Row → Type 0
-CountsRight below r = (r.least ≤ count_of r.tag below) × IsAtMost (count_of r.tag below) r.most
+CountsRight below r = (r.least ≤ count_of r.tag below) × IfSome r.most (λ most. count_of r.tag below ≤ most)
 
 -- a structure with this payload, and these trees below it, is as its row asks; where there is no row nothing is asked
 abbrev pub MeetsRow : Trees → Option Row → Payload → Trees → Type 0

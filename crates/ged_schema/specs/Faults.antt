@@ -18,7 +18,8 @@ use Rattle.ged_schema.specs.declared.fault.FaultPlace.{FaultPlace}
 use Rattle.ged_schema.specs.declared.fault.SchemaAt.{SchemaAt}
 use Rattle.ged_schema.specs.Rows.{Row}
 use Rattle.ged_schema.specs.Tables.{rows, row, context_below}
-use Rattle.ged_schema.specs.Payloads.{Fits, target}
+use Rattle.ged_schema.specs.Payloads.{Fits}
+use Rattle.ged_value.specs.Kinds.{target}
 use Rattle.ged_schema.specs.Checked.{PointsRight, count_of, CountsRight, MeetsRow, AreChecked}
 use Rattle.ged_tree.specs.Places.{line_at}
 

@@ -1,6 +1,8 @@
 -- The structure tables: which tags may stand in a context, how often, with which payload, and the context below them
 -- (FamilySearch GEDCOM 7.0, "Structure Organization"). Rows and counts are those of this project's profile.
-use Rattle.std.specs.Prelude.{cond, List, [], ◌∷◌, ◌++◌, Option, Some, None}
+use Rattle.std.specs.Prelude.{List, [], ◌++◌, Option}
+use Rattle.std.specs.List.{find}
+use Rattle.std.specs.Option.{option_map_or}
 use Rattle.std.specs.Str.{bytes_eq}
 use Rattle.ged_line.specs.Bytes.{Bytes}
 use Rattle.ged_value.specs.declared.kind.Kind.TheVariants.{Nothing, Text, Free, EventFlag, Integer, Version, DateValue, DatePeriod, DateExact, Time, Age, Name, EnumAny, SexEnum, PediEnum, StatEnum, NameTypeEnum, ResnList, ToFam, ToIndi, ToSubm, ToSnote}
@@ -149,19 +151,13 @@ rows Note =
 rows Leaf = []
 rows Unchecked = []
 
--- the row of a tag among rows
-abbrev pub row_of : List Row → Bytes → Option Row
-row_of [] tag = None
-row_of (r ∷ rs) tag = cond (bytes_eq r.tag tag) (Some r) (row_of rs tag)
-
 -- the row of a tag in a context
 unfoldable pub row : Context → Bytes → Option Row
-row context tag = row_of (rows context) tag
+row context tag = find (λ r. bytes_eq r.tag tag) (rows context)
 
 -- the context below a structure with this row; where there is no row nothing is asked
 abbrev pub below_row : Option Row → Context
-below_row None = Unchecked
-below_row (Some r) = r.below
+below_row r = option_map_or (λ r. r.below) r Unchecked
 
 abbrev pub context_below : Context → Bytes → Context
 context_below context tag = below_row (row context tag)

@@ -10,8 +10,10 @@ ghost use Rattle.ged_value.specs.Kinds.{Fits as FitsGiven};
 ghost use Rattle.ged_link.specs.Links.{SomeTree};
 ghost use Rattle.ged_link.specs.Indexes.{IsIndexOf};
 ghost use Rattle.ged_link.specs.RecordTypes.{record_tag};
-ghost use Rattle.ged_schema.specs.Payloads.{IsOfKind, target};
-ghost use Rattle.ged_schema.specs.Checked.{IsRecordNamed, PointsRight};
+ghost use Rattle.ged_schema.specs.Payloads.{IsOfKind};
+ghost use Rattle.ged_value.specs.Kinds.{target};
+ghost use Rattle.ged_schema.specs.Checked.{PointsRight};
+ghost use Rattle.ged_schema.specs.inner.Lookups.{IsRecordNamed};
 
 use ged_link::{Index, PointerCursor, RecordType};
 use ged_tree::{Forest, PayloadView};
@@ -38,7 +40,7 @@ pub(crate) fn given_of<'a, F: Forest>(
 
 /// The type of the records to which pointers of a kind lead. Whether there is one is asked first, so that the type is told
 /// without a branch for each kind.
-#[tactic(auto, unfolding(crate::specs::Payloads::target))]
+#[tactic(auto, unfolding(ged_value::specs::Kinds::target))]
 #[inline(always)]
 pub(crate) fn target_type(kind: Kind) -> Option<RecordType>
     ensures { option_map record_tag result ≡ target kind }

@@ -2,7 +2,8 @@
 ghost use Rattle.std.specs.Prelude.{◌≡◌, ◌<◌, ◌≤◌, ◌+◌, ◌*◌, ◌%◌, ℕ, IfSome, MatchOption, None, Some, true, length, map, option_map, slice_get};
 ghost use Rattle.std.specs.Option.{option_copied};
 ghost use Rattle.ged_schema.specs.Rows.{Row, as_row};
-ghost use Rattle.ged_schema.specs.Tables.{row, row_of, rows as rows_of};
+ghost use Rattle.ged_schema.specs.Tables.{row, rows as rows_of};
+ghost use Rattle.ged_schema.specs.inner.Lookups.{row_of};
 ghost use Rattle.ged_schema.specs.Slots.{are_numbered, kept_number, slot_from};
 
 use crate::context::Context;

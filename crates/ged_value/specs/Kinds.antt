@@ -1,5 +1,5 @@
 -- The kinds of payloads: their words, and which payloads are of a kind (FamilySearch GEDCOM 7.0, "Data types").
-use Rattle.std.specs.Prelude.{◌≡◌, Bool, true, false, [], ◌++◌, ◌⊎◌, IsTrue, codes, ⊤}
+use Rattle.std.specs.Prelude.{◌≡◌, Bool, true, false, [], ◌++◌, ◌⊎◌, Option, Some, None, is_some, IsTrue, codes, ⊤}
 use Rattle.ged_value.specs.Words.{Bytes, is_integer}
 use Rattle.ged_value.specs.Enumerations.{sexes, pedigrees, statuses, name_types, is_of_set, is_of_any_set}
 use Rattle.ged_value.specs.Values.{ValueParts, PeriodParts, DateValueText, PeriodText}
@@ -71,16 +71,20 @@ takes_lines Text = true
 takes_lines Free = true
 takes_lines _ = false
 
+-- the tag of the records to which pointers of the kind lead
+unfoldable pub target : Kind → Option Bytes
+target ToFam = Some (codes "FAM")
+target ToIndi = Some (codes "INDI")
+target ToSubm = Some (codes "SUBM")
+target ToSnote = Some (codes "SNOTE")
+target ToSour = Some (codes "SOUR")
+target ToObje = Some (codes "OBJE")
+target kind = None
+
 -- the kinds of a pointer and of the void pointer
 abbrev pub takes_links : Kind → Bool
 takes_links Free = true
-takes_links ToFam = true
-takes_links ToIndi = true
-takes_links ToSubm = true
-takes_links ToSnote = true
-takes_links ToSour = true
-takes_links ToObje = true
-takes_links _ = false
+takes_links kind = is_some (target kind)
 
 -- the payload is of the kind
 abbrev pub Fits : Kind → Given → Type 0

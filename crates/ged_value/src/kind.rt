@@ -204,6 +204,7 @@ fn takes_lines(kind: Kind) -> bool
     matches!(kind, Kind::Text | Kind::Free)
 }
 
+#[tactic(auto, unfolding(crate::specs::Kinds::target))]
 fn takes_links(kind: Kind) -> bool
     ensures { result ≡ tests_links kind }
 {

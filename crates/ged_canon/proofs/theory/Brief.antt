@@ -16,14 +16,15 @@ use Rattle.ged_value.specs.declared.kind.Kind.{Kind}
 use Rattle.ged_value.specs.declared.kind.Kind.TheVariants.{DateValue, DatePeriod}
 use Rattle.ged_value.specs.Words.{words_of, joined}
 use Rattle.ged_value.specs.Default.{default_word, is_other}
-use Rattle.ged_value.specs.Zeros.{begins_with_digit, has_leading_zero, trim_zeros}
+use Rattle.ged_value.specs.Zeros.{begins_with_digit, has_leading_zero, trim_zeros, LeavesOutZero}
 use Rattle.ged_value.specs.Kinds.{FitsLine}
 use Rattle.ged_value.proofs.CallerLemmas.{value_leaving_out, period_leaving_out, fitting_without_zeros}
 use Rattle.ged_schema.specs.Rows.{Row}
 use Rattle.ged_schema.specs.Payloads.{Fits}
 use Rattle.ged_canon.specs.declared.edition.Edition.{Edition}
 use Rattle.ged_canon.specs.declared.edition.Edition.TheVariants.{First, Second}
-use Rattle.ged_canon.specs.Steps.{has_calendar, is_dated, is_numeric, Shortened, LeavesZero, calendar, leading_zero, Respelt, respelt, Chain, done, then}
+use Rattle.ged_canon.specs.Steps.{has_calendar, Shortened, calendar, leading_zero, Respelt, respelt, Chain, done, then}
+use Rattle.ged_canon.specs.inner.StepParts.{is_dated, is_numeric}
 use Rattle.ged_canon.specs.Normal.{IsBrief, IsBriefPayload}
 use Rattle.ged_canon.specs.inner.Working.{kept_words, is_second, trimmed_words, brief_words, brief_line, brief}
 use Rattle.ged_canon.proofs.theory.Texts.{same_bytes, equal_bytes}
@@ -183,7 +184,7 @@ module _ (edition : Edition) (r : Row) where
             let e' : words_of line ≡ front ++ (48 ∷ l.0 ∷ l.1) ∷ back = e ∙ ap (λ v. front ++ v ∷ back) l.2 in
             let s = (fitting_without_zeros r.kind numeric).one_left_out line (front ++ (l.0 ∷ l.1) ∷ back) fits (record { before = front; digit = l.0; rest = l.1; after = back; digit_follows = l.4; old_words = e'; new_words = refl }) in
             let t = f (joined (front ++ (l.0 ∷ l.1) ∷ back)) (s.0 ∙ ap (λ v. front ++ v ∷ back) (sym l.3)) s.1 in
-            let zero : LeavesZero line (joined (front ++ (l.0 ∷ l.1) ∷ back)) = record { before = front; digit = l.0; rest = l.1; after = back; digit_follows = l.4; old_words = e'; new_words = s.0 } in
+            let zero : LeavesOutZero (words_of line) (words_of (joined (front ++ (l.0 ∷ l.1) ∷ back))) = record { before = front; digit = l.0; rest = l.1; after = back; digit_follows = l.4; old_words = e'; new_words = s.0 } in
             (t.0, then (record { out = leading_zero second numeric zero; longer_fits = fits; shorter_fits = s.1 }) t.1, t.2, t.3)
 
     trim_words : (front ws : List Bytes) (line : Bytes) → words_of line ≡ front ++ ws → FitsLine r.kind line → Reaches edition r line (front ++ map trim_zeros ws)

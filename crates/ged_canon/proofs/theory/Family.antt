@@ -20,7 +20,8 @@ use Rattle.ged_schema.specs.declared.context.Context.{Context}
 use Rattle.ged_schema.specs.declared.context.Context.TheVariants.{File}
 use Rattle.ged_schema.specs.Tables.{row, rows, context_below}
 use Rattle.ged_canon.specs.declared.edition.Edition.TheVariants.{First}
-use Rattle.ged_canon.specs.Steps.{calendar, Respelt, respelt, Change, put_in, here, new_name, renamed, news, Renamed, rename, done, Equivalent}
+use Rattle.ged_canon.specs.Steps.{calendar, Respelt, respelt, Change, put_in, here, new_name, renamed, Renamed, rename, done, Equivalent}
+use Rattle.ged_canon.specs.inner.StepParts.{news}
 use Rattle.ged_canon.specs.Normal.{tags, Normal, IsNormalForm}
 use Rattle.ged_canon.specs.inner.Working.{falls}
 use Rattle.ged_canon.proofs.theory.Used.{is_named-from}

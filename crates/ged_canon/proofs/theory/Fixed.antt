@@ -11,7 +11,8 @@ use Rattle.ged_schema.specs.declared.context.Context.{Context}
 use Rattle.ged_schema.specs.declared.context.Context.TheVariants.{File}
 use Rattle.ged_schema.specs.Tables.{row, context_below}
 use Rattle.ged_canon.specs.declared.edition.Edition.{Edition}
-use Rattle.ged_canon.specs.Steps.{renamed_xref, renamed_payload, renamed, with_payload}
+use Rattle.ged_canon.specs.Steps.{renamed_payload, renamed, with_payload}
+use Rattle.ged_canon.specs.inner.StepParts.{renamed_xref}
 use Rattle.ged_canon.specs.Normal.{InOrder, tags, AreNormal, AreNumbered, Normal}
 use Rattle.ged_canon.specs.inner.Working.{names, is_named, used_xref, used_trees, used_document, brief_structure, sorted, sorted_document, number_of, numbered_document, canon}
 use Rattle.ged_canon.proofs.theory.Texts.{same_bytes, equal_bytes}

@@ -1,6 +1,6 @@
 -- A step keeps a document resolved, and checked.
 use Rattle.std.proofs.Common.{◌≡◌, ◌≢◌, ℕ, ◌+◌, ◌≤◌, cond, List, [], ◌∷◌, map, Option, Some, None, refl, sym, ap, ◌∙◌, subst, inl, inr, ⊎_elim, arith}
-use Rattle.std.specs.Prelude.{bytes_eq}
+use Rattle.std.specs.Prelude.{bytes_eq, IfSome}
 use Rattle.std.specs.List.{AllByRecursion}
 use Rattle.ged_line.specs.Bytes.{Bytes}
 use Rattle.ged_tree.specs.declared.owned.payload.Payload.{Payload}
@@ -12,10 +12,13 @@ use Rattle.ged_schema.specs.declared.context.Context.{Context}
 use Rattle.ged_schema.specs.declared.context.Context.TheVariants.{File}
 use Rattle.ged_schema.specs.Rows.{Row}
 use Rattle.ged_schema.specs.Tables.{rows, row, context_below}
-use Rattle.ged_schema.specs.Payloads.{target, IsOfKind}
-use Rattle.ged_schema.specs.Checked.{IsRecordNamed, PointsRight, count_of, IsAtMost, CountsRight, MeetsRow, AreChecked, Checked}
+use Rattle.ged_schema.specs.Payloads.{IsOfKind}
+use Rattle.ged_value.specs.Kinds.{target}
+use Rattle.ged_schema.specs.Checked.{PointsRight, count_of, CountsRight, MeetsRow, AreChecked, Checked}
+use Rattle.ged_schema.specs.inner.Lookups.{IsRecordNamed}
 use Rattle.ged_canon.specs.declared.edition.Edition.{Edition}
-use Rattle.ged_canon.specs.Steps.{Respelt, respelt, Change, exchange, leave_out, put_in, Somewhere, here, under, later, new_name, renamed_xref, renamed_payload, renamed, Renamed, Gains, gains, after, GainsName, Move, change, rename, gain, lose, Step}
+use Rattle.ged_canon.specs.Steps.{Respelt, respelt, Change, exchange, leave_out, put_in, Somewhere, here, under, later, new_name, renamed_payload, renamed, Renamed, Gains, gains, after, GainsName, Move, change, rename, gain, lose, Step}
+use Rattle.ged_canon.specs.inner.StepParts.{renamed_xref}
 use Rattle.ged_canon.proofs.theory.Fixed.{is_named-true}
 use Rattle.ged_canon.proofs.theory.Moves.{somewhere_names}
 use Rattle.ged_canon.proofs.theory.Bare.{BareBelow, document_bare}
@@ -112,7 +115,7 @@ step_resolved edition d e h = by h.move
 
 counts_kept : (below below' : Trees) → ((tag : Bytes) → count_of tag below ≡ count_of tag below') → (rs : List Row) → AllByRecursion (CountsRight below) rs → AllByRecursion (CountsRight below') rs
 counts_kept below below' e [] h = tt
-counts_kept below below' e (r ∷ rs) h = ((subst (λ n. r.least ≤ n) (e r.tag) h.0.0, subst (λ n. IsAtMost n r.most) (e r.tag) h.0.1), counts_kept below below' e rs h.1)
+counts_kept below below' e (r ∷ rs) h = ((subst (λ n. r.least ≤ n) (e r.tag) h.0.0, subst (λ n. IfSome r.most (λ most. n ≤ most)) (e r.tag) h.0.1), counts_kept below below' e rs h.1)
 
 row_kept : (d : Trees) (r : Option Row) (p : Payload) (below below' : Trees) → ((tag : Bytes) → count_of tag below ≡ count_of tag below') → MeetsRow d r p below → MeetsRow d r p below'
 row_kept d None p below below' e h = tt

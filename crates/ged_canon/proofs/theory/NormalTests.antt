@@ -13,7 +13,7 @@ use Rattle.ged_schema.specs.declared.context.Context.{Context}
 use Rattle.ged_schema.specs.Rows.{Row}
 use Rattle.ged_schema.specs.Tables.{row, context_below}
 use Rattle.ged_canon.specs.declared.edition.Edition.TheVariants.{First}
-use Rattle.ged_canon.specs.Steps.{is_dated}
+use Rattle.ged_canon.specs.inner.StepParts.{is_dated}
 use Rattle.ged_canon.specs.Normal.{IsBrief, IsBriefPayload, tags, InOrder, AreNormal}
 use Rattle.ged_canon.specs.inner.Working.{falls}
 use Rattle.ged_canon.proofs.theory.Texts.{same_bytes}

@@ -12,7 +12,8 @@ use Rattle.ged_schema.specs.Rows.{Row}
 use Rattle.ged_schema.specs.Tables.{row, context_below}
 use Rattle.ged_schema.specs.Unlisted.{Unlisted}
 use Rattle.ged_canon.specs.declared.edition.Edition.{Edition}
-use Rattle.ged_canon.specs.Steps.{Respelt, respelt, with_payload, Change, exchange, leave_out, put_in, Somewhere, here, under, later, new_name, renamed_xref, renamed_payload, renamed_structure, renamed, Gains, gains, after, GainsName, Move, change, rename, gain, lose, Step}
+use Rattle.ged_canon.specs.Steps.{Respelt, respelt, with_payload, Change, exchange, leave_out, put_in, Somewhere, here, under, later, new_name, renamed_payload, renamed_structure, renamed, Gains, gains, after, GainsName, Move, change, rename, gain, lose, Step}
+use Rattle.ged_canon.specs.inner.StepParts.{renamed_xref}
 use Rattle.ged_schema.specs.Profiles.{NoNotice}
 use Rattle.ged_canon.proofs.theory.Fixed.{with_others}
 use Rattle.ged_canon.proofs.theory.Used.{none_some, some_some, with_xref_here}

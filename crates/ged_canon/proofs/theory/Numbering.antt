@@ -17,7 +17,8 @@ use Rattle.ged_schema.specs.declared.context.Context.{Context}
 use Rattle.ged_schema.specs.declared.context.Context.TheVariants.{File}
 use Rattle.ged_schema.specs.Tables.{context_below}
 use Rattle.ged_canon.specs.declared.edition.Edition.{Edition}
-use Rattle.ged_canon.specs.Steps.{Step, rename, lose, Chain, done, then, new_name, olds, news, Renamed, renamed_xref, renamed_payload, renamed_structure, renamed, with_identifier, Gains, gains, after}
+use Rattle.ged_canon.specs.Steps.{Step, rename, lose, Chain, done, then, new_name, Renamed, renamed_payload, renamed_structure, renamed, with_identifier, Gains, gains, after}
+use Rattle.ged_canon.specs.inner.StepParts.{olds, news, renamed_xref}
 use Rattle.ged_canon.specs.Normal.{numbered}
 use Rattle.ged_canon.specs.inner.Working.{falls, put, is_named, used_xref, used_structure, used_trees, used_document, brief_structure, sorted, sorted_document, number_of, numbered_document}
 use Rattle.ged_canon.proofs.theory.Texts.{same_bytes, equal_bytes}
@@ -315,9 +316,9 @@ numbering : (s : Trees) → Resolved s → Renamed s (numbered_document s)
 numbering s r = record {
   pairs = paired 1 (xrefs s);
   olds_are_xrefs = paired_olds 1 (xrefs s);
-  olds_distinct = subst AreDistinct (sym (paired_olds 1 (xrefs s))) r.distinct;
+  olds_distinct = r.distinct;
   news_distinct = paired_distinct 1 (xrefs s);
-  no_other_names_a_new = λ name h k. subst (IsAmong name) (sym (paired_olds 1 (xrefs s))) (r.found name h);
+  no_other_names_a_new = λ name h k. r.found name h;
   all_at_once = ap (λ f. renamed f s) (λ i name. paired_is 1 (xrefs s) name i);
 }
 

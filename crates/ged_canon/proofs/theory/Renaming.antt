@@ -13,7 +13,8 @@ use Rattle.ged_schema.specs.declared.context.Context.TheVariants.{File}
 use Rattle.ged_schema.specs.Rows.{Row}
 use Rattle.ged_schema.specs.Tables.{row, context_below}
 use Rattle.ged_canon.specs.declared.edition.Edition.{Edition}
-use Rattle.ged_canon.specs.Steps.{new_name, renamed_xref, renamed_payload, renamed_structure, renamed, olds, news, Renamed, Gains, gains, after, GainsName}
+use Rattle.ged_canon.specs.Steps.{new_name, renamed_payload, renamed_structure, renamed, Renamed, Gains, gains, after, GainsName}
+use Rattle.ged_canon.specs.inner.StepParts.{renamed_xref, olds, news}
 use Rattle.ged_canon.specs.inner.Working.{put, names, is_named, used_xref, used_structure, used_trees, used_document, brief, brief_structure, sorted, sorted_document, number_of, numbered_document, canon}
 use Rattle.ged_canon.proofs.theory.Texts.{same_bytes, equal_bytes, other_bytes}
 use Rattle.ged_canon.proofs.theory.Sorting.{put_renamed}
@@ -211,7 +212,7 @@ module _ (d e : Trees) (r : Renamed d e) where
       by (inr s) (inr t) = absurd (t.0 old_b)
       by (inr s) (inl t) = absurd (⊎_elim
           (λ k. s.0 (subst (IsAmong a) (sym r.olds_are_xrefs) k))
-          (λ k. s.0 (r.no_other_names_a_new a k (subst (λ n. IsAmong n (news r.pairs)) (sym t.3 ∙ sym eq ∙ s.1) (new_among r.pairs t.0 t.1))))
+          (λ k. s.0 (subst (IsAmong a) (sym r.olds_are_xrefs) (r.no_other_names_a_new a k (subst (λ n. IsAmong n (news r.pairs)) (sym t.3 ∙ sym eq ∙ s.1) (new_among r.pairs t.0 t.1)))))
           h)
 
   pub keeps_apart : KeepsApart (new_name r.pairs) d

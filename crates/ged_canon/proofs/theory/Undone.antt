@@ -9,7 +9,8 @@ use Rattle.ged_schema.specs.declared.context.Context.{Context}
 use Rattle.ged_schema.specs.declared.context.Context.TheVariants.{File}
 use Rattle.ged_schema.specs.Tables.{context_below}
 use Rattle.ged_canon.specs.declared.edition.Edition.{Edition}
-use Rattle.ged_canon.specs.Steps.{Change, exchange, leave_out, put_in, Somewhere, here, under, later, new_name, renamed_payload, renamed, olds, news, Renamed, Move, change, rename, gain, lose, Step}
+use Rattle.ged_canon.specs.Steps.{Change, exchange, leave_out, put_in, Somewhere, here, under, later, new_name, renamed_payload, renamed, Renamed, Move, change, rename, gain, lose, Step}
+use Rattle.ged_canon.specs.inner.StepParts.{olds, news}
 use Rattle.ged_canon.proofs.theory.Texts.{same_bytes, other_bytes}
 use Rattle.ged_canon.proofs.theory.Fixed.{trees_alone}
 use Rattle.ged_canon.proofs.theory.Bare.{BareBelow, mentions_has, document_bare}
@@ -74,15 +75,18 @@ module _ (d e : Trees) (bare : BareBelow d) (r : Renamed d e) where
       paired p k (inr t) = absurd (t.0 (subst (IsAmong p.1) (sym (turned_olds r.pairs)) (new_among r.pairs p k)))
 
       stays : (IsAmong name (olds r.pairs) → ⊥) → ((q : Bytes × Bytes) × IsAmong q (turned r.pairs) × (q.0 ≡ name) × (new_name (turned r.pairs) name ≡ q.1)) ⊎ ((IsAmong name (olds (turned r.pairs)) → ⊥) × (new_name (turned r.pairs) name ≡ name)) → new_name (turned r.pairs) name ≡ name
-      stays absent (inl t) = absurd (absent (⊎_elim (λ x. subst (IsAmong name) (sym r.olds_are_xrefs) x) (λ k. r.no_other_names_a_new name k (subst (λ n. IsAmong n (news r.pairs)) t.2 (new_among r.pairs ((t.0).1, (t.0).0) (turned_among r.pairs t.0 t.1)))) h))
+      stays absent (inl t) = absurd (absent (subst (IsAmong name) (sym r.olds_are_xrefs) (⊎_elim (λ x. x) (λ k. r.no_other_names_a_new name k (subst (λ n. IsAmong n (news r.pairs)) t.2 (new_among r.pairs ((t.0).1, (t.0).0) (turned_among r.pairs t.0 t.1)))) h)))
       stays absent (inr t) = t.1
 
       by : ((p : Bytes × Bytes) × IsAmong p r.pairs × (p.0 ≡ name) × (new_name r.pairs name ≡ p.1)) ⊎ ((IsAmong name (olds r.pairs) → ⊥) × (new_name r.pairs name ≡ name)) → new_name (turned r.pairs) (new_name r.pairs name) ≡ name
       by (inl s) = ap (new_name (turned r.pairs)) s.3 ∙ paired s.0 s.1 (new_name_cases (turned r.pairs) (s.0).1) ∙ s.2
       by (inr s) = ap (new_name (turned r.pairs)) s.1 ∙ stays s.0 (new_name_cases (turned r.pairs) name)
 
+  olds_apart : AreDistinct (olds r.pairs)
+  olds_apart = subst AreDistinct (sym r.olds_are_xrefs) r.olds_distinct
+
   pub new_xrefs : xrefs e ≡ news r.pairs
-  new_xrefs = ap xrefs r.all_at_once ∙ xrefs_renamed (new_name r.pairs) d ∙ ap (map (new_name r.pairs)) (sym r.olds_are_xrefs) ∙ all_new r.pairs r.olds_distinct
+  new_xrefs = ap xrefs r.all_at_once ∙ xrefs_renamed (new_name r.pairs) d ∙ ap (map (new_name r.pairs)) (sym r.olds_are_xrefs) ∙ all_new r.pairs olds_apart
 
   no_other : (name : Bytes) → IsNamed e name → IsAmong name (olds r.pairs) → IsAmong name (news r.pairs)
   no_other name h k = by (names_was (new_name r.pairs) name d (subst (λ x. IsNamed x name) r.all_at_once h))
@@ -97,9 +101,9 @@ module _ (d e : Trees) (bare : BareBelow d) (r : Renamed d e) where
   renamed_back = record {
     pairs = turned r.pairs;
     olds_are_xrefs = turned_olds r.pairs ∙ sym new_xrefs;
-    olds_distinct = subst AreDistinct (sym (turned_olds r.pairs)) r.news_distinct;
-    news_distinct = subst AreDistinct (sym (turned_news r.pairs)) r.olds_distinct;
-    no_other_names_a_new = λ name h k. subst (IsAmong name) (sym (turned_olds r.pairs)) (no_other name h (subst (IsAmong name) (turned_news r.pairs) k));
+    olds_distinct = subst AreDistinct (sym new_xrefs) r.news_distinct;
+    news_distinct = subst AreDistinct (sym (turned_news r.pairs)) olds_apart;
+    no_other_names_a_new = λ name h k. subst (IsAmong name) (sym new_xrefs) (no_other name h (subst (IsAmong name) (turned_news r.pairs) k));
     all_at_once = sym (ap (renamed (new_name (turned r.pairs))) r.all_at_once ∙ renamed_twice (new_name r.pairs) (new_name (turned r.pairs)) (λ n. n) d (λ name m. given_back name (mentions_has d name bare m)) ∙ trees_alone (λ n. n) (λ n. refl) d);
   }
 

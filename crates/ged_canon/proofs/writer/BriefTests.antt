@@ -10,7 +10,7 @@ use Rattle.ged_value.specs.Default.{default_word}
 use Rattle.ged_value.specs.Zeros.{has_leading_zero, trim_zeros}
 use Rattle.ged_schema.specs.Rows.{Row}
 use Rattle.ged_canon.specs.declared.edition.Edition.{Edition}
-use Rattle.ged_canon.specs.Steps.{is_dated, is_numeric}
+use Rattle.ged_canon.specs.inner.StepParts.{is_dated, is_numeric}
 use Rattle.ged_canon.specs.Normal.{IsBrief}
 use Rattle.ged_canon.specs.inner.Working.{is_second, is_brief_word}
 use Rattle.ged_canon.proofs.theory.Texts.{same_bytes, equal_bytes, other_bytes}

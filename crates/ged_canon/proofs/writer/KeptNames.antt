@@ -9,7 +9,7 @@ use Rattle.ged_schema.specs.declared.context.Context.TheVariants.{File}
 use Rattle.ged_schema.specs.Checked.{Checked}
 use Rattle.ged_canon.specs.declared.edition.Edition.{Edition}
 use Rattle.ged_canon.specs.declared.writer.siblings.Sibling.{Sibling}
-use Rattle.ged_canon.specs.Steps.{renamed_xref}
+use Rattle.ged_canon.specs.inner.StepParts.{renamed_xref}
 use Rattle.ged_canon.specs.Tidy.{IsTidyForm}
 use Rattle.ged_canon.specs.CanonText.{CanonText}
 use Rattle.ged_canon.specs.inner.Working.{each_used, used_xref, used_trees, sorted_document, number_of, IsNumberingOf}

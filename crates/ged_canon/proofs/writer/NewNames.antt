@@ -7,7 +7,8 @@ use Rattle.ged_tree.specs.Records.{record_trees}
 use Rattle.ged_tree.specs.declared.owned.node.RecordNode.{RecordNode}
 use Rattle.ged_link.specs.Links.{IsAmong}
 use Rattle.ged_canon.specs.Normal.{numbered}
-use Rattle.ged_canon.specs.Steps.{renamed_xref, renamed}
+use Rattle.ged_canon.specs.Steps.{renamed}
+use Rattle.ged_canon.specs.inner.StepParts.{renamed_xref}
 use Rattle.ged_canon.specs.inner.Working.{number_among, number_of, renamed_tree, renamed_record}
 use Rattle.ged_canon.proofs.theory.Texts.{other_bytes}
 

@@ -23,7 +23,8 @@ use Rattle.ged_tree.specs.inner.Walks.{HasLinesAt}
 use Rattle.ged_schema.specs.Rows.{Row}
 use Rattle.ged_canon.specs.declared.edition.Edition.{Edition}
 use Rattle.ged_canon.specs.declared.edition.Edition.TheVariants.{First, Second}
-use Rattle.ged_canon.specs.Steps.{is_dated, is_numeric, renamed_payload, with_identifier}
+use Rattle.ged_canon.specs.Steps.{renamed_payload, with_identifier}
+use Rattle.ged_canon.specs.inner.StepParts.{is_dated, is_numeric}
 use Rattle.ged_canon.specs.Normal.{IsBriefPayload}
 use Rattle.ged_canon.specs.inner.Working.{is_second, may_shorten, brief, brief_line}
 use Rattle.ged_canon.proofs.theory.Brief.{brief_same, brief_payload_same, brief_anyway}

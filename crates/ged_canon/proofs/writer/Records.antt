@@ -19,7 +19,8 @@ use Rattle.ged_schema.specs.Tables.{row, context_below}
 use Rattle.ged_schema.specs.Checked.{Checked}
 use Rattle.ged_canon.specs.declared.edition.Edition.{Edition}
 use Rattle.ged_canon.specs.declared.writer.siblings.Sibling.{Sibling}
-use Rattle.ged_canon.specs.Steps.{renamed_xref, renamed_structure, renamed}
+use Rattle.ged_canon.specs.Steps.{renamed_structure, renamed}
+use Rattle.ged_canon.specs.inner.StepParts.{renamed_xref}
 use Rattle.ged_canon.specs.Normal.{numbered, IsNormalForm}
 use Rattle.ged_canon.specs.CanonText.{CanonText}
 use Rattle.ged_canon.specs.inner.Working.{is_named, used_xref, used_structure, used_trees, used_document, brief_structure, sorted, sorted_document, number_among, number_of, canon}

@@ -1,7 +1,7 @@
 use Rattle.std.proofs.Common.{◌≡◌, ◌∙◌, ap, sym, Some}
 use Rattle.std.specs.Prelude.{option_map}
 use Rattle.ged_link.specs.RecordTypes.{record_tag}
-use Rattle.ged_schema.specs.Payloads.{target}
+use Rattle.ged_value.specs.Kinds.{target}
 use Rattle.ged_schema.proofs.Pointing.{pointer_right}
 use Rattle.ged_schema.proofs.quick_check.is_pointer_right.Goals as goal
 

@@ -1,7 +1,7 @@
 use Rattle.std.proofs.Common.{arith, refl, sym, ◌∙◌, ◌≡◌, None, ap, map, slice_index}
 use Rattle.ged_schema.specs.declared.slots.TheConstants.{SLOTS}
 use Rattle.ged_schema.specs.Rows.{as_row}
-use Rattle.ged_schema.specs.Tables.{row_of}
+use Rattle.ged_schema.specs.inner.Lookups.{row_of}
 use Rattle.ged_schema.specs.Slots.{slot_from, kept_number}
 use Rattle.ged_schema.proofs.Numbers.{IsLookedUp, inside_rows, kept_row, other_row, no_row, only_number, never_only}
 use Rattle.ged_schema.proofs.slots.number_among.Goals as goal

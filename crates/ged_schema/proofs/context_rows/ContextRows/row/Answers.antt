@@ -1,6 +1,6 @@
 use Rattle.std.proofs.Common.{List, ◌∙◌, ap}
 use Rattle.ged_schema.specs.Rows.{Row}
-use Rattle.ged_schema.specs.Tables.{row_of}
+use Rattle.ged_schema.specs.inner.Lookups.{row_of}
 use Rattle.ged_schema.proofs.context_rows.ContextRows.row.Goals as goal
 
 pub returns : goal.returns
