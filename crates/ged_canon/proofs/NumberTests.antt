@@ -8,7 +8,8 @@ use Rattle.std.proofs.lemmas.Fmt.{decimal-digits_of}
 use Rattle.ged_line.specs.Bytes.{Bytes}
 use Rattle.ged_tree.specs.Trees.{Structure, Trees, none, tree, records_of}
 use Rattle.ged_tree.specs.Documents.{is_document}
-use Rattle.ged_link.specs.Links.{IsAmong, with_xref, xrefs, IsNamed, identifiers}
+use Rattle.ged_link.specs.Links.{IsAmong, xrefs, IsNamed, identifiers}
+use Rattle.ged_link.specs.inner.Identifiers.{with_xref}
 use Rattle.ged_schema.specs.declared.context.Context.TheVariants.{File}
 use Rattle.ged_canon.specs.declared.edition.Edition.{Edition}
 use Rattle.ged_canon.specs.Normal.{InOrder, tags, AreNormal, AreNumbered, numbered, Normal}

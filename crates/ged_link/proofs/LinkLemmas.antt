@@ -9,9 +9,8 @@ use Rattle.ged_tree.specs.Trees.{Structure, Trees, none, tree, trees_count}
 use Rattle.ged_tree.specs.Documents.{is_document, are_at, is_structure_at, is_xref_at}
 use Rattle.ged_tree.specs.Places.{structure_at}
 use Rattle.ged_tree.specs.Runs.{trees_between, IsRun}
-use Rattle.ged_tree.specs.declared.owned.payload.Payload.{Payload}
-use Rattle.ged_tree.specs.declared.owned.payload.Payload.TheVariants.{Void, Pointer, Text}
-use Rattle.ged_link.specs.Links.{SomeTree, IsAmong, AreDistinct, with_xref, xrefs, Names, IsNamed}
+use Rattle.ged_link.specs.Links.{SomeTree, IsAmong, AreDistinct, xrefs, IsNamed}
+use Rattle.ged_link.specs.inner.Identifiers.{with_xref}
 use Rattle.ged_link.specs.LinkFaults.{HasXref, HasPointer, IsRepeated}
 use Rattle.ged_link.proofs.PlaceCases.{place_cases, at_first, at_below, at_next, in_run}
 
@@ -52,27 +51,17 @@ unnamed_run d l p q r run e i h k =
     let within : i < trees_count t = omega (arith, run.fills, h, k) in
     rw (h, in_run t d p q i refl run within) (unnamed l t i e within)
 
-has_names : (p : Payload) (name : Bytes) → Names p name → p ≡ Pointer name
-has_names Void name h = absurd h
-has_names (Pointer target) name h = ap Pointer h
-has_names (Text lines) name h = absurd h
-
-names_has : (p : Payload) (name : Bytes) → p ≡ Pointer name → Names p name
-names_has Void name h = cc
-names_has (Pointer target) name h = cc
-names_has (Text lines) name h = cc
-
 -- what is named is named at some place
 pub named_at : (t : Trees) (name : Bytes) → IsNamed t name → (place : ℕ) × HasPointer t place name
 named_at none name h = absurd h
-named_at (tree s b n) name (inl here) = (0, (omega arith, rw (at_first s b n) (has_names s.payload name here)))
+named_at (tree s b n) name (inl here) = (0, (omega arith, rw (at_first s b n) here))
 named_at (tree s b n) name (inr (inl below)) = let h = named_at b name below in (1 + h.0, (omega (arith, h.1.0), rw (at_below s b n h.0 h.1.0) h.1.1))
 named_at (tree s b n) name (inr (inr next)) = let h = named_at n name next in (1 + trees_count b + h.0, (omega (arith, h.1.0), rw (at_next s b n h.0) h.1.1))
 
 pub at_named : (t : Trees) (place : ℕ) (name : Bytes) → HasPointer t place name → IsNamed t name
 at_named none place name h = absurd (omega (arith, h.0))
 at_named (tree s b n) place name h = elim (place_cases s b n place h.0) [
-  | inl first ↦ inl (names_has s.payload name (rw (first, at_first s b n) at h.1))
+  | inl first ↦ inl (rw (first, at_first s b n) at h.1)
   | inr (inl w) ↦ inr (inl (at_named b w.0 name (w.1, rw (w.2, at_below s b n w.0 w.1) at h.1)))
   | inr (inr w) ↦ inr (inr (at_named n w.0 name (w.1, rw (w.2, at_next s b n w.0) at h.1)))
 ]

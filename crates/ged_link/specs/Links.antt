@@ -1,9 +1,9 @@
 -- Cross-references: the identifiers that records have, and the pointers that name them (FamilySearch GEDCOM 7.0, "Lines").
-use Rattle.std.specs.Prelude.{◌≡◌, ℕ, List, [], ◌∷◌, Option, Some, None, ◌⊎◌, ⊤, slice_get}
+use Rattle.std.specs.Prelude.{◌≡◌, ℕ, List, [], ◌∷◌, ◌++◌, Option, Some, ◌⊎◌, ⊤, slice_get}
+use Rattle.std.specs.Option.{option_to_list}
 use Rattle.ged_line.specs.Bytes.{Bytes}
 use Rattle.ged_tree.specs.Trees.{Structure, Trees, none, tree, records_of}
-use Rattle.ged_tree.specs.declared.owned.payload.Payload.{Payload}
-use Rattle.ged_tree.specs.declared.owned.payload.Payload.TheVariants.{Void, Pointer, Text}
+use Rattle.ged_tree.specs.declared.owned.payload.Payload.TheVariants.{Pointer}
 
 -- one of them has P
 abbrev pub SomeIn : {X : Type 0} → (X → Type 0) → List X → Type 0
@@ -25,24 +25,14 @@ SomeTree P none = ⊥
 SomeTree P (tree s below next) = P s below ⊎ SomeTree P next
 
 -- the identifiers of trees side by side; of a document, those of its records
-abbrev pub with_xref : Option Bytes → List Bytes → List Bytes
-with_xref None names = names
-with_xref (Some name) names = name ∷ names
-
 abbrev pub xrefs : Trees → List Bytes
 xrefs none = []
-xrefs (tree s below next) = with_xref s.xref (xrefs next)
-
--- a pointer with this name
-abbrev pub Names : Payload → Bytes → Type 0
-Names Void name = ⊥
-Names (Pointer target) name = target ≡ name
-Names (Text lines) name = ⊥
+xrefs (tree s below next) = option_to_list s.xref ++ xrefs next
 
 -- some pointer, at any depth, has this name
 abbrev pub IsNamed : Trees → Bytes → Type 0
 IsNamed none name = ⊥
-IsNamed (tree s below next) name = Names s.payload name ⊎ (IsNamed below name ⊎ IsNamed next name)
+IsNamed (tree s below next) name = (s.payload ≡ Pointer name) ⊎ (IsNamed below name ⊎ IsNamed next name)
 
 -- the identifiers are distinct, and each pointer names one of them
 pub record Resolved (d : Trees) : Type 0 where

@@ -1,3 +1,4 @@
+pub mod Identifiers
 pub mod Indexes
 pub mod Keys
 pub mod Layout

@@ -5,7 +5,8 @@ use Rattle.ged_line.specs.Bytes.{Bytes}
 use Rattle.ged_line.specs.Names.{is_xref, is_tag}
 use Rattle.ged_tree.specs.Trees.{Structure, Trees, none, tree}
 use Rattle.ged_tree.specs.Documents.{is_document, is_xref_at, is_payload_at, is_structure_at, are_at}
-use Rattle.ged_link.specs.Links.{IsAmong, xrefs, Names, IsNamed}
+use Rattle.ged_link.specs.Links.{IsAmong, xrefs, IsNamed}
+use Rattle.ged_link.specs.inner.Identifiers.{Names}
 use Rattle.ged_schema.specs.declared.context.Context.{Context}
 use Rattle.ged_schema.specs.declared.context.Context.TheVariants.{File}
 use Rattle.ged_schema.specs.Tables.{context_below}

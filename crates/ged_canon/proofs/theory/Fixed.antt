@@ -6,7 +6,8 @@ use Rattle.ged_line.specs.Bytes.{Bytes}
 use Rattle.ged_tree.specs.declared.owned.payload.Payload.{Payload}
 use Rattle.ged_tree.specs.declared.owned.payload.Payload.TheVariants.{Void, Pointer, Text}
 use Rattle.ged_tree.specs.Trees.{Trees, none, tree, records_of}
-use Rattle.ged_link.specs.Links.{IsAmong, with_xref, xrefs, Names, IsNamed}
+use Rattle.ged_link.specs.Links.{IsAmong, xrefs, IsNamed}
+use Rattle.ged_link.specs.inner.Identifiers.{with_xref, Names}
 use Rattle.ged_schema.specs.declared.context.Context.{Context}
 use Rattle.ged_schema.specs.declared.context.Context.TheVariants.{File}
 use Rattle.ged_schema.specs.Tables.{row, context_below}
@@ -22,9 +23,7 @@ use Rattle.ged_canon.proofs.theory.Brief.{brief_payload_same}
 -- Use.
 
 names-true : (p : Payload) (name : Bytes) → Names p name → names p name ≡ true
-names-true Void name h = absurd h
-names-true (Pointer target) name h = same_bytes target name h
-names-true (Text lines) name h = absurd h
+names-true p name h = ap (λ q. names q name) h ∙ same_bytes name name refl
 
 pub is_named-true : (xs : Trees) (name : Bytes) → IsNamed xs name → is_named xs name ≡ true
 is_named-true none name h = absurd h

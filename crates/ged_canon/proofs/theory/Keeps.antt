@@ -6,7 +6,8 @@ use Rattle.ged_line.specs.Bytes.{Bytes}
 use Rattle.ged_tree.specs.declared.owned.payload.Payload.{Payload}
 use Rattle.ged_tree.specs.declared.owned.payload.Payload.TheVariants.{Void, Pointer, Text}
 use Rattle.ged_tree.specs.Trees.{Trees, none, tree}
-use Rattle.ged_link.specs.Links.{SomeTree, IsAmong, AreDistinct, with_xref, xrefs, Names, IsNamed, Resolved}
+use Rattle.ged_link.specs.Links.{SomeTree, IsAmong, AreDistinct, xrefs, IsNamed, Resolved}
+use Rattle.ged_link.specs.inner.Identifiers.{with_xref, Names}
 use Rattle.ged_value.specs.declared.kind.Kind.{Kind}
 use Rattle.ged_schema.specs.declared.context.Context.{Context}
 use Rattle.ged_schema.specs.declared.context.Context.TheVariants.{File}

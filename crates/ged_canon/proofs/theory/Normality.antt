@@ -7,7 +7,8 @@ use Rattle.ged_tree.specs.declared.owned.payload.Payload.{Payload}
 use Rattle.ged_tree.specs.declared.owned.payload.Payload.TheVariants.{Void, Pointer, Text}
 use Rattle.ged_tree.specs.Trees.{Structure, Trees, none, tree, records_of}
 use Rattle.ged_tree.specs.Documents.{is_document}
-use Rattle.ged_link.specs.Links.{IsAmong, AreDistinct, xrefs, Names, IsNamed, Resolved}
+use Rattle.ged_link.specs.Links.{IsAmong, AreDistinct, xrefs, IsNamed, Resolved}
+use Rattle.ged_link.specs.inner.Identifiers.{Names}
 use Rattle.ged_schema.specs.declared.context.Context.{Context}
 use Rattle.ged_schema.specs.declared.context.Context.TheVariants.{File}
 use Rattle.ged_schema.specs.Rows.{Row}
@@ -126,9 +127,7 @@ among_map f (first ∷ ns) name (inr h) = let k = among_map f ns name h in (k.0,
 
 module _ (f : Bytes → Bytes) (name : Bytes) where
   payload_named : (p : Payload) → Names p name → Names (renamed_payload f p) (f name)
-  payload_named Void h = h
-  payload_named (Pointer target) h = ap f h
-  payload_named (Text lines) h = h
+  payload_named p h = ap (renamed_payload f) h
 
   pub renamed_named : (xs : Trees) → IsNamed xs name → IsNamed (renamed f xs) (f name)
   renamed_named none h = h

@@ -4,7 +4,8 @@ use Rattle.ged_line.specs.Bytes.{Bytes}
 use Rattle.ged_tree.specs.declared.owned.payload.Payload.{Payload}
 use Rattle.ged_tree.specs.declared.owned.payload.Payload.TheVariants.{Void, Pointer, Text}
 use Rattle.ged_tree.specs.Trees.{Structure, Trees, none, tree}
-use Rattle.ged_link.specs.Links.{SomeTree, SomeIn, IsAmong, xrefs, Names, IsNamed}
+use Rattle.ged_link.specs.Links.{SomeTree, SomeIn, IsAmong, xrefs, IsNamed}
+use Rattle.ged_link.specs.inner.Identifiers.{Names}
 use Rattle.ged_link.specs.Notices.{Link, links, PointsBack, IsUnanswered, IsOneWay, OneWay}
 use Rattle.ged_schema.specs.declared.context.Context.{Context}
 use Rattle.ged_schema.specs.declared.context.Context.TheVariants.{File}
@@ -154,7 +155,7 @@ abbrev Anything : Bytes → Type 0
 Anything n = Unit {0}
 
 pointer_names : (p : Payload) (name : Bytes) → p ≡ Pointer name → Names p name
-pointer_names p name e = subst (λ q. Names q name) (sym e) refl
+pointer_names p name e = e
 
 -- Links: a name gained or lost.
 

@@ -12,7 +12,8 @@ use Rattle.ged_tree.specs.declared.owned.payload.Payload.{Payload}
 use Rattle.ged_tree.specs.declared.owned.payload.Payload.TheVariants.{Void, Pointer, Text}
 use Rattle.ged_tree.specs.Trees.{Structure, Trees, none, tree, line_count, lines_count}
 use Rattle.ged_tree.specs.Documents.{is_document, is_head, is_record_tag, are_records, are_at, is_structure_at, is_xref_at, is_payload_at}
-use Rattle.ged_link.specs.Links.{SomeTree, IsAmong, AreDistinct, with_xref, xrefs, Names, Resolved}
+use Rattle.ged_link.specs.Links.{SomeTree, IsAmong, AreDistinct, xrefs, Resolved}
+use Rattle.ged_link.specs.inner.Identifiers.{with_xref, Names}
 use Rattle.ged_schema.specs.declared.context.Context.{Context}
 use Rattle.ged_schema.specs.declared.context.Context.TheVariants.{File}
 use Rattle.ged_schema.specs.Tables.{context_below}

@@ -7,7 +7,8 @@ use Rattle.ged_tree.specs.declared.owned.payload.Payload.{Payload}
 use Rattle.ged_tree.specs.declared.owned.payload.Payload.TheVariants.{Void, Pointer, Text}
 use Rattle.ged_tree.specs.Trees.{Structure, Trees, none, tree}
 use Rattle.ged_tree.specs.Documents.{is_document}
-use Rattle.ged_link.specs.Links.{IsAmong, AreDistinct, with_xref, xrefs, Names, IsNamed}
+use Rattle.ged_link.specs.Links.{IsAmong, AreDistinct, xrefs, IsNamed}
+use Rattle.ged_link.specs.inner.Identifiers.{with_xref, Names}
 use Rattle.ged_schema.specs.declared.context.Context.{Context}
 use Rattle.ged_schema.specs.declared.context.Context.TheVariants.{File}
 use Rattle.ged_schema.specs.Rows.{Row}

@@ -4,7 +4,8 @@ use Rattle.ged_line.specs.Bytes.{Bytes}
 use Rattle.ged_tree.specs.declared.owned.payload.Payload.{Payload}
 use Rattle.ged_tree.specs.declared.owned.payload.Payload.TheVariants.{Void, Pointer, Text}
 use Rattle.ged_tree.specs.Trees.{Trees, none, tree}
-use Rattle.ged_link.specs.Links.{xrefs, IsAmong, AreDistinct, Names, IsNamed}
+use Rattle.ged_link.specs.Links.{xrefs, IsAmong, AreDistinct, IsNamed}
+use Rattle.ged_link.specs.inner.Identifiers.{Names}
 use Rattle.ged_schema.specs.declared.context.Context.{Context}
 use Rattle.ged_schema.specs.declared.context.Context.TheVariants.{File}
 use Rattle.ged_schema.specs.Tables.{context_below}
@@ -55,9 +56,9 @@ all_new (pair ∷ pairs) d =
 -- the pointers of a renamed document
 module _ (f : Bytes → Bytes) (name : Bytes) where
   payload_was : (p : Payload) → Names (renamed_payload f p) name → (old : Bytes) × Names p old × (name ≡ f old)
-  payload_was Void h = absurd h
-  payload_was (Pointer target) h = (target, refl, sym h)
-  payload_was (Text lines) h = absurd h
+  payload_was Void h = absurd (let z : ⊥ = cc in z)
+  payload_was (Pointer target) h = (target, refl, (let e : name ≡ f target = cc in e))
+  payload_was (Text lines) h = absurd (let z : ⊥ = cc in z)
 
   pub names_was : (xs : Trees) → IsNamed (renamed f xs) name → (old : Bytes) × IsNamed xs old × (name ≡ f old)
   names_was none h = absurd h

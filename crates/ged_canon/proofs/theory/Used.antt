@@ -5,7 +5,8 @@ use Rattle.ged_line.specs.Bytes.{Bytes}
 use Rattle.ged_tree.specs.declared.owned.payload.Payload.{Payload}
 use Rattle.ged_tree.specs.declared.owned.payload.Payload.TheVariants.{Void, Pointer, Text}
 use Rattle.ged_tree.specs.Trees.{Structure, Trees, none, tree}
-use Rattle.ged_link.specs.Links.{SomeTree, IsAmong, with_xref, xrefs, Names, IsNamed}
+use Rattle.ged_link.specs.Links.{SomeTree, IsAmong, xrefs, IsNamed}
+use Rattle.ged_link.specs.inner.Identifiers.{with_xref, Names}
 use Rattle.ged_schema.specs.declared.context.Context.{Context}
 use Rattle.ged_schema.specs.declared.context.Context.TheVariants.{File}
 use Rattle.ged_schema.specs.Rows.{Row}
@@ -19,7 +20,7 @@ use Rattle.ged_canon.proofs.theory.Fixed.{with_others}
 
 names-from : (p : Payload) (name : Bytes) → names p name ≡ true → Names p name
 names-from Void name h = absurd (false≢true h)
-names-from (Pointer target) name h = equal_bytes target name h
+names-from (Pointer target) name h = ap Pointer (equal_bytes target name h)
 names-from (Text lines) name h = absurd (false≢true h)
 
 pub is_named-from : (xs : Trees) (name : Bytes) → is_named xs name ≡ true → IsNamed xs name
@@ -72,14 +73,14 @@ module _ (edition : Edition) (r : Option Row) (name : Bytes) where
   brief_names Void h = h
   brief_names (Pointer target) h = h
   brief_names (Text []) h = h
-  brief_names (Text (line ∷ [])) h = h
+  brief_names (Text (line ∷ [])) h = cc
   brief_names (Text (line ∷ (next ∷ lines))) h = h
 
   names_brief : (p : Payload) → Names p name → Names (brief edition r p) name
   names_brief Void h = h
   names_brief (Pointer target) h = h
   names_brief (Text []) h = h
-  names_brief (Text (line ∷ [])) h = h
+  names_brief (Text (line ∷ [])) h = cc
   names_brief (Text (line ∷ (next ∷ lines))) h = h
 
 -- the names of sorted trees are those of the trees

@@ -9,7 +9,8 @@ use Rattle.ged_line.specs.Bytes.{Bytes}
 use Rattle.ged_tree.specs.Trees.{Trees, none, tree}
 use Rattle.ged_tree.specs.Records.{record_trees}
 use Rattle.ged_tree.specs.declared.owned.node.RecordNode.{RecordNode}
-use Rattle.ged_link.specs.Links.{IsAmong, AreDistinct, with_xref, xrefs, identifiers, IsRecordNumber}
+use Rattle.ged_link.specs.Links.{IsAmong, AreDistinct, xrefs, identifiers, IsRecordNumber}
+use Rattle.ged_link.specs.inner.Identifiers.{with_xref}
 use Rattle.ged_canon.specs.inner.Working.{number_among}
 use Rattle.ged_canon.proofs.theory.Texts.{same_bytes, other_bytes}
 

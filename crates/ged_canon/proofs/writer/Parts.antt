@@ -10,7 +10,8 @@ use Rattle.ged_tree.specs.Records.{record_trees, document_trees}
 use Rattle.ged_tree.specs.declared.owned.node.RecordNode.{RecordNode}
 use Rattle.ged_link.specs.declared.index.Index.{Index}
 use Rattle.ged_link.specs.Indexes.{IsIndexOf}
-use Rattle.ged_link.specs.Links.{IsAmong, AreDistinct, with_xref, xrefs, Resolved}
+use Rattle.ged_link.specs.Links.{IsAmong, AreDistinct, xrefs, Resolved}
+use Rattle.ged_link.specs.inner.Identifiers.{with_xref}
 use Rattle.ged_canon.specs.declared.edition.Edition.{Edition}
 use Rattle.ged_schema.specs.Checked.{Checked}
 use Rattle.ged_canon.specs.Steps.{renamed}

@@ -12,7 +12,8 @@ use Rattle.ged_tree.specs.Places.{structure_at, below_at}
 use Rattle.ged_tree.specs.Runs.{trees_between, IsRun, IsStep}
 use Rattle.ged_tree.specs.inner.Walks.{HasLinesAt}
 use Rattle.ged_tree.proofs.CallerLemmas.{at_of_document}
-use Rattle.ged_link.specs.Links.{IsAmong, with_xref, xrefs, Resolved}
+use Rattle.ged_link.specs.Links.{IsAmong, xrefs, Resolved}
+use Rattle.ged_link.specs.inner.Identifiers.{with_xref}
 use Rattle.ged_schema.specs.declared.context.Context.{Context}
 use Rattle.ged_schema.specs.declared.context.Context.TheVariants.{File}
 use Rattle.ged_schema.specs.Tables.{row, context_below}

@@ -5,7 +5,8 @@ use Rattle.ged_line.specs.Bytes.{Bytes}
 use Rattle.ged_tree.specs.Trees.{Trees, records_of}
 use Rattle.ged_tree.specs.Documents.{is_document}
 use Rattle.ged_tree.specs.Places.{structure_at}
-use Rattle.ged_link.specs.Links.{IsAmong, AreDistinct, with_xref, IsRecordNumber, Resolved}
+use Rattle.ged_link.specs.Links.{IsAmong, AreDistinct, IsRecordNumber, Resolved}
+use Rattle.ged_link.specs.inner.Identifiers.{with_xref}
 use Rattle.ged_canon.specs.declared.writer.siblings.Sibling.{Sibling}
 use Rattle.ged_canon.specs.inner.Siblings.{sibling_names}
 use Rattle.ged_canon.specs.inner.Working.{is_named, used_xref}

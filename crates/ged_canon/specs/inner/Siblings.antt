@@ -8,7 +8,7 @@ use Rattle.ged_schema.specs.declared.context.Context.{Context}
 use Rattle.ged_schema.specs.Tables.{context_below}
 use Rattle.ged_canon.specs.declared.edition.Edition.{Edition}
 use Rattle.ged_canon.specs.declared.writer.siblings.Sibling.{Sibling}
-use Rattle.ged_link.specs.Links.{with_xref}
+use Rattle.ged_link.specs.inner.Identifiers.{with_xref}
 use Rattle.ged_canon.specs.inner.Working.{is_named, used_xref, used_structure, brief_structure, sorted}
 
 -- a sibling stands at a place of the document, and has the tag of the structure there

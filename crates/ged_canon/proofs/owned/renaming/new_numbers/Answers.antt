@@ -7,7 +7,8 @@ use Rattle.ged_line.specs.Bytes.{Bytes}
 use Rattle.ged_tree.specs.Trees.{records_of}
 use Rattle.ged_tree.specs.Records.{record_trees}
 use Rattle.ged_tree.specs.declared.owned.node.RecordNode.{RecordNode}
-use Rattle.ged_link.specs.Links.{xrefs, with_xref, identifiers, IsRecordNumber}
+use Rattle.ged_link.specs.Links.{xrefs, identifiers, IsRecordNumber}
+use Rattle.ged_link.specs.inner.Identifiers.{with_xref}
 use Rattle.ged_canon.proofs.writer.NewNumbers.{ArePlaces, places_more, names_more, fresh_name, name_among, numbered_among}
 use Rattle.ged_canon.proofs.writer.UseTests.{identifiers_of}
 use Rattle.ged_canon.proofs.owned.renaming.new_numbers.Goals as goal

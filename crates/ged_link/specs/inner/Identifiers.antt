@@ -1,0 +1,15 @@
+-- Nothing here need be believed: only private contracts and proofs cite it.
+-- Identifiers and pointers of one structure.
+use Rattle.std.specs.Prelude.{◌≡◌, List, ◌++◌, Option}
+use Rattle.std.specs.Option.{option_to_list}
+use Rattle.ged_line.specs.Bytes.{Bytes}
+use Rattle.ged_tree.specs.declared.owned.payload.Payload.{Payload}
+use Rattle.ged_tree.specs.declared.owned.payload.Payload.TheVariants.{Pointer}
+
+-- a structure's identifier, if it has one, before others
+abbrev pub with_xref : Option Bytes → List Bytes → List Bytes
+with_xref xref names = option_to_list xref ++ names
+
+-- a pointer with this name
+abbrev pub Names : Payload → Bytes → Type 0
+Names payload name = payload ≡ Pointer name
