@@ -39,7 +39,8 @@ has_kind test r = option_map_or (λ some. test some.kind) r false
 -- calendar, or, in the second edition, a leading zero
 pub data Shortened (edition : Edition) (r : Option Row) (longer shorter : Bytes) : Type 0 where
   calendar : has_kind has_calendar r ≡ true → LeavesOut (words_of longer) (words_of shorter) → Shortened edition r longer shorter
-  leading_zero : edition ≡ Second → has_kind has_integers r ≡ true → LeavesOutZero (words_of longer) (words_of shorter) → Shortened edition r longer shorter
+  leading_zero : edition ≡ Second → has_kind has_integers r ≡ true → LeavesOutZero (words_of longer) (words_of shorter)
+      → Shortened edition r longer shorter
 
 -- a payload of one line is shortened, and both lines are of the row's kind
 pub data Respelt (edition : Edition) (r : Option Row) : Payload → Payload → Type 0 where

@@ -1,6 +1,6 @@
 pub mod CanonBytes
 pub mod Runs
 pub mod Siblings
+pub mod StepParts
 pub mod Working
 pub mod Writing
-pub mod StepParts

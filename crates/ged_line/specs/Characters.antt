@@ -15,7 +15,7 @@ has_banned bytes = list_any is_banned (chars bytes)
 
 -- a text in UTF-8 with no banned character
 abbrev pub is_plain : Bytes → Bool
-is_plain bytes = is_utf8 bytes && not (has_banned bytes)
+is_plain bytes = is_utf8 bytes && not (list_any is_banned (chars bytes))
 
 -- 0 to 9
 abbrev pub is_digit : ℕ → Bool

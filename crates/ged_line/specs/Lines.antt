@@ -1,5 +1,6 @@
 -- A line, and the bytes that spell it (FamilySearch GEDCOM 7.0, "Lines").
 use Rattle.std.specs.Prelude.{◌≡◌, ℕ, Bool, true, ◌&&◌, ◌==◌, nat_le, not, [], ◌∷◌, ◌++◌, ◌⊎◌, Option, Some, None, if◌then◌else◌, codes, decimal, length}
+use Rattle.std.specs.Option.{option_map_or}
 use Rattle.ged_line.specs.Bytes.{Bytes, space, at_sign}
 use Rattle.ged_line.specs.Characters.{is_plain}
 use Rattle.ged_line.specs.Names.{is_tag, is_xref}
@@ -22,18 +23,14 @@ abbrev pub line_parts : ℕ → Option Bytes → Bytes → Value → LineParts
 line_parts level xref tag value = record { level = level; xref = xref; tag = tag; value = value }
 
 abbrev pub may_be_xref : Option Bytes → Bool
-may_be_xref None = true
-may_be_xref (Some name) = is_xref name
+may_be_xref xref = option_map_or is_xref xref true
 
--- a text that may be a line's value: not empty, and all its characters may stand in a line
-abbrev pub is_line_text : Bytes → Bool
-is_line_text text = not (length text == 0) && is_plain text
-
+-- a text that is a line's value is not empty, and all its characters may stand in a line
 abbrev pub is_value : Value → Bool
 is_value Empty = true
 is_value Void = true
 is_value (Pointer name) = is_xref name
-is_value (Text text) = is_line_text text
+is_value (Text text) = not (length text == 0) && is_plain text
 
 -- the parts are those of some line
 abbrev pub is_line : LineParts → Bool

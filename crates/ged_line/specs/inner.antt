@@ -1,4 +1,5 @@
 pub mod ByteTests
+pub mod LineTexts
 pub mod Reading
 pub mod Respelling
 pub mod Views

@@ -1,3 +1,3 @@
 pub mod Listings
-pub mod Marks
 pub mod Lookups
+pub mod Marks

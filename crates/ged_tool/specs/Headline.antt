@@ -10,13 +10,14 @@
 -- document, and each of the other changes is a step. Both files are judged under one profile.
 use Rattle.std.specs.Prelude.{◌≡◌, ◌↔◌}
 use Rattle.ged_line.specs.Bytes.{Bytes}
+use Rattle.ged_line.specs.Spelling.{file_of}
 use Rattle.ged_tree.specs.Trees.{Trees}
+use Rattle.ged_tree.specs.DocumentLines.{document_lines}
 use Rattle.ged_schema.specs.declared.profile.Profile.{Profile}
 use Rattle.ged_canon.specs.declared.edition.Edition.{Edition}
 use Rattle.ged_canon.specs.declared.edition.Edition.TheVariants.{First, Second}
 use Rattle.ged_canon.specs.Steps.{Equivalent}
 use Rattle.ged_canon.specs.Normal.{Normal}
-use Rattle.ged_canon.specs.CanonText.{CanonText}
 use Rattle.ged_tool.specs.Accepted.{IsAccepted}
 use Rattle.ged_tool.specs.Canon.{IsCanon}
 
@@ -30,7 +31,7 @@ pub record IsNormalFile (profile : Profile) (edition : Edition) (bytes : Bytes) 
   pub document : Trees
   pub accepted : IsAccepted profile bytes document
   pub normal : Normal edition document
-  pub spelled : CanonText document bytes
+  pub spelled : bytes ≡ file_of (document_lines document)
 
 -- what is promised of the canonical bytes of a file
 pub record Headline (profile : Profile) (edition : Edition) (file canonical : Bytes) : Type 0 where

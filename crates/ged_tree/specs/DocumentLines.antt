@@ -39,12 +39,9 @@ abbrev pub lines_of : ℕ → Trees → List LineParts
 lines_of level none = []
 lines_of level (tree s below next) = structure_lines level s ++ lines_of (level + 1) below ++ lines_of level next
 
-abbrev pub trailer_line : LineParts
-trailer_line = line_parts 0 None (codes "TRLR") Empty
-
 -- HEAD's tree, the records' trees, and TRLR
 abbrev pub document_lines : Trees → List LineParts
-document_lines document = lines_of 0 document ++ trailer_line ∷ []
+document_lines document = lines_of 0 document ++ line_parts 0 None (codes "TRLR") Empty ∷ []
 
 -- the document has these lines
 pub record HasLines (document : Trees) (lines : List LineParts) : Type 0 where

@@ -2,7 +2,7 @@
 use Rattle.std.specs.Prelude.{ℕ, ◌+◌, List, [], ◌∷◌, Option, None, length}
 use Rattle.ged_line.specs.Bytes.{Bytes}
 use Rattle.ged_tree.specs.declared.owned.payload.Payload.{Payload}
-use Rattle.ged_tree.specs.declared.owned.payload.Payload.TheVariants.{Void, Pointer, Text}
+use Rattle.ged_tree.specs.declared.owned.payload.Payload.TheVariants.{Void, Text}
 
 -- one structure by itself: a record's cross-reference identifier, the tag, and the payload
 pub record Structure : Type 0 where
@@ -37,10 +37,8 @@ trees_count (tree s below next) = 1 + trees_count below + trees_count next
 
 -- the lines of a payload past the first
 abbrev pub further_lines : Payload → List Bytes
-further_lines Void = []
-further_lines (Pointer name) = []
-further_lines (Text []) = []
 further_lines (Text (first ∷ further)) = further
+further_lines _ = []
 
 -- how many lines a structure has: its own, and one for each further line of its payload
 abbrev pub line_count : Payload → ℕ

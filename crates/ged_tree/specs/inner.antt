@@ -3,6 +3,7 @@ pub mod Judging
 pub mod PathLines
 pub mod Rows
 pub mod Tables
+pub mod Trailers
 pub mod TreeCodes
 pub mod TreeSizes
 pub mod Trees

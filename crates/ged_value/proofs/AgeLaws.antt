@@ -90,11 +90,11 @@ units_again a h some =
     let d = unit_words 100 a.days in
     let w = unit_words 119 a.weeks ++ d in
     let m = unit_words 109 a.months ++ w in
-    let y = unit_again 121 a.years m h.years (no_unit_more 121 109 a.months w refl (no_unit_more 121 119 a.weeks d refl (none_last 121 100 a.days refl))) in
-    let n = unit_again 109 a.months w h.months (no_unit_more 109 119 a.weeks d refl (none_last 109 100 a.days refl)) in
-    let k = unit_again 119 a.weeks d h.weeks (none_last 119 100 a.days refl) in
+    let y = unit_again 121 a.years m h.0 (no_unit_more 121 109 a.months w refl (no_unit_more 121 119 a.weeks d refl (none_last 121 100 a.days refl))) in
+    let n = unit_again 109 a.months w h.1 (no_unit_more 109 119 a.weeks d refl (none_last 109 100 a.days refl)) in
+    let k = unit_again 119 a.weeks d h.2 (none_last 119 100 a.days refl) in
     let z : (length (duration_words a) == 0) ≡ false = ne_eqb _ _ (λ q. omega arith) in
-    rw (y, n, k, last_again 100 a.days h.days, z) refl
+    rw (y, n, k, last_again 100 a.days h.3, z) refl
 
 -- no sign comes first
 abbrev NoSign : List Bytes → Type 0
@@ -125,7 +125,7 @@ age_again a h some =
     let d = unit_words 100 a.days in
     let w = unit_words 119 a.weeks ++ d in
     let m = unit_words 109 a.months ++ w in
-    let n = no_sign_more 121 a.years m h.years (no_sign_more 109 a.months w h.months (no_sign_more 119 a.weeks d h.weeks (no_sign_last 100 a.days h.days))) in
+    let n = no_sign_more 121 a.years m h.0 (no_sign_more 109 a.months w h.1 (no_sign_more 119 a.weeks d h.2 (no_sign_last 100 a.days h.3))) in
     rw (sign_again a.bound (duration_words a) n) (units_again a h some)
 
 unit_choice : (c : ℕ) (w : Bytes) (ws : List Bytes) (o : Option Bytes) → number_before c w ≡ o → ((w ∷ ws) ≡ unit_words c (unit_behind o w ws).0 ++ (unit_behind o w ws).1) × IsNumber (unit_behind o w ws).0
@@ -180,7 +180,7 @@ age_found a ws h =
     (unit_found 121 us).0 ∙ ap (λ x. unit_words 121 y.0 ++ x) ((unit_found 109 y.1).0 ∙ ap (λ x. unit_words 109 m.0 ++ x) ((unit_found 119 m.1).0 ∙ ap (λ x. unit_words 119 w.0 ++ x) last)) in
     let some : 0 < length (duration_words read) = subst (λ x. 0 < length x) all (positive (length us) t.0) in
     let r : IsAge read ws = record {
-      numbers = record { years = (unit_found 121 us).1; months = (unit_found 109 y.1).1; weeks = (unit_found 119 m.1).1; days = (unit_found 100 w.1).1 };
+      numbers = ((unit_found 121 us).1, (unit_found 109 y.1).1, (unit_found 119 m.1).1, (unit_found 100 w.1).1);
       some = some;
       words = sign_found ws ∙ ap (λ x. sign_words (sign_at ws).0 ++ x) all;
     } in
@@ -233,8 +233,8 @@ age_plainly a h some =
         sign_at_most a.bound,
       );
       spaceless = lack_join (sign_words a.bound) (duration_words a) (sign_spaceless a.bound)
-          (lack_join y (m ++ (w ++ d)) (unit_spaceless 121 a.years refl h.years) (lack_join m (w ++ d) (unit_spaceless 109 a.months refl h.months)
-          (lack_join w d (unit_spaceless 119 a.weeks refl h.weeks) (unit_spaceless 100 a.days refl h.days))));
+          (lack_join y (m ++ (w ++ d)) (unit_spaceless 121 a.years refl h.0) (lack_join m (w ++ d) (unit_spaceless 109 a.months refl h.1)
+          (lack_join w d (unit_spaceless 119 a.weeks refl h.2) (unit_spaceless 100 a.days refl h.3))));
     }
 
 -- a text that isn't empty, by its words

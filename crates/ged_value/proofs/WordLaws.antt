@@ -6,7 +6,8 @@ use Rattle.std.proofs.lemmas.List.Recursion.{and_at}
 use Rattle.std.proofs.lemmas.Bool.Decides.{nat_tests}
 use Rattle.std.specs.Str.{bytes_eq}
 use Rattle.std.proofs.lemmas.Slice.Eq.{bytes_eq-Decides}
-use Rattle.ged_value.specs.Words.{number_after, is_integer, is_one_of}
+use Rattle.ged_value.specs.Words.{is_integer, is_one_of}
+use Rattle.ged_value.specs.inner.Numerals.{number_after}
 
 -- a number that is cut off at 1000 leaves the same number cut off at 1000
 pub cut_number : (n : ℕ) (text : List ℕ) → min 1000 (number_after (min 1000 n) text) ≡ min 1000 (number_after n text)

@@ -48,13 +48,13 @@ duration_shorter a new i h =
     let y = each_of_both (unit_words 121 a.years) _ new h in
     let m = each_of_both (unit_words 109 a.months) _ y.1 y.4 in
     let w = each_of_both (unit_words 119 a.weeks) (unit_words 100 a.days) m.1 m.4 in
-    let years = unit_shorter 121 a.years y.0 refl i.years y.3 in
-    let months = unit_shorter 109 a.months m.0 refl i.months m.3 in
-    let weeks = unit_shorter 119 a.weeks w.0 refl i.weeks w.3 in
-    let days = unit_shorter 100 a.days w.1 refl i.days w.4 in (
+    let years = unit_shorter 121 a.years y.0 refl i.0 y.3 in
+    let months = unit_shorter 109 a.months m.0 refl i.1 m.3 in
+    let weeks = unit_shorter 119 a.weeks w.0 refl i.2 w.3 in
+    let days = unit_shorter 100 a.days w.1 refl i.3 w.4 in (
       record { bound = a.bound; years = years.0; months = months.0; weeks = weeks.0; days = days.0 },
       refl,
-      record { years = years.1; months = months.1; weeks = weeks.1; days = days.1 },
+      (years.1, months.1, weeks.1, days.1),
       cc (y.2, m.2, w.2, years.2, months.2, weeks.2, days.2),
     )
 
@@ -117,10 +117,10 @@ duration_trims a i =
       map-append trim_zeros y (m ++ (w ++ d)),
       map-append trim_zeros m (w ++ d),
       map-append trim_zeros w d,
-      unit_trims 121 a.years refl i.years,
-      unit_trims 109 a.months refl i.months,
-      unit_trims 119 a.weeks refl i.weeks,
-      unit_trims 100 a.days refl i.days,
+      unit_trims 121 a.years refl i.0,
+      unit_trims 109 a.months refl i.1,
+      unit_trims 119 a.weeks refl i.2,
+      unit_trims 100 a.days refl i.3,
     )
 
 pub age_trimmed : (text : Bytes) (age : AgeParts) → AgeText age text → (words_of (joined (trimmed_words text)) ≡ trimmed_words text) × AgeText (trimmed_age age) (joined (trimmed_words text))
@@ -128,7 +128,7 @@ age_trimmed text a is = elim is [
   | inl n ↦ rw (n.0, n.1) (refl, inl (refl, refl))
   | inr s ↦
       let b = trimmed_age a in
-      let numbers : HasNumbers b = record { years = part_trims a.years s.0.years; months = part_trims a.months s.0.months; weeks = part_trims a.weeks s.0.weeks; days = part_trims a.days s.0.days } in
+      let numbers : HasNumbers b = (part_trims a.years (s.0).0, part_trims a.months (s.0).1, part_trims a.weeks (s.0).2, part_trims a.days (s.0).3) in
       let some : 0 < length (duration_words b) = subst (λ n. 0 < n) (sym (length-map (duration_words a) trim_zeros) ∙ ap length (duration_trims a s.0)) s.1 in
       let words : trimmed_words text ≡ sign_words b.bound ++ duration_words b =
       ap (map trim_zeros) (words_same (sign_words a.bound ++ duration_words a) text (age_plainly a s.0 s.1) s.2)

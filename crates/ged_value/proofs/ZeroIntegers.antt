@@ -82,9 +82,9 @@ both_all_kept left right l r = filter-append begins_with_digit left right ∙ ap
 
 duration_kept : (a : AgeParts) → HasNumbers a → kept (duration_words a) ≡ duration_words a
 duration_kept a i =
-    both_all_kept (unit_words 121 a.years) _ (unit_kept 121 a.years i.years)
-    (both_all_kept (unit_words 109 a.months) _ (unit_kept 109 a.months i.months)
-    (both_all_kept (unit_words 119 a.weeks) _ (unit_kept 119 a.weeks i.weeks) (unit_kept 100 a.days i.days)))
+    both_all_kept (unit_words 121 a.years) _ (unit_kept 121 a.years i.0)
+    (both_all_kept (unit_words 109 a.months) _ (unit_kept 109 a.months i.1)
+    (both_all_kept (unit_words 119 a.weeks) _ (unit_kept 119 a.weeks i.2) (unit_kept 100 a.days i.3)))
 
 sign_kept : (bound : Option Sign) → kept (sign_words bound) ≡ []
 sign_kept None = refl

@@ -36,11 +36,8 @@ abbrev pub IsNumber : Option Bytes → Type 0
 IsNumber part = IfSome part (λ digits. IsTrue (is_integer digits))
 
 -- the same of each part of an age
-pub record HasNumbers (a : AgeParts) : Type 0 where
-  pub years : IsNumber a.years
-  pub months : IsNumber a.months
-  pub weeks : IsNumber a.weeks
-  pub days : IsNumber a.days
+abbrev pub HasNumbers : AgeParts → Type 0
+HasNumbers a = IsNumber a.years × IsNumber a.months × IsNumber a.weeks × IsNumber a.days
 
 -- what the empty text spells
 abbrev pub no_age : AgeParts

@@ -1,5 +1,5 @@
 -- Times of day: their parts, and the text that spells them (FamilySearch GEDCOM 7.0, "Time").
-use Rattle.std.specs.Prelude.{◌≡◌, ℕ, Bool, true, false, [], ◌∷◌, ◌++◌, ◌&&◌, ◌==◌, nat_le, Option, Some, None, IsTrue, length, codes}
+use Rattle.std.specs.Prelude.{◌≡◌, ℕ, Bool, true, false, [], ◌∷◌, ◌++◌, ◌&&◌, ◌==◌, nat_le, Option, Some, None, IsTrue, if◌then◌else◌, length, codes}
 use Rattle.ged_value.specs.Words.{Bytes, is_integer, number}
 
 -- a time of day, in UTC or where it was taken
@@ -34,15 +34,10 @@ abbrev pub marked : ℕ → Option Bytes → Bytes
 marked character None = []
 marked character (Some part) = character ∷ part
 
--- `Z` for UTC
-abbrev pub zone : Bool → Bytes
-zone true = codes "Z"
-zone false = []
-
 -- the hour, `:` and the minute, then `:` and the second, and `.` and its fraction
 abbrev pub clock : TimeParts → Bytes
 clock t = t.hour ++ (58 ∷ (t.minute ++ (marked 58 t.second ++ marked 46 t.fraction)))
 
 -- the text is the clock's, with `Z` behind it for UTC
 abbrev pub TimeText : TimeParts → Bytes → Type 0
-TimeText t text = IsTrue (is_time t) × (text ≡ clock t ++ zone t.utc)
+TimeText t text = IsTrue (is_time t) × (text ≡ clock t ++ (if t.utc then codes "Z" else []))

@@ -1,6 +1,6 @@
 -- Texts and the words of a payload, and tests on them (FamilySearch GEDCOM 7.0, "Data types").
 use Rattle.std.specs.Prelude.{ℕ, ◌+◌, ◌-◌, ◌*◌, Bool, false, List, [], ◌∷◌, ◌&&◌, ◌||◌, ◌==◌, nat_lt, length}
-use Rattle.std.specs.List.{list_all, list_any, slice_split, join_with_byte}
+use Rattle.std.specs.List.{list_all, list_any, fold, slice_split, join_with_byte}
 use Rattle.std.specs.Char.{is_ascii_digit, is_ascii_uppercase}
 use Rattle.std.specs.Str.{bytes_eq}
 
@@ -30,14 +30,9 @@ is_extension_tag (c ∷ cs) = c == 0x5F && (nat_lt 0 (length cs) && list_all is_
 abbrev pub is_one_of : List Bytes → Bytes → Bool
 is_one_of words word = list_any (λ w. bytes_eq w word) words
 
--- the number that digits spell after those of n
-abbrev pub number_after : ℕ → Bytes → ℕ
-number_after n [] = n
-number_after n (c ∷ cs) = number_after (10 * n + (c - 0x30)) cs
-
 -- the number that digits spell
 abbrev pub number : Bytes → ℕ
-number text = number_after 0 text
+number text = fold (λ n c. 10 * n + (c - 0x30)) 0 text
 
 -- the words of a text, between single spaces; there is one at least, which may be empty
 abbrev pub words_of : Bytes → List Bytes

@@ -3,11 +3,12 @@ pub mod AgeViews
 pub mod Cuts
 pub mod DateReading
 pub mod ExactReading
+pub mod Months
 pub mod NameReading
+pub mod Numerals
 pub mod Quick
 pub mod RestrictionReading
 pub mod Texts
 pub mod TimeReading
 pub mod ValueReading
 pub mod WordReading
-pub mod Months

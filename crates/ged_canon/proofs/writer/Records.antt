@@ -7,7 +7,8 @@ use Rattle.ged_line.specs.Lines.{may_be_xref}
 use Rattle.ged_line.specs.Spelling.{spelling, spelled_lines}
 use Rattle.ged_tree.specs.Trees.{Structure, Trees, tree, records_of}
 use Rattle.ged_tree.specs.Documents.{is_document, is_xref_at, is_structure_at, are_at}
-use Rattle.ged_tree.specs.DocumentLines.{structure_lines, lines_of, trailer_line}
+use Rattle.ged_tree.specs.DocumentLines.{structure_lines, lines_of}
+use Rattle.ged_tree.specs.inner.Trailers.{trailer_line}
 use Rattle.ged_tree.specs.Places.{structure_at, below_at}
 use Rattle.ged_tree.specs.Runs.{trees_between, IsRun, IsStep}
 use Rattle.ged_tree.specs.inner.Walks.{HasLinesAt}

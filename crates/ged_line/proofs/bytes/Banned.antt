@@ -10,7 +10,7 @@ use Rattle.memchr.specs.Find.{IsFirstByte}
 use lib.Utf8.{encodes, encode}
 use Rattle.std.specs.List.{list_any}
 use Rattle.ged_line.specs.Characters.{is_banned, has_banned, is_plain}
-use Rattle.ged_line.specs.Lines.{is_line_text}
+use Rattle.ged_line.specs.inner.LineTexts.{is_line_text}
 use Rattle.ged_line.specs.inner.ByteTests.{is_control, is_special, ControlAt, NoncharacterAt}
 use Rattle.ged_line.proofs.line.NameTests.{bool_cases, or_cases, and_left, and_right, and_true}
 

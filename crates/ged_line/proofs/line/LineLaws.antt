@@ -14,7 +14,8 @@ use lib.Utf8.{encodes}
 use Rattle.ged_line.specs.Bytes.{at_sign}
 use Rattle.ged_line.specs.Characters.{is_tag_character, is_digit, is_plain, is_banned}
 use Rattle.ged_line.specs.Names.{is_tag, is_xref}
-use Rattle.ged_line.specs.Lines.{LineParts, Value, Empty, Void, Pointer, Text, is_value, is_line_text, may_be_xref, is_line, IsValuePart, LineText, xref_part, doubled}
+use Rattle.ged_line.specs.Lines.{LineParts, Value, Empty, Void, Pointer, Text, is_value, may_be_xref, is_line, IsValuePart, LineText, xref_part, doubled}
+use Rattle.ged_line.specs.inner.LineTexts.{is_line_text}
 use Rattle.ged_line.specs.Faults.{StandsAt, IsFaultOf, line_fault_number, BeginsWith, IsPointer}
 use Rattle.ged_line.proofs.line.NameTests.{and_left, and_right, tag_each, tag_some, xref_each, xref_not_void}
 use Rattle.ged_line.proofs.bytes.Banned.{IsUtf8-plain, NoCharPasses-plain, has_banned-none}

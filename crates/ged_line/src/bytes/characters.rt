@@ -1,7 +1,7 @@
 // The characters that may not stand in a line.
 ghost use Rattle.std.specs.Prelude.{◌≡◌, ℕ, MatchBool};
 ghost use Rattle.ged_line.specs.Characters.{has_banned as tests_banned, is_plain as tests_plain};
-ghost use Rattle.ged_line.specs.Lines.{is_line_text as tests_line_text};
+ghost use Rattle.ged_line.specs.inner.LineTexts.{is_line_text as tests_line_text};
 ghost use Rattle.ged_line.specs.inner.ByteTests.{is_control as tests_control, ControlAt, NoncharacterAt};
 
 use crate::bytes::line_ends::first_special;

@@ -5,7 +5,8 @@ use Rattle.ged_line.specs.Bytes.{Bytes}
 use Rattle.ged_line.specs.Lines.{LineParts}
 use Rattle.ged_tree.specs.Trees.{Structure, Trees, none, tree, trees_count, line_count, lines_count, further_lines}
 use Rattle.ged_tree.specs.Places.{structure_at, level_at, line_at}
-use Rattle.ged_tree.specs.DocumentLines.{continued, structure_lines, lines_of, document_lines, trailer_line}
+use Rattle.ged_tree.specs.DocumentLines.{continued, structure_lines, lines_of, document_lines}
+use Rattle.ged_tree.specs.inner.Trailers.{trailer_line}
 use Rattle.ged_tree.specs.Laws.{own_line}
 use Rattle.ged_tree.proofs.theory.Places.{from_first, from_below, from_next}
 use Rattle.ged_tree.proofs.theory.Walks.{level_first, level_below, level_next, line_first, line_below, line_next}

@@ -12,7 +12,8 @@ use Rattle.ged_tree.specs.Trees.{Trees, none, tree, further_lines, lines_count}
 use Rattle.ged_tree.specs.Documents.{is_payload_at, is_xref_at, are_at, is_document}
 use Rattle.ged_tree.specs.declared.owned.payload.Payload.{Payload}
 use Rattle.ged_tree.specs.declared.owned.payload.Payload.TheVariants.{Void, Pointer, Text}
-use Rattle.ged_tree.specs.DocumentLines.{line_value, first_value, continued, structure_lines, lines_of, trailer_line, document_lines, HasLines}
+use Rattle.ged_tree.specs.DocumentLines.{line_value, first_value, continued, structure_lines, lines_of, document_lines, HasLines}
+use Rattle.ged_tree.specs.inner.Trailers.{trailer_line}
 use Rattle.ged_tree.proofs.theory.Grown.{length_lines}
 use Rattle.ged_tree.proofs.theory.LinesAgain.{tree_is, document_is}
 

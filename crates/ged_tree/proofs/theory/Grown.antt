@@ -8,7 +8,7 @@ use Rattle.std.proofs.lemmas.Bool.Decides.{nat_tests}
 use Rattle.ged_line.specs.Bytes.{Bytes}
 use Rattle.ged_line.specs.Characters.{is_plain}
 use Rattle.ged_line.specs.Names.{is_tag, is_xref}
-use Rattle.ged_line.specs.Lines.{LineParts, is_line, is_line_text, may_be_xref, Value, is_value}
+use Rattle.ged_line.specs.Lines.{LineParts, is_line, may_be_xref, Value, is_value}
 use Rattle.ged_line.specs.Lines as value
 use Rattle.ged_line.proofs.CallerLemmas.{nothing_plain}
 use Rattle.ged_tree.proofs.theory.LineParts.{line_is}

@@ -1,6 +1,6 @@
 -- Nothing here need be believed: only private contracts and proofs cite it.
 -- How times are read: the one answer of the private functions.
-use Rattle.std.specs.Prelude.{Bool, true, false, [], ◌∷◌, Option, Some, None, if◌then◌else◌}
+use Rattle.std.specs.Prelude.{Bool, true, false, [], ◌∷◌, Option, Some, None, if◌then◌else◌, codes}
 use Rattle.ged_value.specs.Words.{Bytes}
 use Rattle.ged_value.specs.inner.Cuts.{cut_at}
 use Rattle.ged_value.specs.Times.{TimeParts, is_time}
@@ -25,6 +25,10 @@ minute_at utc hour (Some text) = if_time (record {
 
 abbrev pub clock_at : Bool → Bytes → Option TimeParts
 clock_at utc text = minute_at utc (cut_at 58 text).0 (cut_at 58 text).1
+
+-- `Z` for UTC
+abbrev pub zone : Bool → Bytes
+zone utc = if utc then codes "Z" else []
 
 abbrev pub zone_at : Bytes → Option Bytes → Option TimeParts
 zone_at text None = clock_at false text

@@ -1,5 +1,6 @@
 use Rattle.std.proofs.Common.{◌≡◌, min, ◌≤◌, drop}
-use Rattle.ged_value.specs.Words.{number, number_after}
+use Rattle.ged_value.specs.Words.{number}
+use Rattle.ged_value.specs.inner.Numerals.{number_after}
 use Rattle.ged_value.proofs.words.small_number.Given as goal
 
 -- the digits to come make the same number of what has come
