@@ -89,6 +89,7 @@ impl<'a> FurtherTable<'a> {
     }
 
     /// How many lines stand before the structure at a place.
+    #[inline(never)]
     pub(crate) fn before(&self, place: usize) -> usize
         requires slices { IsNonDecreasingBy (λ line. line.after) self.now.slices.items }
         requires apart { IsNonDecreasingBy (λ line. line.after) self.now.apart.items }

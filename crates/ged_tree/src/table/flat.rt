@@ -122,6 +122,7 @@ impl<'a> Flat<'a> {
         self.structures[place].start_of_rest()
     }
 
+    #[inline(always)]
     fn after_at(&self, place: usize) -> usize
         requires { place < trees_count self.now }
         ensures { result ≡ place_after self.now place }
@@ -195,6 +196,7 @@ impl<'a> Forest for Flat<'a> {
         self.level_at(place)
     }
 
+    #[inline(always)]
     fn after(&self, place: usize) -> usize {
         self.after_at(place)
     }
