@@ -42,6 +42,27 @@ impl<'a, F: Forest> Writer<'a, '_, F> {
         Ok(())
     }
 
+    /// The same, where the forest has them all at once or one by one. A function of its own, so that the frequent way, which has
+    /// none, has no room for them to clear.
+    #[inline(never)]
+    fn write_further(
+        &self,
+        place: usize,
+        level: u8,
+        answer: &mut Answer<'_>,
+    ) -> Result<(), AllocError>
+        requires within { place < trees_count (F.trees self.now.forest.now) }
+        requires shallow { level ≤ 99 }
+        requires room { 0 < length (further_lines (structure_at (F.trees self.now.forest.now) place).payload) → level < 99 }
+        requires plain { list_all is_plain (further_lines (structure_at (F.trees self.now.forest.now) place).payload) ≡ true }
+        ensures { OnOk result (answer.new ≡ answer.old ++ spelled_lines (continued (level + 1) (further_lines (structure_at (F.trees self.now.forest.now) place).payload))) }
+    {
+        match self.forest.further_lines(place) {
+            Some(further) => answer.push_further(level, &further),
+            None => self.write_each_further(place, level, answer),
+        }
+    }
+
     /// Appends the lines of a structure at a place with this rule: its own, and a CONT line for each further line of its
     /// payload. It has this identifier, and the new name of the record that it points to.
     #[inline(always)]
@@ -60,13 +81,10 @@ impl<'a, F: Forest> Writer<'a, '_, F> {
             (λ new. structure_lines level (renamed_sibling new self.now.plan.edition (row_of rule.entry) (option_copied xref.entry) (F.trees self.now.forest.now) sibling.entry)) }
     {
         self.write_own(rule, level, xref, sibling, work)?;
-        let Some(further) = self.forest.further_lines(sibling.place) else {
-            return self.write_each_further(sibling.place, level, &mut work.answer);
-        };
-        if further.count() == 0 {
+        if self.forest.further(sibling.place) == 0 {
             return Ok(());
         }
-        work.answer.push_further(level, &further)
+        self.write_further(sibling.place, level, &mut work.answer)
     }
 
     /// Appends the lines of a structure at a place with this rule, and of what stands below it, up to the place `end`.
