@@ -37,7 +37,7 @@ itself; nothing else of the file is judged or changed.",
   0  The answer was written.
   1  A line has a fault.
   2  A usage error.
-  3  A file cannot be read or written, or there is not enough memory.
+  3  A file cannot be read or written or is too long, or there is not enough memory.
 
 Examples:
   gedtool lines family.ged > spelled.ged
@@ -57,7 +57,7 @@ Exit status:
   0  The file is accepted.
   1  It has a fault.
   2  A usage error.
-  3  It cannot be read, or there is not enough memory.
+  3  It cannot be read or is too long, or there is not enough memory.
 
 Examples:
   gedtool check family.ged
@@ -76,7 +76,7 @@ Exit status:
   0  The answer was written.
   1  The file has a fault.
   2  A usage error.
-  3  A file cannot be read or written, or there is not enough memory.
+  3  A file cannot be read or written or is too long, or there is not enough memory.
 
 Examples:
   gedtool show family.ged
@@ -99,7 +99,7 @@ Exit status:
   0  The answer was written.
   1  The file has a fault.
   2  A usage error.
-  3  A file cannot be read or written, or there is not enough memory.
+  3  A file cannot be read or written or is too long, or there is not enough memory.
 
 Examples:
   gedtool canon family.ged > canonical.ged
@@ -121,7 +121,7 @@ Exit status:
   0  The files are the same.
   1  They differ, or one has a fault.
   2  A usage error.
-  3  A file cannot be read, or there is not enough memory.
+  3  A file cannot be read or is too long, or there is not enough memory.
 
 Examples:
   gedtool same one.ged another.ged
@@ -144,7 +144,8 @@ Exit status:
   0  All digests were written.
   1  A file has a fault.
   2  A usage error.
-  3  A file cannot be read, the answer cannot be written, or there is not enough memory.
+  3  A file cannot be read or is too long, the answer cannot be written, or there is not
+     enough memory.
 
 Examples:
   gedtool digest *.ged | sort
