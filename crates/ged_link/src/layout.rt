@@ -3,64 +3,84 @@ ghost use Rattle.std.specs.Prelude.{◌≡◌, ◌<◌, ℕ, [], IfOk, None, fol
 ghost use Rattle.ged_tree.specs.Runs.{trees_between, IsRun};
 ghost use Rattle.ged_link.specs.Links.{identifiers};
 ghost use Rattle.ged_link.specs.Slots.{kept_in};
-ghost use Rattle.ged_link.specs.inner.Layout.{counted, counted_name, room, begun};
+ghost use Rattle.ged_link.specs.inner.Layout.{counted, counted_name, no_names, room, begun};
 
-use crate::slots::{Region, Slots};
+use crate::slots::{Region, Slots, read_number};
 use ged_tree::{Forest, next_in_run};
 use std::alloc::{AllocError, Global};
 
+/// What is told of the names that begin with one byte.
+#[derive(Clone, Copy)]
+struct Tally {
+    count: u32,
+    /// The greatest of the numbers behind it, by which they ask for their slots.
+    greatest: u32,
+}
+
+/// The tally of a byte that no name begins with.
+const NO_NAMES: Tally = Tally {
+    count: 0,
+    greatest: 0,
+};
+
 /// Counts a name by its first byte.
-fn count_name(counts: &mut Vec<u32>, name: &str)
-    ensures { counts.new.items ≡ counted_name counts.old.items name.now }
+fn count_name(tallies: &mut Vec<Tally>, name: &str)
+    ensures { tallies.new.items ≡ counted_name tallies.old.items name.now }
 {
-    if let [first, ..] = name.as_bytes() {
+    if let [first, digits @ ..] = name.as_bytes() {
         let first = usize::from(*first);
-        if first < counts.len() {
-            counts[first] = counts[first].saturating_add(1);
+        if first < tallies.len() {
+            let before = tallies[first];
+            tallies[first] = Tally {
+                count: before.count.saturating_add(1),
+                greatest: before.greatest.max(read_number(0, digits)),
+            };
         }
     }
 }
 
-/// How many names of the records from a place up to an end begin with each byte.
+/// The tally of each first byte, over the names of the records from a place up to an end.
 fn count_names<F: Forest>(
     alloc: Global,
     forest: &F,
     start: usize,
     end: usize,
-) -> Result<Vec<u32>, AllocError>
+) -> Result<Vec<Tally>, AllocError>
     requires { IsRun (F.trees forest.now) start end }
-    ensures { IfOk result (λ counts. counts.items ≡ fold counted (replicate 256 0) (identifiers (trees_between (F.trees forest.now) start end))) }
+    ensures { IfOk result (λ tallies. tallies.items ≡ fold counted (replicate 256 no_names) (identifiers (trees_between (F.trees forest.now) start end))) }
 {
-    let mut counts = vec![in alloc; 0; 256]?;
+    let mut tallies = vec![in alloc; NO_NAMES; 256]?;
     let mut place = start;
     while let Some(after) = next_in_run(forest, place, end) {
         if let Some(name) = forest.xref(place) {
-            count_name(&mut counts, name);
+            count_name(&mut tallies, name);
         }
         place = after;
     }
-    Ok(counts)
+    Ok(tallies)
 }
 
-/// How many slots so many names are given: records that were deleted leave numbers free, but seldom every second one.
-fn room_for(count: u32) -> u32
-    ensures { result ≡ room count }
+/// How many slots the names of a first byte are given: one for each number up to the greatest, as long as these are few for so
+/// many names. Records that were deleted leave numbers free, but seldom every second one.
+fn room_for(tally: Tally) -> u32
+    ensures { result ≡ room tally }
 {
-    if count == 0 {
+    if tally.count == 0 {
         0
     } else {
-        count.saturating_mul(2).saturating_add(8)
+        let enough = tally.count.saturating_mul(2).saturating_add(8);
+        enough.min(tally.greatest.saturating_add(1))
     }
 }
 
 /// The region of the names of each first byte, and the number of slots of all.
-fn regions_of(alloc: Global, counts: &[u32]) -> Result<(Vec<Region>, u32), AllocError>
-    ensures { IfOk result (λ regions. (regions.0.items, regions.1) ≡ fold begun ([], 0) counts.now) }
+fn regions_of(alloc: Global, tallies: &[Tally]) -> Result<(Vec<Region>, u32), AllocError>
+    ensures { IfOk result (λ regions. (regions.0.items, regions.1) ≡ fold begun ([], 0) tallies.now) }
 {
-    let mut regions = Vec::with_capacity(alloc, counts.len())?;
+    let mut regions = Vec::with_capacity(alloc, tallies.len())?;
     let mut size: u32 = 0;
-    for count in counts {
-        let room = room_for(*count);
+    for tally in tallies {
+        let room = room_for(*tally);
         regions.push(Region { start: size, room })?;
         size = size.saturating_add(room);
     }
@@ -68,7 +88,7 @@ fn regions_of(alloc: Global, counts: &[u32]) -> Result<(Vec<Region>, u32), Alloc
 }
 
 /// Free slots for the names of the records from a place up to an end. Takes memory for at most two slots for each name, and
-/// eight for each first byte that occurs.
+/// eight for each first byte that occurs, and for fewer where the numbers of the names are small.
 pub(crate) fn slots_for<F: Forest>(
     alloc: Global,
     forest: &F,
@@ -78,7 +98,7 @@ pub(crate) fn slots_for<F: Forest>(
     requires { IsRun (F.trees forest.now) start end }
     ensures { IfOk result (λ slots. (name : _) → (number : ℕ) → 0 < number → kept_in slots name number ≡ None) }
 {
-    let counts = count_names(alloc, forest, start, end)?;
-    let (regions, size) = regions_of(alloc, &counts)?;
+    let tallies = count_names(alloc, forest, start, end)?;
+    let (regions, size) = regions_of(alloc, &tallies)?;
     Slots::new(alloc, regions, size as usize)
 }

@@ -48,7 +48,7 @@ pub(crate) struct Slots {
 }
 
 /// The number that bytes spell as decimal digits after a number read so far. A byte that is no digit counts by its low four bits.
-fn read_number(so_far: u32, digits: &[u8]) -> u32
+pub(crate) fn read_number(so_far: u32, digits: &[u8]) -> u32
     ensures { result ≡ number_read so_far digits.now }
 {
     match digits {

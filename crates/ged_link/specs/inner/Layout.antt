@@ -1,22 +1,31 @@
 -- Nothing here need be believed: only private contracts and proofs cite it.
 -- How many slots the names are given, by their first bytes.
-use Rattle.std.specs.Prelude.{ℕ, ◌+◌, ◌*◌, min, cond, nat_eq, List, [], ◌∷◌, ◌++◌, Option, Some, None, slice_index_or, set}
+use Rattle.std.specs.Prelude.{ℕ, ◌+◌, ◌*◌, min, max, cond, nat_eq, List, [], ◌∷◌, ◌++◌, Option, Some, None, slice_index_or, set}
 use Rattle.ged_line.specs.Bytes.{Bytes}
+use Rattle.ged_link.specs.declared.layout.Tally.{Tally}
 use Rattle.ged_link.specs.declared.slots.Region.{Region}
+use Rattle.ged_link.specs.Slots.{number_read}
+
+abbrev pub no_names : Tally
+no_names = record { count = 0; greatest = 0 }
+
+-- one more name, with the number behind its first byte
+abbrev pub tallied : Tally → ℕ → Tally
+tallied tally number = record { count = min (tally.count + 1) 4294967295; greatest = max tally.greatest number }
 
 -- a name is counted by its first byte
-abbrev pub counted_name : List ℕ → Bytes → List ℕ
-counted_name counts [] = counts
-counted_name counts (b ∷ bs) = set counts b (min (slice_index_or counts b 0 + 1) 4294967295)
+abbrev pub counted_name : List Tally → Bytes → List Tally
+counted_name tallies [] = tallies
+counted_name tallies (b ∷ bs) = set tallies b (tallied (slice_index_or tallies b no_names) (number_read 0 bs))
 
-abbrev pub counted : List ℕ → Option Bytes → List ℕ
-counted counts None = counts
-counted counts (Some name) = counted_name counts name
+abbrev pub counted : List Tally → Option Bytes → List Tally
+counted tallies None = tallies
+counted tallies (Some name) = counted_name tallies name
 
--- the slots of so many names
-abbrev pub room : ℕ → ℕ
-room count = cond (nat_eq count 0) 0 (min (min (count * 2) 4294967295 + 8) 4294967295)
+-- the slots of so many names: no more than the numbers up to the greatest
+abbrev pub room : Tally → ℕ
+room tally = cond (nat_eq tally.count 0) 0 (min (min (min (tally.count * 2) 4294967295 + 8) 4294967295) (min (tally.greatest + 1) 4294967295))
 
 -- the region of one more first byte, and how many slots there are
-abbrev pub begun : List Region × ℕ → ℕ → List Region × ℕ
-begun so_far count = (so_far.0 ++ record { start = so_far.1; room = room count } ∷ [], min (so_far.1 + room count) 4294967295)
+abbrev pub begun : List Region × ℕ → Tally → List Region × ℕ
+begun so_far tally = (so_far.0 ++ record { start = so_far.1; room = room tally } ∷ [], min (so_far.1 + room tally) 4294967295)
