@@ -33,14 +33,24 @@ same_number n = grind (arith, nat_tests)
 
 -- ---- links in a list
 
-pub listed_more : (links : List (ℕ × ℕ)) (link pair : ℕ × ℕ) → is_listed (links ++ link ∷ []) pair ≡ (pair_eq pair link || is_listed links pair)
+or_swapped : (a b c : Bool) → (a || (b || c)) ≡ (b || (a || c))
+or_swapped true true c = refl
+or_swapped true false c = refl
+or_swapped false b c = refl
+
+or_within : (a b c : Bool) → ((a || b) || c) ≡ (a || (b || c))
+or_within true b c = refl
+or_within false b c = refl
+
+listed_more : (links : List (ℕ × ℕ)) (link pair : ℕ × ℕ) → is_listed (links ++ link ∷ []) pair ≡ (pair_eq pair link || is_listed links pair)
 listed_more [] link pair = refl
-listed_more (other ∷ links) link pair = rw (listed_more links link pair) (go (pair_eq pair other) (pair_eq pair link) (is_listed links pair))
-  where
-    go : (a b c : Bool) → (a || (b || c)) ≡ (b || (a || c))
-    go true true c = refl
-    go true false c = refl
-    go false b c = refl
+listed_more (other ∷ links) link pair = rw (listed_more links link pair) (or_swapped (pair_eq pair other) (pair_eq pair link) (is_listed links pair))
+
+pub linked_more : (pairs wide : List (ℕ × ℕ)) (link pair : ℕ × ℕ) → (is_listed (pairs ++ link ∷ []) pair || is_listed wide pair) ≡ (pair_eq pair link || (is_listed pairs pair || is_listed wide pair))
+linked_more pairs wide link pair = rw (listed_more pairs link pair) (or_within (pair_eq pair link) (is_listed pairs pair) (is_listed wide pair))
+
+pub linked_wide : (pairs wide : List (ℕ × ℕ)) (link pair : ℕ × ℕ) → (is_listed pairs pair || is_listed (wide ++ link ∷ []) pair) ≡ (pair_eq pair link || (is_listed pairs pair || is_listed wide pair))
+linked_wide pairs wide link pair = rw (listed_more wide link pair) (or_swapped (is_listed pairs pair) (pair_eq pair link) (is_listed wide pair))
 
 same_pair : (x y : ℕ) → pair_eq (x, y) (x, y) ≡ true
 same_pair x y = rw (same_number x, same_number y) refl

@@ -1,7 +1,7 @@
 // The links of a document, as they stand in it, and where those of each record begin.
-ghost use Rattle.std.specs.Prelude.{◌≡◌, ℕ, false, OnOk, ◌&&◌, ◌||◌, [], ◌∷◌, ◌++◌};
+ghost use Rattle.std.specs.Prelude.{◌≡◌, ℕ, false, OnOk, IfSome, ◌&&◌, ◌||◌};
 ghost use Rattle.ged_link.specs.inner.LinkWalks.{pair_eq, role_eq};
-ghost use Rattle.ged_link.specs.inner.PairSets.{lists_have, is_listed, AreInOrder, IsInOrder};
+ghost use Rattle.ged_link.specs.inner.PairSets.{lists_have, is_listed, is_linked, AreInOrder, AreLinksInOrder, IsInOrder};
 
 use crate::groups::sort_links;
 use crate::index::RecordPlace;
@@ -11,24 +11,41 @@ use std::alloc::{AllocError, Global};
 
 /// The links of one role.
 ///
-/// The pairs are all that is true of them. The numbers and the starts tell where to look for a link first, and no answer
-/// rests on them.
+/// The places are all that is true of them: those of each link are listed in `pairs` or in `wide`. The numbers and the starts
+/// tell where to look for a link first, and no answer rests on them.
 #[derive(Drop)]
 pub(crate) struct Links {
     /// The places of the record that points and of the one that it points to.
-    pub(crate) pairs: Vec<(usize, usize)>,
-    /// The number of the record that each link leads to.
+    pub(crate) pairs: Vec<(u32, u32)>,
+    /// The same of the links that do not fit there, kept apart: only a document of more than 2^32 structures has any.
+    pub(crate) wide: Vec<(usize, usize)>,
+    /// The number of the record that each of the pairs leads to.
     pub(crate) numbers: Vec<u32>,
-    /// How many links stand before those of each record. The first is HEAD, which has no number.
+    /// How many of the pairs stand before those of each record. The first is HEAD, which has no number.
     pub(crate) starts: Vec<u32>,
+}
+
+/// Two places as 32 bits hold them, or `None` where these do not hold both.
+#[inline(always)]
+fn short_pair(from: usize, to: usize) -> Option<(u32, u32)>
+    ensures { IfSome result (λ pair. pair ≡ (from, to)) }
+{
+    let Ok(from) = u32::try_from(from) else {
+        return None;
+    };
+    let Ok(to) = u32::try_from(to) else {
+        return None;
+    };
+    Some((from, to))
 }
 
 impl Links {
     fn new(alloc: Global) -> Links
-        ensures { result.pairs.items ≡ [] }
+        ensures { (pair : ℕ × ℕ) → is_linked result pair ≡ false }
     {
         Links {
             pairs: Vec::new(alloc),
+            wide: Vec::new(alloc),
             numbers: Vec::new(alloc),
             starts: Vec::new(alloc),
         }
@@ -36,27 +53,62 @@ impl Links {
 
     /// Notes that the links of the next record begin. Grows.
     fn begin_record(&mut self) -> Result<(), AllocError>
-        ensures { OnOk result (self.new.pairs ≡ self.old.pairs) }
+        ensures pairs { OnOk result (self.new.pairs ≡ self.old.pairs) }
+        ensures wide { OnOk result (self.new.wide ≡ self.old.wide) }
     {
         self.starts.push(kept_place(self.pairs.len()))?;
         Ok(())
     }
 
     /// Adds that the record at a place points to another one. Grows.
+    #[tactic(auto, using(crate::proofs::PairLemmas::linked_more))]
     fn push(&mut self, from: usize, to: RecordPlace) -> Result<(), AllocError>
-        ensures { OnOk result (self.new.pairs.items ≡ self.old.pairs.items ++ (from, to.place) ∷ []) }
+        ensures { OnOk result ((pair : ℕ × ℕ) → is_linked self.new pair ≡ (pair_eq pair (from, to.place) || is_linked self.old pair)) }
     {
-        self.pairs.push((from, to.place))?;
+        let Some(pair) = short_pair(from, to.place) else {
+            return self.push_wide(from, to.place);
+        };
+        self.pairs.push(pair)?;
         self.numbers.push(kept_place(to.number))?;
         Ok(())
     }
 
+    /// The same for places that 32 bits do not hold. Grows.
+    #[cold]
+    #[inline(never)]
+    #[tactic(auto, using(crate::proofs::PairLemmas::linked_wide))]
+    fn push_wide(&mut self, from: usize, to: usize) -> Result<(), AllocError>
+        ensures { OnOk result ((pair : ℕ × ℕ) → is_linked self.new pair ≡ (pair_eq pair (from, to) || is_linked self.old pair)) }
+    {
+        self.wide.push((from, to))?;
+        Ok(())
+    }
+
     /// Puts the pairs in order, by the record that points. Takes no memory.
-    fn sort(&mut self)
+    fn sort_pairs(&mut self)
         ensures ordered { IsInOrder self.new.pairs.items }
         ensures kept { (pair : ℕ × ℕ) → is_listed self.new.pairs.items pair ≡ is_listed self.old.pairs.items pair }
+        ensures wide { self.new.wide ≡ self.old.wide }
     {
         sort_links(&mut self.pairs);
+    }
+
+    /// The same for the links that are kept apart.
+    fn sort_wide(&mut self)
+        ensures ordered { IsInOrder self.new.wide.items }
+        ensures kept { (pair : ℕ × ℕ) → is_listed self.new.wide.items pair ≡ is_listed self.old.wide.items pair }
+        ensures pairs { self.new.pairs ≡ self.old.pairs }
+    {
+        self.wide.sort_unstable();
+    }
+
+    /// Puts the links in order, by the record that points. Takes no memory.
+    fn sort(&mut self)
+        ensures ordered { AreLinksInOrder self.new }
+        ensures kept { (pair : ℕ × ℕ) → is_linked self.new pair ≡ is_linked self.old pair }
+    {
+        self.sort_pairs();
+        self.sort_wide();
     }
 }
 
@@ -86,7 +138,6 @@ impl LinkLists {
     }
 
     /// Adds that the record at a place points to another one. Grows.
-    #[tactic(auto, using(crate::proofs::PairLemmas::listed_more))]
     pub(crate) fn push(
         &mut self,
         role: Role,

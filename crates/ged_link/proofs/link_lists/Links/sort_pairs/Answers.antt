@@ -3,7 +3,7 @@ use Rattle.std.proofs.lemmas.List.Sorted.{list_any-IsPermutation, length_permuta
 use Rattle.ged_link.specs.inner.LinkWalks.{pair_eq}
 use Rattle.ged_link.specs.inner.PairSets.{is_listed, IsInOrder}
 use Rattle.ged_link.proofs.PairLemmas.{put_back}
-use Rattle.ged_link.proofs.link_lists.Links.sort.Goals as goal
+use Rattle.ged_link.proofs.link_lists.Links.sort_pairs.Goals as goal
 
 -- the vector holds what the slice held after the sort
 kept : (c : goal.After-self-1) → take c.args.self.now.pairs.len (c.sort_links.new.pairs ++ drop (length c.sort_links.new.pairs) c.args.self.now.pairs.items) ≡ c.sort_links.new.pairs
