@@ -5,8 +5,7 @@ use Rattle.std.specs.List.{list_all, list_any}
 use Rattle.std.proofs.lemmas.Bool.{ne_eqb, or_from, or_parts, and_parts, false≢true, false_from_ne_true}
 use Rattle.std.proofs.lemmas.Bool.Decides.{Decides-eqb}
 use Rattle.ged_value.specs.Words.{Bytes}
-use Rattle.ged_value.specs.inner.Cuts.{cut_at}
-use Rattle.ged_value.specs.Times.{marked}
+use Rattle.ged_value.specs.inner.Cuts.{cut_at, marked}
 
 abbrev pub has : ℕ → Bytes → Bool
 has character text = list_any (λ b. b == character) text

@@ -7,20 +7,19 @@ use Rattle.std.specs.Str.{bytes_eq}
 use Rattle.std.proofs.lemmas.Slice.Eq.{bytes_eq-Decides}
 use Rattle.ged_value.specs.Words.{Bytes, words_of, is_integer}
 use Rattle.ged_value.specs.Reading.{Reads}
-use Rattle.ged_value.specs.inner.Cuts.{cut_at}
-use Rattle.ged_value.specs.Times.{marked, TimeText}
+use Rattle.ged_value.specs.inner.Cuts.{cut_at, marked}
+use Rattle.ged_value.specs.Times.{TimeText}
 use Rattle.ged_value.specs.Names.{NameText}
 use Rattle.ged_value.specs.Exact.{SpellsExact, ExactText}
 use Rattle.ged_value.specs.Values.{SpellsValue, SpellsPeriod, DateValueText, PeriodText}
-use Rattle.ged_value.specs.Ages.{AgeParts, AgeText, no_age}
-use Rattle.ged_value.specs.Restrictions.{AreRestrictions}
+use Rattle.ged_value.specs.Ages.{AgeParts, AgeText}
 use Rattle.ged_value.specs.Enumerations.{sexes, pedigrees, statuses, name_types, restrictions, is_of_set, is_of_any_set}
 use Rattle.ged_value.specs.inner.ValueReading.{value_at, period_at}
 use Rattle.ged_value.specs.inner.ExactReading.{exact_at}
 use Rattle.ged_value.specs.inner.TimeReading.{time_at}
-use Rattle.ged_value.specs.inner.AgeReading.{age_at}
+use Rattle.ged_value.specs.inner.AgeReading.{no_age, age_at}
 use Rattle.ged_value.specs.inner.NameReading.{name_at}
-use Rattle.ged_value.specs.inner.RestrictionReading.{trim_start, trim_end}
+use Rattle.ged_value.specs.inner.RestrictionReading.{AreRestrictions, trim_start, trim_end}
 use Rattle.ged_value.specs.Kinds.{IsVersion, FitsLine}
 use Rattle.ged_value.specs.declared.kind.Kind.{Kind}
 use Rattle.ged_value.specs.declared.kind.Kind.TheVariants as kinds

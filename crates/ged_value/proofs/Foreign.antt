@@ -9,8 +9,8 @@ use Rattle.std.proofs.lemmas.Bool.{and_parts, and_from, or_cases, or_from, or_le
 use Rattle.std.proofs.lemmas.Bool.Decides.{Decides-eqb}
 use Rattle.std.proofs.lemmas.List.Recursion.{and_at}
 use Rattle.ged_value.specs.Words.{Bytes, is_integer, is_standard_tag, is_extension_tag, is_tag_character}
-use Rattle.ged_value.specs.Dates.{CalendarName, gregorian, julian, french_r, hebrew, extension, DateParts, calendar_word, is_reserved, french_days, greatest_day, is_month, is_epoch, is_calendar, is_day_and_month, is_date, date_words, SpellsDate}
-use Rattle.ged_value.specs.inner.Months.{calendar_words, months_of_31, months_of_30, french_months, hebrew_months}
+use Rattle.ged_value.specs.Dates.{CalendarName, gregorian, julian, french_r, hebrew, extension, DateParts, calendar_word, is_reserved, greatest_day, is_month, is_epoch, is_calendar, is_day_and_month, is_date, date_words, SpellsDate}
+use Rattle.ged_value.specs.inner.Months.{calendar_words, months_of_31, months_of_30, french_days, french_months, hebrew_months}
 use Rattle.ged_value.proofs.DateLaws.{apart, apart_back, none_such, roman_none, valid, same_word, nots}
 
 abbrev pub Lack : (Bytes → Bool) → List Bytes → Type 0

@@ -1,10 +1,9 @@
 -- What is read as a name is spelled so, and what is spelled so is read.
 use Rattle.std.proofs.Common.{◌≡◌, Bool, true, false, ◌&&◌, cond, [], ◌∷◌, ◌++◌, Option, Some, None, refl, sym, ap, subst, ◌∙◌, append-nil}
 use Rattle.ged_value.specs.Words.{Bytes}
-use Rattle.ged_value.specs.inner.Cuts.{cut_at}
-use Rattle.ged_value.specs.Times.{marked}
-use Rattle.ged_value.specs.Names.{NameParts, plain, parts, is_name_byte, is_name_part, NameText}
-use Rattle.ged_value.specs.inner.NameReading.{surname_at, parts_at, name_at}
+use Rattle.ged_value.specs.inner.Cuts.{cut_at, marked}
+use Rattle.ged_value.specs.Names.{NameParts, plain, parts, is_name_part, NameText}
+use Rattle.ged_value.specs.inner.NameReading.{is_name_byte, surname_at, parts_at, name_at}
 use Rattle.ged_value.proofs.WordLaws.{both}
 use Rattle.ged_value.proofs.CutLaws.{has, has_none, cut_again, cut_joined}
 

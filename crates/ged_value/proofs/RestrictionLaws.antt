@@ -10,12 +10,11 @@ use Rattle.std.proofs.lemmas.Bool.Decides.{Decides-eqb}
 use Rattle.std.proofs.lemmas.Str.Pattern.{drop_at_char}
 use Rattle.ged_value.specs.Words.{Bytes, is_extension_tag, is_tag_character}
 use Rattle.ged_value.specs.Enumerations.{is_of_set, restrictions}
-use Rattle.ged_value.specs.Restrictions.{are_spaces, SpellsList, RestrictionsText, AreRestrictions}
-use Rattle.ged_value.specs.inner.RestrictionReading.{trim_start, trim_end}
+use Rattle.ged_value.specs.Restrictions.{are_spaces, SpellsList, RestrictionsText}
+use Rattle.ged_value.specs.inner.RestrictionReading.{AreRestrictions, trim_start, trim_end}
 use Rattle.ged_value.proofs.WordLaws.{both}
 use Rattle.ged_value.proofs.DateLaws.{none_such}
-use Rattle.ged_value.specs.inner.Cuts.{cut_at}
-use Rattle.ged_value.specs.Times.{marked}
+use Rattle.ged_value.specs.inner.Cuts.{cut_at, marked}
 use Rattle.ged_value.proofs.CutLaws.{has, has_none, has_neither, cut_again, cut_joined}
 
 is_space : (b : ℕ) → (b == 32) ≡ true → b ≡ 32

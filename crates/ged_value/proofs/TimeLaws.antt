@@ -2,8 +2,8 @@
 use Rattle.std.proofs.Common.{◌≡◌, ℕ, Bool, true, false, ◌&&◌, cond, [], ◌∷◌, ◌++◌, Option, Some, None, refl, sym, ap, subst, ◌∙◌}
 use Rattle.std.specs.Char.{is_ascii_digit}
 use Rattle.ged_value.specs.Words.{Bytes, is_integer}
-use Rattle.ged_value.specs.inner.Cuts.{cut_at}
-use Rattle.ged_value.specs.Times.{TimeParts, is_hour, is_sixtieth, is_second, is_time, marked, clock, TimeText}
+use Rattle.ged_value.specs.inner.Cuts.{cut_at, marked}
+use Rattle.ged_value.specs.Times.{TimeParts, is_hour, is_sixtieth, is_second, is_time, clock, TimeText}
 use Rattle.ged_value.specs.inner.TimeReading.{zone}
 use Rattle.ged_value.specs.inner.TimeReading.{if_time, second_at, minute_at, clock_at, zone_at, time_at}
 use Rattle.ged_value.proofs.WordLaws.{both}

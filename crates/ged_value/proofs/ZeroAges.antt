@@ -8,7 +8,8 @@ use Rattle.std.proofs.lemmas.List.{map-append, length-map}
 use Rattle.ged_value.specs.Words.{Bytes, is_integer, words_of, joined}
 use Rattle.ged_value.specs.Zeros.{has_leading_zero, trim_zeros, trimmed_words}
 use Rattle.ged_value.specs.ZeroParts.{trimmed_age}
-use Rattle.ged_value.specs.Ages.{Sign, less, greater, AgeParts, sign_words, unit_words, duration_words, IsNumber, HasNumbers, no_age, AgeText}
+use Rattle.ged_value.specs.Ages.{Sign, less, greater, AgeParts, sign_words, unit_words, duration_words, IsNumber, HasNumbers, AgeText}
+use Rattle.ged_value.specs.inner.AgeReading.{no_age}
 use Rattle.ged_value.proofs.WordLaws.{integer_digits}
 use Rattle.ged_value.proofs.TextLaws.{Plainly, words_same}
 use Rattle.ged_value.proofs.AgeLaws.{age_plainly}

@@ -7,8 +7,8 @@ use Rattle.std.proofs.lemmas.Bool.{and_parts, and_from, or_cases, false≢true, 
 use Rattle.std.proofs.lemmas.Bool.Decides.{nat_tests}
 use Rattle.ged_value.specs.Words.{Bytes, is_integer, is_standard_tag, is_extension_tag}
 use Rattle.ged_value.specs.Zeros.{begins_with_digit}
-use Rattle.ged_value.specs.Dates.{CalendarName, gregorian, julian, french_r, hebrew, extension, DateParts, calendar_word, french_days, greatest_day, is_month, is_day, is_epoch, is_calendar, is_day_and_month, is_date, date_words, SpellsDate}
-use Rattle.ged_value.specs.inner.Months.{french_months, hebrew_months}
+use Rattle.ged_value.specs.Dates.{CalendarName, gregorian, julian, french_r, hebrew, extension, DateParts, calendar_word, greatest_day, is_month, is_day, is_epoch, is_calendar, is_day_and_month, is_date, date_words, SpellsDate}
+use Rattle.ged_value.specs.inner.Months.{french_days, french_months, hebrew_months}
 use Rattle.ged_value.specs.Values.{PeriodParts, empty, to, from, from_to, ValueParts, span, plain, between, after, before, about, calculated, estimated, Behind, BothBehind, SpellsPeriod, SpellsValue}
 use Rattle.ged_value.specs.Exact.{ExactParts, SpellsExact}
 use Rattle.ged_value.proofs.DateLaws.{apart_back, none_such, roman_none, tag_first, same_word, valid}

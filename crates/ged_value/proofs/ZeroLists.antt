@@ -1,7 +1,6 @@
 -- The leading zeros of the words of a list.
-use Rattle.std.proofs.Common.{◌≡◌, ℕ, suc, Bool, true, false, cond, List, [], ◌∷◌, ◌++◌, length, map, refl, ap, ◌∙◌}
+use Rattle.std.proofs.Common.{◌≡◌, suc, Bool, true, false, cond, List, [], ◌∷◌, ◌++◌, length, map, refl, ap, ◌∙◌}
 use Rattle.std.specs.Prelude.{filter}
-use Rattle.std.specs.Char.{is_ascii_digit}
 use Rattle.ged_value.specs.Words.{Bytes}
 use Rattle.ged_value.specs.Zeros.{begins_with_digit, trim_zeros, LeavesOutZero}
 use Rattle.ged_value.proofs.ZeroWords.{Shorter, shorter_same, shorter_one, same_trimmed, begins_the_same}
@@ -15,13 +14,12 @@ each_same : (ws : List Bytes) → EachShorter ws ws
 each_same [] = refl
 each_same (w ∷ ws) = (w, ws, refl, shorter_same w, each_same ws)
 
-at_one : (before : List Bytes) (digit : ℕ) (rest : Bytes) (after : List Bytes) → is_ascii_digit digit ≡ true
-    → EachShorter (before ++ ((48 ∷ digit ∷ rest) ∷ after)) (before ++ ((digit ∷ rest) ∷ after))
-at_one [] digit rest after d = (digit ∷ rest, after, refl, shorter_one digit rest d, each_same after)
-at_one (w ∷ ws) digit rest after d = (w, ws ++ ((digit ∷ rest) ∷ after), refl, shorter_same w, at_one ws digit rest after d)
+at_one : (front : List Bytes) (word : Bytes) (back : List Bytes) → begins_with_digit word ≡ true → EachShorter (front ++ ((48 ∷ word) ∷ back)) (front ++ (word ∷ back))
+at_one [] word back d = (word, back, refl, shorter_one word d, each_same back)
+at_one (w ∷ ws) word back d = (w, ws ++ (word ∷ back), refl, shorter_same w, at_one ws word back d)
 
 pub each_one : (old new : List Bytes) → LeavesOutZero old new → EachShorter old new
-each_one old new l = rw (l.old_words, l.new_words) (at_one l.before l.digit l.rest l.after l.digit_follows)
+each_one old new l = rw (l.4, l.5) (at_one l.0 l.1 l.2 l.3)
 
 -- the words of two lists, one behind the other
 pub each_of_both : (left right new : List Bytes) → EachShorter (left ++ right) new → (l : List Bytes) × (r : List Bytes) × (new ≡ l ++ r) × EachShorter left l × EachShorter right r

@@ -19,8 +19,8 @@ pub shorter_same : (word : Bytes) → Shorter word word
 shorter_same [] = refl
 shorter_same (b ∷ bs) = inl refl
 
-pub shorter_one : (digit : ℕ) (rest : Bytes) → is_ascii_digit digit ≡ true → Shorter (48 ∷ digit ∷ rest) (digit ∷ rest)
-shorter_one digit rest d = inr (d, inl refl)
+pub shorter_one : (word : Bytes) → begins_with_digit word ≡ true → Shorter (48 ∷ word) word
+shorter_one word d = inr (d, shorter_same word)
 
 trimmed_step : (b : ℕ) (bs : Bytes) (leads : Bool) → has_leading_zero (b ∷ bs) ≡ leads → Shorter bs (trim_zeros bs) → Shorter (b ∷ bs) (cond leads (trim_zeros bs) (b ∷ bs))
 trimmed_step b bs true e rest = inr (e, rest)

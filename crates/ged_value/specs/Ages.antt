@@ -39,12 +39,8 @@ IsNumber part = IfSome part (λ digits. IsTrue (is_integer digits))
 abbrev pub HasNumbers : AgeParts → Type 0
 HasNumbers a = IsNumber a.years × IsNumber a.months × IsNumber a.weeks × IsNumber a.days
 
--- what the empty text spells
-abbrev pub no_age : AgeParts
-no_age = record { bound = None; years = None; months = None; weeks = None; days = None }
-
--- The text spells the age: it is empty, or a sign, if there is one, and one number at least, with single spaces between
--- them.
+-- The text spells the age: both are empty, or it is a sign, if there is one, and one number at least, with single spaces
+-- between them.
 abbrev pub AgeText : AgeParts → Bytes → Type 0
-AgeText a text = ((a ≡ no_age) × (text ≡ []))
+AgeText a text = ((a ≡ record { bound = None; years = None; months = None; weeks = None; days = None }) × (text ≡ []))
     ⊎ (HasNumbers a × (0 < length (duration_words a)) × (text ≡ joined (sign_words a.bound ++ duration_words a)))

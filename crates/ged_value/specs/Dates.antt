@@ -31,9 +31,7 @@ calendar_word (extension tag) = tag
 -- a word that is no month of an extension's calendar, as it has a meaning of its own: it stands before a date or between
 -- two, names a calendar of the standard's, or is the word for an epoch
 abbrev pub is_reserved : Bytes → Bool
-is_reserved word =
-    (is_one_of (words_of (codes "FROM TO BET AND BEF AFT ABT CAL EST")) word
-    || is_one_of (words_of (codes "GREGORIAN JULIAN FRENCH_R HEBREW")) word) || bytes_eq (codes "BCE") word
+is_reserved word = is_one_of (words_of (codes "FROM TO BET AND BEF AFT ABT CAL EST GREGORIAN JULIAN FRENCH_R HEBREW BCE")) word
 
 -- the greatest day of a month of the Gregorian and the Julian calendar; leap years aren't looked at
 abbrev pub roman_days : Bytes → Option ℕ
@@ -43,19 +41,16 @@ roman_days month =
     else (if bytes_eq (codes "FEB") month then Some 29
     else None))
 
--- the greatest day of a month of the French Republican calendar, the six days that end its year among them
-abbrev pub french_days : Bytes → Option ℕ
-french_days month =
-    if is_one_of (words_of (codes "VEND BRUM FRIM NIVO PLUV VENT GERM FLOR PRAI MESS THER FRUC")) month then Some 30
-    else (if bytes_eq (codes "COMP") month then Some 6
-    else None)
-
--- The greatest day of a month, and None where the calendar has no such month. Each Hebrew month is given 30 days, also
--- those that have 29, and of an extension's months no greatest day is known.
+-- The greatest day of a month, and None where the calendar has no such month. The six days that end the year of the French
+-- Republican calendar are a month of it. Each Hebrew month is given 30 days, also those that have 29, and of an extension's
+-- months no greatest day is known.
 abbrev pub greatest_day : CalendarName → Bytes → Option ℕ
 greatest_day gregorian month = roman_days month
 greatest_day julian month = roman_days month
-greatest_day french_r month = french_days month
+greatest_day french_r month =
+    if is_one_of (words_of (codes "VEND BRUM FRIM NIVO PLUV VENT GERM FLOR PRAI MESS THER FRUC")) month then Some 30
+    else (if bytes_eq (codes "COMP") month then Some 6
+    else None)
 greatest_day hebrew month = if is_one_of (words_of (codes "TSH CSH KSL TVT SHV ADR ADS NSN IYR SVN TMZ AAV ELL")) month then Some 30 else None
 greatest_day (extension tag) month = None
 

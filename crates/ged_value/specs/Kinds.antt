@@ -1,13 +1,13 @@
 -- The kinds of payloads: their words, and which payloads are of a kind (FamilySearch GEDCOM 7.0, "Data types").
-use Rattle.std.specs.Prelude.{◌≡◌, Bool, true, false, [], ◌++◌, ◌⊎◌, Option, Some, None, is_some, IsTrue, codes, ⊤}
+use Rattle.std.specs.Prelude.{◌≡◌, Bool, true, false, List, [], ◌++◌, ◌⊎◌, Option, Some, None, is_some, IsTrue, codes, ⊤}
 use Rattle.ged_value.specs.Words.{Bytes, is_integer}
 use Rattle.ged_value.specs.Enumerations.{sexes, pedigrees, statuses, name_types, is_of_set, is_of_any_set}
-use Rattle.ged_value.specs.Values.{ValueParts, PeriodParts, DateValueText, PeriodText}
+use Rattle.ged_value.specs.Values.{PeriodParts, ValueParts, span, DateValueText}
 use Rattle.ged_value.specs.Exact.{ExactParts, ExactText}
 use Rattle.ged_value.specs.Times.{TimeParts, TimeText}
 use Rattle.ged_value.specs.Ages.{AgeParts, AgeText}
 use Rattle.ged_value.specs.Names.{NameParts, NameText}
-use Rattle.ged_value.specs.Restrictions.{AreRestrictions}
+use Rattle.ged_value.specs.Restrictions.{RestrictionsText}
 use Rattle.ged_value.specs.declared.kind.Kind.{Kind}
 use Rattle.ged_value.specs.declared.kind.Kind.TheVariants.{Nothing, Text, Free, EventFlag, Integer, Version, DateValue, DatePeriod, DateExact, Time, Age, Name, EnumAny, SexEnum, PediEnum, StatEnum, NameTypeEnum, ResnList, ToFam, ToIndi, ToSubm, ToSnote, ToSour, ToObje}
 use Rattle.ged_value.specs.declared.kind.Given.{Given}
@@ -52,7 +52,7 @@ FitsLine EventFlag text = (text ≡ []) ⊎ (text ≡ codes "Y")
 FitsLine Integer text = IsTrue (is_integer text)
 FitsLine Version text = IsVersion text
 FitsLine DateValue text = (value : ValueParts) × DateValueText value text
-FitsLine DatePeriod text = (period : PeriodParts) × PeriodText period text
+FitsLine DatePeriod text = (period : PeriodParts) × DateValueText (span period) text
 FitsLine DateExact text = (date : ExactParts) × ExactText date text
 FitsLine Time text = (time : TimeParts) × TimeText time text
 FitsLine Age text = (age : AgeParts) × AgeText age text
@@ -62,7 +62,7 @@ FitsLine SexEnum text = IsTrue (is_of_set sexes text)
 FitsLine PediEnum text = IsTrue (is_of_set pedigrees text)
 FitsLine StatEnum text = IsTrue (is_of_set statuses text)
 FitsLine NameTypeEnum text = IsTrue (is_of_set name_types text)
-FitsLine ResnList text = AreRestrictions text
+FitsLine ResnList text = (items : List Bytes) × RestrictionsText items text
 FitsLine _ text = ⊥
 
 -- the kinds of a text of several lines

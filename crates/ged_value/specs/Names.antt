@@ -1,5 +1,5 @@
 -- Names of persons: their parts, and the text that spells them (FamilySearch GEDCOM 7.0, "Personal Name").
-use Rattle.std.specs.Prelude.{◌≡◌, ℕ, Bool, ◌∷◌, ◌++◌, ◌&&◌, ◌==◌, nat_le, not, IsTrue}
+use Rattle.std.specs.Prelude.{◌≡◌, Bool, ◌∷◌, ◌++◌, ◌&&◌, ◌==◌, nat_le, not, IsTrue}
 use Rattle.std.specs.List.{list_all}
 use Rattle.ged_value.specs.Words.{Bytes}
 
@@ -8,12 +8,9 @@ pub data NameParts : Type 0 where
   plain : Bytes → NameParts
   parts : Bytes → Bytes → Bytes → NameParts
 
--- a byte of a character from U+0020 on that isn't `/`
-abbrev pub is_name_byte : ℕ → Bool
-is_name_byte byte = nat_le 32 byte && not (byte == 47)
-
+-- each character is from U+0020 on and isn't `/`
 abbrev pub is_name_part : Bytes → Bool
-is_name_part text = list_all is_name_byte text
+is_name_part text = list_all (λ byte. nat_le 32 byte && not (byte == 47)) text
 
 -- a text without `/`, or three with a `/` before and after the second
 abbrev pub NameText : NameParts → Bytes → Type 0

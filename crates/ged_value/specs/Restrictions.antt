@@ -17,7 +17,3 @@ SpellsList (item ∷ next ∷ items) text =
 -- each item is a restriction
 abbrev pub RestrictionsText : List Bytes → Bytes → Type 0
 RestrictionsText items text = IsTrue (list_all (is_of_set restrictions) items) × SpellsList items text
-
--- the text is a list of restrictions
-abbrev pub AreRestrictions : Bytes → Type 0
-AreRestrictions text = (items : List Bytes) × RestrictionsText items text

@@ -1,5 +1,6 @@
 -- Times of day: their parts, and the text that spells them (FamilySearch GEDCOM 7.0, "Time").
-use Rattle.std.specs.Prelude.{◌≡◌, ℕ, Bool, true, false, [], ◌∷◌, ◌++◌, ◌&&◌, ◌==◌, nat_le, Option, Some, None, IsTrue, if◌then◌else◌, length, codes}
+use Rattle.std.specs.Prelude.{◌≡◌, Bool, true, false, [], ◌∷◌, ◌++◌, ◌&&◌, ◌==◌, nat_le, Option, Some, None, IsTrue, if◌then◌else◌, length, codes}
+use Rattle.std.specs.Option.{option_map_or}
 use Rattle.ged_value.specs.Words.{Bytes, is_integer, number}
 
 -- a time of day, in UTC or where it was taken
@@ -29,14 +30,9 @@ is_second (Some second) (Some fraction) = is_sixtieth second && is_integer fract
 abbrev pub is_time : TimeParts → Bool
 is_time t = is_hour t.hour && (is_sixtieth t.minute && is_second t.second t.fraction)
 
--- the character and what stands behind it, where there is such a part
-abbrev pub marked : ℕ → Option Bytes → Bytes
-marked character None = []
-marked character (Some part) = character ∷ part
-
--- the hour, `:` and the minute, then `:` and the second, and `.` and its fraction
+-- the hour, `:` and the minute, then `:` and the second, and `.` and its fraction, if there are any
 abbrev pub clock : TimeParts → Bytes
-clock t = t.hour ++ (58 ∷ (t.minute ++ (marked 58 t.second ++ marked 46 t.fraction)))
+clock t = t.hour ++ (58 ∷ (t.minute ++ (option_map_or (λ s. 58 ∷ s) t.second [] ++ option_map_or (λ f. 46 ∷ f) t.fraction [])))
 
 -- the text is the clock's, with `Z` behind it for UTC
 abbrev pub TimeText : TimeParts → Bytes → Type 0

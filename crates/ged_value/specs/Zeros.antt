@@ -1,6 +1,6 @@
 -- Leading zeros: each 0 at the front of a number that a digit follows. They have no meaning, and should be left out
 -- (FamilySearch GEDCOM 7.0, "Integer").
-use Rattle.std.specs.Prelude.{◌≡◌, ℕ, Bool, true, false, List, [], ◌∷◌, ◌++◌, ◌&&◌, ◌==◌, if◌then◌else◌, map, filter}
+use Rattle.std.specs.Prelude.{◌≡◌, Bool, false, IsTrue, List, [], ◌∷◌, ◌++◌, ◌&&◌, ◌==◌, if◌then◌else◌, map, filter}
 use Rattle.std.specs.Char.{is_ascii_digit}
 use Rattle.ged_value.specs.Words.{Bytes, words_of}
 
@@ -27,11 +27,6 @@ abbrev pub trimmed_words : Bytes → List Bytes
 trimmed_words text = map trim_zeros (words_of text)
 
 -- the new words are the old ones with one leading zero of one word left out
-pub record LeavesOutZero (old new : List Bytes) : Type 0 where
-  pub before : List Bytes
-  pub digit : ℕ
-  pub rest : Bytes
-  pub after : List Bytes
-  pub digit_follows : is_ascii_digit digit ≡ true
-  pub old_words : old ≡ before ++ ((0x30 ∷ digit ∷ rest) ∷ after)
-  pub new_words : new ≡ before ++ ((digit ∷ rest) ∷ after)
+abbrev pub LeavesOutZero : List Bytes → List Bytes → Type 0
+LeavesOutZero old new = (front : List Bytes) × (word : Bytes) × (back : List Bytes) × IsTrue (begins_with_digit word)
+    × (old ≡ front ++ ((0x30 ∷ word) ∷ back)) × (new ≡ front ++ (word ∷ back))

@@ -3,8 +3,8 @@ ghost use Rattle.std.specs.Prelude.{◌≡◌};
 ghost use Rattle.std.specs.List.{list_all};
 ghost use Rattle.std.specs.Option.{option_map};
 ghost use Rattle.ged_value.specs.Reading.{Reads};
-ghost use Rattle.ged_value.specs.Names.{NameText, is_name_byte as tests_name_byte, is_name_part as tests_name_part};
-ghost use Rattle.ged_value.specs.inner.NameReading.{name_at as reads_name};
+ghost use Rattle.ged_value.specs.Names.{NameText, is_name_part as tests_name_part};
+ghost use Rattle.ged_value.specs.inner.NameReading.{is_name_byte as tests_name_byte, name_at as reads_name};
 ghost use Rattle.ged_value.specs.NameViews.{name_parts};
 
 use crate::cut::cut_at;

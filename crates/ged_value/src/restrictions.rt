@@ -1,8 +1,7 @@
 // Lists of restrictions.
 ghost use Rattle.std.specs.Prelude.{◌≡◌, ◌↔◌, IsTrue};
 ghost use Rattle.ged_value.specs.Enumerations.{is_of_set, restrictions};
-ghost use Rattle.ged_value.specs.Restrictions.{AreRestrictions};
-ghost use Rattle.ged_value.specs.inner.RestrictionReading.{trim_start as trims_start, trim_end as trims_end};
+ghost use Rattle.ged_value.specs.inner.RestrictionReading.{AreRestrictions, trim_start as trims_start, trim_end as trims_end};
 
 use crate::enumerations::is_restriction;
 use crate::words::is_extension_tag;

@@ -1,7 +1,6 @@
 -- Lines made as brief as their place lets them.
-use Rattle.std.proofs.Common.{◌≡◌, ◌≢◌, ℕ, Bool, true, false, cond, ◌&&◌, List, [], ◌∷◌, ◌++◌, map, filter, Option, Some, None, refl, sym, ap, ◌∙◌, subst, ◌⊎◌, inl, inr, append_assoc}
+use Rattle.std.proofs.Common.{◌≡◌, ◌≢◌, Bool, true, false, cond, ◌&&◌, List, [], ◌∷◌, ◌++◌, map, filter, Option, Some, None, refl, sym, ap, ◌∙◌, subst, ◌⊎◌, inl, inr, append_assoc}
 use Rattle.std.specs.Prelude.{not}
-use Rattle.std.specs.Char.{is_ascii_digit}
 use Rattle.std.specs.List.{AllByRecursion}
 use Rattle.std.specs.Str.{bytes_eq}
 use Rattle.std.proofs.lemmas.Bool.{true≢false, false≢true, and_parts, and_from, false_from_ne_true}
@@ -47,25 +46,14 @@ trims_from edition r second numeric = and_from (is_second edition) (is_numeric r
 other_digit : (word : Bytes) → begins_with_digit word ≡ true → is_other word ≡ true
 other_digit word d = ap not (false_from_ne_true (bytes_eq word default_word) (λ e. false≢true (ap begins_with_digit (sym (equal_bytes word default_word e)) ∙ d)))
 
-trim_one : (digit : ℕ) (rest : Bytes) → is_ascii_digit digit ≡ true → trim_zeros (48 ∷ digit ∷ rest) ≡ trim_zeros (digit ∷ rest)
-trim_one digit rest d = rw d
+trim_one : (word : Bytes) → begins_with_digit word ≡ true → trim_zeros (48 ∷ word) ≡ trim_zeros word
+trim_one word d = rw d
 
 other_kept : (word : Bytes) (ws : List Bytes) → is_other word ≡ true → filter is_other (word ∷ ws) ≡ word ∷ filter is_other ws
 other_kept word ws e = rw e
 
 other_dropped : (word : Bytes) (ws : List Bytes) → is_other word ≡ false → filter is_other (word ∷ ws) ≡ filter is_other ws
 other_dropped word ws e = rw e
-
--- what a word with a leading zero is
-leading : (b : ℕ) (bs : Bytes) → has_leading_zero (b ∷ bs) ≡ true → (digit : ℕ) × (rest : Bytes) × (b ∷ bs ≡ 48 ∷ digit ∷ rest) × (bs ≡ digit ∷ rest) × (is_ascii_digit digit ≡ true)
-leading b bs h = by bs (and_parts _ _ h).1
-  where
-    zero : b ≡ 48
-    zero = (Decides-eqb b 48).0 (and_parts _ _ h).0
-
-    by : (cs : Bytes) → begins_with_digit cs ≡ true → (digit : ℕ) × (rest : Bytes) × (b ∷ cs ≡ 48 ∷ digit ∷ rest) × (cs ≡ digit ∷ rest) × (is_ascii_digit digit ≡ true)
-    by [] d = absurd (false≢true d)
-    by (c ∷ cs) d = (c, cs, ap (λ x. x ∷ c ∷ cs) zero, refl, d)
 
 -- Two spellings of a line have one brief line.
 
@@ -85,22 +73,22 @@ brief_alike edition r longer shorter (calendar dated h) = ap (λ ws. joined (tri
 brief_alike edition r longer shorter (leading_zero second numeric h) = ap joined (by (trims edition r) (trims_from edition r second numeric))
   where
     front : List Bytes
-    front = kept_words r h.before
+    front = kept_words r h.0
 
     back : List Bytes
-    back = kept_words r h.after
+    back = kept_words r h.2
 
-    long : kept_words r (words_of longer) ≡ front ++ (48 ∷ h.digit ∷ h.rest) ∷ back
-    long = ap (kept_words r) h.old_words ∙ kept_around r h.before h.after (48 ∷ h.digit ∷ h.rest) (other_digit (48 ∷ h.digit ∷ h.rest) refl)
+    long : kept_words r (words_of longer) ≡ front ++ (48 ∷ h.1) ∷ back
+    long = ap (kept_words r) h.4 ∙ kept_around r h.0 h.2 (48 ∷ h.1) (other_digit (48 ∷ h.1) refl)
 
-    short : kept_words r (words_of shorter) ≡ front ++ (h.digit ∷ h.rest) ∷ back
-    short = ap (kept_words r) h.new_words ∙ kept_around r h.before h.after (h.digit ∷ h.rest) (other_digit (h.digit ∷ h.rest) h.digit_follows)
+    short : kept_words r (words_of shorter) ≡ front ++ h.1 ∷ back
+    short = ap (kept_words r) h.5 ∙ kept_around r h.0 h.2 h.1 (other_digit h.1 h.3)
 
     by : (t : Bool) → t ≡ true → cond t (map trim_zeros (kept_words r (words_of longer))) (kept_words r (words_of longer)) ≡ cond t (map trim_zeros (kept_words r (words_of shorter))) (kept_words r (words_of shorter))
     by true e =
-        ap (map trim_zeros) long ∙ map-append trim_zeros front ((48 ∷ h.digit ∷ h.rest) ∷ back)
-        ∙ ap (λ w. map trim_zeros front ++ w ∷ map trim_zeros back) (trim_one h.digit h.rest h.digit_follows)
-        ∙ sym (ap (map trim_zeros) short ∙ map-append trim_zeros front ((h.digit ∷ h.rest) ∷ back))
+        ap (map trim_zeros) long ∙ map-append trim_zeros front ((48 ∷ h.1) ∷ back)
+        ∙ ap (λ w. map trim_zeros front ++ w ∷ map trim_zeros back) (trim_one h.1 h.3)
+        ∙ sym (ap (map trim_zeros) short ∙ map-append trim_zeros front (h.1 ∷ back))
     by false e = absurd (false≢true e)
 
 -- A brief line is its own.
@@ -180,11 +168,11 @@ module _ (edition : Edition) (r : Row) where
         by : (t : Bool) → has_leading_zero (b ∷ bs) ≡ t → ((short : Bytes) → words_of short ≡ front ++ bs ∷ back → FitsLine r.kind short → Reaches edition r short (front ++ trim_zeros bs ∷ back)) → Reaches edition r line (front ++ cond t (trim_zeros bs) (b ∷ bs) ∷ back)
         by false g f = (line, done, e, fits)
         by true g f =
-            let l = leading b bs g in
-            let e' : words_of line ≡ front ++ (48 ∷ l.0 ∷ l.1) ∷ back = e ∙ ap (λ v. front ++ v ∷ back) l.2 in
-            let s = (fitting_without_zeros r.kind numeric).one_left_out line (front ++ (l.0 ∷ l.1) ∷ back) fits (record { before = front; digit = l.0; rest = l.1; after = back; digit_follows = l.4; old_words = e'; new_words = refl }) in
-            let t = f (joined (front ++ (l.0 ∷ l.1) ∷ back)) (s.0 ∙ ap (λ v. front ++ v ∷ back) (sym l.3)) s.1 in
-            let zero : LeavesOutZero (words_of line) (words_of (joined (front ++ (l.0 ∷ l.1) ∷ back))) = record { before = front; digit = l.0; rest = l.1; after = back; digit_follows = l.4; old_words = e'; new_words = s.0 } in
+            let l = and_parts _ _ g in
+            let e' : words_of line ≡ front ++ (48 ∷ bs) ∷ back = e ∙ ap (λ x. front ++ (x ∷ bs) ∷ back) ((Decides-eqb b 48).0 l.0) in
+            let s = (fitting_without_zeros r.kind numeric).one_left_out line (front ++ bs ∷ back) fits (front, bs, back, l.1, e', refl) in
+            let t = f (joined (front ++ bs ∷ back)) s.0 s.1 in
+            let zero : LeavesOutZero (words_of line) (words_of (joined (front ++ bs ∷ back))) = (front, bs, back, l.1, e', s.0) in
             (t.0, then (record { out = leading_zero second numeric zero; longer_fits = fits; shorter_fits = s.1 }) t.1, t.2, t.3)
 
     trim_words : (front ws : List Bytes) (line : Bytes) → words_of line ≡ front ++ ws → FitsLine r.kind line → Reaches edition r line (front ++ map trim_zeros ws)

@@ -28,11 +28,11 @@ shortened_plain edition r longer shorter (calendar d h) =
     ∙ sym (list_all-append is_plain h.0 h.1)
     ∙ sym (plain_words shorter (h.0 ++ h.1) h.3)
 shortened_plain edition r longer shorter (leading_zero s n h) =
-    plain_words longer (h.before ++ (48 ∷ h.digit ∷ h.rest) ∷ h.after) h.old_words
-    ∙ list_all-append is_plain h.before ((48 ∷ h.digit ∷ h.rest) ∷ h.after)
-    ∙ ap (λ b. list_all is_plain h.before && (b && list_all is_plain h.after)) (plain_zero (h.digit ∷ h.rest))
-    ∙ sym (list_all-append is_plain h.before ((h.digit ∷ h.rest) ∷ h.after))
-    ∙ sym (plain_words shorter (h.before ++ (h.digit ∷ h.rest) ∷ h.after) h.new_words)
+    plain_words longer (h.0 ++ (48 ∷ h.1) ∷ h.2) h.4
+    ∙ list_all-append is_plain h.0 ((48 ∷ h.1) ∷ h.2)
+    ∙ ap (λ b. list_all is_plain h.0 && (b && list_all is_plain h.2)) (plain_zero h.1)
+    ∙ sym (list_all-append is_plain h.0 (h.1 ∷ h.2))
+    ∙ sym (plain_words shorter (h.0 ++ h.1 ∷ h.2) h.5)
 
 respelt_at : (edition : Edition) (r : Option Row) (level : ℕ) (p q : Payload) → Respelt edition r p q → is_payload_at level p ≡ is_payload_at level q
 respelt_at edition r level _ _ (respelt longer shorter out f g) = shortened_plain edition r longer shorter out

@@ -7,6 +7,10 @@ use Rattle.std.specs.Str.{bytes_eq}
 use Rattle.ged_value.specs.Words.{Bytes, is_integer}
 use Rattle.ged_value.specs.Ages.{Sign, less, greater, AgeParts}
 
+-- what the empty text spells
+abbrev pub no_age : AgeParts
+no_age = record { bound = None; years = None; months = None; weeks = None; days = None }
+
 -- the word without the letter at its end
 abbrev pub before_last : ℕ → Bytes → Option Bytes
 before_last letter [] = None

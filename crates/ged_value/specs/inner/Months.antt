@@ -1,7 +1,8 @@
 -- Nothing here need be believed: only private contracts and proofs cite it.
 -- The tables of words that dates know, by name; what they are for, is said by `Dates`.
-use Rattle.std.specs.Prelude.{List, codes}
+use Rattle.std.specs.Prelude.{ℕ, List, Option, codes}
 use Rattle.ged_value.specs.Words.{Bytes, words_of}
+use Rattle.ged_value.specs.Dates.{french_r, greatest_day}
 
 -- the words of the standard's calendars
 abbrev pub calendar_words : List Bytes
@@ -22,6 +23,10 @@ months_of_30 = words_of (codes "APR JUN SEP NOV")
 -- the months of 30 days of the French Republican calendar
 abbrev pub french_months : List Bytes
 french_months = words_of (codes "VEND BRUM FRIM NIVO PLUV VENT GERM FLOR PRAI MESS THER FRUC")
+
+-- the greatest day of a month of the French Republican calendar
+abbrev pub french_days : Bytes → Option ℕ
+french_days month = greatest_day french_r month
 
 -- the months of the Hebrew calendar
 abbrev pub hebrew_months : List Bytes

@@ -1,9 +1,13 @@
 -- Nothing here need be believed: only private contracts and proofs cite it.
 -- How names are read: the one answer of the private functions.
-use Rattle.std.specs.Prelude.{◌&&◌, Option, Some, None, if◌then◌else◌}
+use Rattle.std.specs.Prelude.{ℕ, Bool, ◌&&◌, ◌==◌, nat_le, not, Option, Some, None, if◌then◌else◌}
 use Rattle.ged_value.specs.Words.{Bytes}
 use Rattle.ged_value.specs.inner.Cuts.{cut_at}
 use Rattle.ged_value.specs.Names.{NameParts, plain, parts, is_name_part}
+
+-- a byte of a character that may stand in a part of a name
+abbrev pub is_name_byte : ℕ → Bool
+is_name_byte byte = nat_le 32 byte && not (byte == 47)
 
 -- behind a first `/`: the surname, and what stands behind the second
 abbrev pub surname_at : Bytes → Bytes → Option Bytes → Option NameParts

@@ -1,8 +1,12 @@
 -- Nothing here need be believed: only private contracts and proofs cite it.
--- How the spaces about an item are left out: the answers of private functions.
-use Rattle.std.specs.Prelude.{[], ◌∷◌, ◌==◌, if◌then◌else◌}
+-- How lists of restrictions are read: the answers of private functions.
+use Rattle.std.specs.Prelude.{List, [], ◌∷◌, ◌==◌, if◌then◌else◌}
 use Rattle.ged_value.specs.Words.{Bytes}
-use Rattle.ged_value.specs.Restrictions.{are_spaces}
+use Rattle.ged_value.specs.Restrictions.{are_spaces, RestrictionsText}
+
+-- the text is a list of restrictions
+abbrev pub AreRestrictions : Bytes → Type 0
+AreRestrictions text = (items : List Bytes) × RestrictionsText items text
 
 -- the text without the spaces that it begins with
 abbrev pub trim_start : Bytes → Bytes

@@ -2,7 +2,7 @@ use Rattle.std.proofs.Common.{length}
 use Rattle.std.specs.Prelude.{◌↔◌}
 use denote.Text.{Utf8}
 use denote.Shadow.{shadow}
-use Rattle.ged_value.specs.Restrictions.{AreRestrictions}
+use Rattle.ged_value.specs.inner.RestrictionReading.{AreRestrictions}
 use Rattle.ged_value.proofs.restrictions.are_restrictions.Given as goal
 
 -- the items so far are restrictions
