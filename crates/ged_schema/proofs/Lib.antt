@@ -12,5 +12,4 @@ pub mod NoticeLaws
 pub mod Fitting
 pub mod CheckedOrFaulty
 pub mod ProfileOrFaulty
-pub mod Tags
 pub mod CallerLemmas

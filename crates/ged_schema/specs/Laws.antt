@@ -1,9 +1,6 @@
 -- Laws of the structure tables, each the contract of a public function.
 use Rattle.std.specs.Prelude.{◌≡◌, ◌≢◌, ◌↔◌, ℕ, List, []}
 use Rattle.std.specs.List.{AllPairs}
-use Rattle.ged_line.specs.Bytes.{Bytes}
-use Rattle.ged_line.specs.Names as lines
-use Rattle.ged_value.specs.Words as values
 use Rattle.ged_tree.specs.Trees.{Trees}
 use Rattle.ged_tree.specs.Places.{line_at}
 use Rattle.ged_link.specs.Notices.{OneWayAt}
@@ -43,7 +40,3 @@ OneListing = (d : Trees) (notices others : List Notice) → AreUnlistedNotices d
 -- there are none exactly where no structure has an unlisted tag
 abbrev pub NoneIsUnlisted : Type 0
 NoneIsUnlisted = (d : Trees) (notices : List Notice) → AreUnlistedNotices d notices → (notices ≡ []) ↔ ¬ (Unlisted File d)
-
--- what a tag is, as it is said of lines and of the values of payloads
-abbrev pub TagsAgree : Type 0
-TagsAgree = (text : Bytes) → (lines.is_standard_tag text ≡ values.is_standard_tag text) × (lines.is_extension_tag text ≡ values.is_extension_tag text)

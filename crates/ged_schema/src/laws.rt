@@ -5,7 +5,7 @@ ghost use Rattle.ged_link.specs.Indexes.{IsIndexOf};
 ghost use Rattle.ged_schema.specs.declared.fault.SchemaAt.{SchemaAt};
 ghost use Rattle.ged_schema.specs.Profiles.{CheckedAs, IsFirstFaultAs};
 ghost use Rattle.ged_schema.specs.CheckedLaws.{CheckedOrFault};
-ghost use Rattle.ged_schema.specs.Laws.{HasDistinctTags, NoFaultOfChecked, NoneIsUnlisted, OneFirstFault, OneListing, OneNotice, TagsAgree, UnlistedHasPlace};
+ghost use Rattle.ged_schema.specs.Laws.{HasDistinctTags, NoFaultOfChecked, NoneIsUnlisted, OneFirstFault, OneListing, OneNotice, UnlistedHasPlace};
 
 use crate::context::Context;
 use crate::profile::{Profile, check_as};
@@ -61,9 +61,4 @@ pub fn none_is_unlisted()
 /// A document is as a profile asks, or it has a first fault under it.
 pub fn checked_or_fault()
     ensures { CheckedOrFault }
-{}
-
-/// Lines and values mean the same by a tag: a text is a standard tag, or an extension tag, to both or to none.
-pub fn tags_agree()
-    ensures { TagsAgree }
 {}

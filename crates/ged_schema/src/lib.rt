@@ -25,7 +25,7 @@ pub use context_rows::ContextRows;
 pub use fault::{SchemaAt, SchemaFault};
 pub use laws::{
     checked_or_fault, distinct_tags, fault_of_unchecked, no_fault_of_checked, none_is_unlisted,
-    one_first_fault, one_listing, one_notice, tags_agree, unlisted_has_place,
+    one_first_fault, one_listing, one_notice, unlisted_has_place,
 };
 pub use lookups::{context_below, lookup, lookup_name};
 pub use notices::{Coverage, first_unlisted, unlisted};

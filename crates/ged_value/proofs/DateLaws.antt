@@ -34,7 +34,7 @@ none_such P (x ∷ xs) w passes h =
 
 pub tag_first : (w : Bytes) → is_extension_tag w ≡ true → (cs : Bytes) × (w ≡ 95 ∷ cs)
 tag_first [] h = absurd (false≢true h)
-tag_first (c ∷ cs) h = (cs, ap (λ x. x ∷ cs) ((Decides-eqb c 95).0 (both _ _ h).0))
+tag_first (c ∷ cs) h = (cs, ap (λ x. x ∷ cs) ((Decides-eqb c 95).0 (both _ _ (both _ _ h).0).0))
 
 pub tag_no_integer : (w : Bytes) → is_extension_tag w ≡ true → is_integer w ≡ false
 tag_no_integer w h = let f = tag_first w h in rw f.1 (and_right _ _ refl)

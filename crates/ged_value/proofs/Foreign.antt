@@ -138,8 +138,8 @@ tag_no_space : (w : Bytes) → is_extension_tag w ≡ true → has_space w ≡ f
 tag_no_space [] h = refl
 tag_no_space (c ∷ cs) h =
     let q = and_parts _ _ h in
-    let e : c ≡ 95 = (Decides-eqb c 95).0 q.0 in
-    rw e (no_space is_tag_character cs refl (and_parts _ _ q.1).1)
+    let e : c ≡ 95 = (Decides-eqb c 95).0 (and_parts _ _ q.0).0 in
+    rw e (no_space is_tag_character cs refl q.1)
 
 standard_no_space : (w : Bytes) → is_standard_tag w ≡ true → has_space w ≡ false
 standard_no_space [] h = refl

@@ -2,7 +2,7 @@
 use Rattle.std.proofs.Common.{◌≡◌, ℕ, ◌-◌, ◌≤◌, ◌<◌, Bool, true, false, not, ◌&&◌, inl, inr, cond, List, [], ◌∷◌, ◌++◌, length, drop, Option, Some, None, refl, sym, ap, subst, ◌∙◌, arith, append_assoc, append-nil, length-append}
 use Rattle.std.proofs.Math.Seq.{drop-length}
 use Rattle.std.proofs.lemmas.List.{take-append-drop}
-use Rattle.std.specs.Prelude.{◌==◌, nat_lt, IsTrue, IfSome, ◌↔◌}
+use Rattle.std.specs.Prelude.{◌==◌, IsTrue, IfSome, ◌↔◌}
 use Rattle.std.specs.List.{list_all}
 use Rattle.std.specs.Str.Pattern.{FindsCharPrefix, FindsCharSuffix, CutsPrefixes, CutsSuffixes, IsTrimStartMatches, IsTrimEndMatches}
 use Rattle.std.proofs.lemmas.Bool.{and_parts, and_from, or_cases, or_parts, or_right, false≢true, false_from_ne_true}
@@ -122,10 +122,9 @@ end_matches s r h =
 tag_lacks : (c : ℕ) (w : Bytes) → is_tag_character c ≡ false → is_extension_tag w ≡ true → has c w ≡ false
 tag_lacks c [] f h = refl
 tag_lacks c (b ∷ bs) f h =
-    let first = both (b == 95) (nat_lt 0 (length bs) && list_all is_tag_character bs) h in
-    let others = both (nat_lt 0 (length bs)) (list_all is_tag_character bs) first.1 in
-    let score : b ≡ 95 = (Decides-eqb b 95).0 first.0 in
-    has_none is_tag_character c (b ∷ bs) f (and_from (is_tag_character b) (list_all is_tag_character bs) (rw score refl) others.1)
+    let parts = both _ (list_all is_tag_character bs) h in
+    let score : b ≡ 95 = (Decides-eqb b 95).0 (both _ _ parts.0).0 in
+    has_none is_tag_character c (b ∷ bs) f (and_from (is_tag_character b) (list_all is_tag_character bs) (rw score refl) parts.1)
 
 item_lacks : (c : ℕ) (w : Bytes) → is_tag_character c ≡ false → list_all (λ x. not (has c x)) restrictions ≡ true → is_of_set restrictions w ≡ true → has c w ≡ false
 item_lacks c w f table h = elim (or_cases _ _ h) [

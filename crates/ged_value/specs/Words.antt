@@ -1,30 +1,15 @@
 -- Texts and the words of a payload, and tests on them (FamilySearch GEDCOM 7.0, "Data types").
-use Rattle.std.specs.Prelude.{ℕ, ◌+◌, ◌-◌, ◌*◌, Bool, false, List, [], ◌∷◌, ◌&&◌, ◌||◌, ◌==◌, nat_lt, length}
+use Rattle.std.specs.Prelude.{ℕ, ◌+◌, ◌-◌, ◌*◌, Bool, List, ◌&&◌, ◌==◌, nat_lt, length}
 use Rattle.std.specs.List.{list_all, list_any, fold, slice_split, join_with_byte}
-use Rattle.std.specs.Char.{is_ascii_digit, is_ascii_uppercase}
+use Rattle.std.specs.Char.{is_ascii_digit}
 use Rattle.std.specs.Str.{bytes_eq}
-
--- a text is the list of its bytes
-abbrev pub Bytes : Type 0
-Bytes = List ℕ
+pub use Rattle.ged_line.specs.Bytes.{Bytes}
+pub use Rattle.ged_line.specs.Characters.{is_tag_character}
+pub use Rattle.ged_line.specs.Names.{is_standard_tag, is_extension_tag}
 
 -- one or more digits
 abbrev pub is_integer : Bytes → Bool
 is_integer text = nat_lt 0 (length text) && list_all is_ascii_digit text
-
--- a capital letter, a digit or an underscore (the standard's tagchar)
-abbrev pub is_tag_character : ℕ → Bool
-is_tag_character c = (is_ascii_uppercase c || is_ascii_digit c) || c == 0x5F
-
--- a capital letter and any tag characters
-abbrev pub is_standard_tag : Bytes → Bool
-is_standard_tag [] = false
-is_standard_tag (c ∷ cs) = is_ascii_uppercase c && list_all is_tag_character cs
-
--- an underscore and one or more tag characters
-abbrev pub is_extension_tag : Bytes → Bool
-is_extension_tag [] = false
-is_extension_tag (c ∷ cs) = c == 0x5F && (nat_lt 0 (length cs) && list_all is_tag_character cs)
 
 -- the word is one of these
 abbrev pub is_one_of : List Bytes → Bytes → Bool
