@@ -106,7 +106,7 @@ valid d h =
 first_none : (c : CalendarName) (day month : Option Bytes) (year : Bytes) (epoch : Option Bytes) → c ≡ gregorian → is_day_and_month c day month ≡ true → is_integer year ≡ true
     → (w : Bytes) × (ws : List Bytes) × ((option_to_list day ++ (option_to_list month ++ (year ∷ option_to_list epoch))) ≡ w ∷ ws) × (calendar_at w ≡ None)
 first_none c None None y e g dm i = (y, option_to_list e, refl, integer_no_calendar y i)
-first_none c None (Some m) y e g dm i = (m, y ∷ option_to_list e, refl, month_no_calendar m (subst (λ k. is_month k m ≡ true) g dm))
+first_none c None (Some m) y e g dm i = (m, y ∷ option_to_list e, refl, month_no_calendar m (subst (λ k. is_month k m ≡ true) g (both (is_month c m) _ dm).0))
 first_none c (Some d) None y e g dm i = absurd (false≢true dm)
 first_none c (Some d) (Some m) y e g dm i = (d, m ∷ y ∷ option_to_list e, refl, integer_no_calendar d (both _ _ (both _ _ dm).1).0)
 

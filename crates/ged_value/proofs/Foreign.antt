@@ -61,8 +61,8 @@ module _ (P : Bytes → Bool) (a : Absent P) where
       → Lack P (option_to_list day ++ (option_to_list month ++ (year ∷ option_to_list epoch)))
   parts_lack c None None y None dm i e = rw (a.integers y i) refl
   parts_lack c None None y (Some b) dm i e = rw (a.integers y i, epoch_lacks c b e) refl
-  parts_lack c None (Some m) y None dm i e = rw (month_lacks c m dm, a.integers y i) refl
-  parts_lack c None (Some m) y (Some b) dm i e = rw (month_lacks c m dm, a.integers y i, epoch_lacks c b e) refl
+  parts_lack c None (Some m) y None dm i e = rw (month_lacks c m (and_parts (is_month c m) _ dm).0, a.integers y i) refl
+  parts_lack c None (Some m) y (Some b) dm i e = rw (month_lacks c m (and_parts (is_month c m) _ dm).0, a.integers y i, epoch_lacks c b e) refl
   parts_lack c (Some d) None y e dm i h = absurd (false≢true dm)
   parts_lack c (Some d) (Some m) y None dm i e =
       let p = and_parts _ _ dm in rw (a.integers d (and_parts _ _ p.1).0, month_lacks c m p.0, a.integers y i) refl

@@ -22,7 +22,7 @@ sixtieth_lacks c w f h = digits_lack c w f (both _ _ h).0
 seconds_lack : (second fraction : Option Bytes) → is_second second fraction ≡ true → has 90 (marked 58 second ++ marked 46 fraction) ≡ false
 seconds_lack None None h = refl
 seconds_lack None (Some f) h = absurd cc
-seconds_lack (Some s) None h = has_neither 90 s [] (sixtieth_lacks 90 s refl h) refl
+seconds_lack (Some s) None h = has_neither 90 s [] (sixtieth_lacks 90 s refl (both _ _ h).0) refl
 seconds_lack (Some s) (Some f) h =
     let p = both (is_sixtieth s) (is_integer f) h in
     has_neither 90 s (46 ∷ f) (sixtieth_lacks 90 s refl p.0) (digits_lack 90 f refl p.1)
@@ -50,7 +50,7 @@ behind_hour : (utc : Bool) (hour minute : Bytes) (second fraction : Option Bytes
 behind_hour utc hour minute None None m s = rw (cut_again 58 minute None (sixtieth_lacks 58 minute refl m)) refl
 behind_hour utc hour minute None (Some f) m s = absurd cc
 behind_hour utc hour minute (Some s) None m h =
-    rw (cut_again 58 minute (Some (s ++ [])) (sixtieth_lacks 58 minute refl m), cut_again 46 s None (sixtieth_lacks 46 s refl h)) refl
+    rw (cut_again 58 minute (Some (s ++ [])) (sixtieth_lacks 58 minute refl m), cut_again 46 s None (sixtieth_lacks 46 s refl (both _ _ h).0)) refl
 behind_hour utc hour minute (Some s) (Some f) m h =
     let p = both (is_sixtieth s) (is_integer f) h in
     rw (cut_again 58 minute (Some (s ++ (46 ∷ f))) (sixtieth_lacks 58 minute refl m), cut_again 46 s (Some f) (sixtieth_lacks 46 s refl p.0)) refl

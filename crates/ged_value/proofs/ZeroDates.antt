@@ -86,7 +86,7 @@ Beginning c month tail new = (day : Option Bytes) × (rest : List Bytes) × (is_
 
 day_shorter : (c : CalendarName) (day month : Option Bytes) (tail new : List Bytes) → is_day_and_month c day month ≡ true → EachShorter (option_to_list day ++ (option_to_list month ++ tail)) new → Beginning c month tail new
 day_shorter c None None tail new dm h = (None, new, dm, refl, h)
-day_shorter c None (Some m) tail new dm h = let r = month_shorter c m tail new dm h in (None, r.0, dm, r.1, r.2)
+day_shorter c None (Some m) tail new dm h = let r = month_shorter c m tail new (and_parts (is_month c m) _ dm).0 h in (None, r.0, dm, r.1, r.2)
 day_shorter c (Some d) None tail new dm h = absurd (false≢true dm)
 day_shorter c (Some d) (Some m) tail new dm h =
     let p = and_parts (is_month c m) _ dm in

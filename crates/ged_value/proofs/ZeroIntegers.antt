@@ -25,8 +25,8 @@ parts_kept : (c : CalendarName) (day month : Option Bytes) (year : Bytes) (epoch
     → kept (option_to_list day ++ (option_to_list month ++ (year ∷ option_to_list epoch))) ≡ option_to_list day ++ (year ∷ [])
 parts_kept c None None y None dm i e = rw (integer_begins y i) refl
 parts_kept c None None y (Some b) dm i e = rw (integer_begins y i, epoch_other c b e) refl
-parts_kept c None (Some m) y None dm i e = rw (month_other c m dm, integer_begins y i) refl
-parts_kept c None (Some m) y (Some b) dm i e = rw (month_other c m dm, integer_begins y i, epoch_other c b e) refl
+parts_kept c None (Some m) y None dm i e = rw (month_other c m (and_parts (is_month c m) _ dm).0, integer_begins y i) refl
+parts_kept c None (Some m) y (Some b) dm i e = rw (month_other c m (and_parts (is_month c m) _ dm).0, integer_begins y i, epoch_other c b e) refl
 parts_kept c (Some d) None y e dm i h = absurd (false≢true dm)
 parts_kept c (Some d) (Some m) y None dm i e =
     let p = and_parts (is_month c m) _ dm in

@@ -34,8 +34,8 @@ parts_trim : (c : CalendarName) (day month : Option Bytes) (year : Bytes) (epoch
     → map trim_zeros (option_to_list day ++ (option_to_list month ++ (year ∷ option_to_list epoch))) ≡ option_to_list (option_map trim_zeros day) ++ (option_to_list month ++ (trim_zeros year ∷ option_to_list epoch))
 parts_trim c None None y None dm e = refl
 parts_trim c None None y (Some b) dm e = rw (other_trims b (epoch_other c b e)) refl
-parts_trim c None (Some m) y None dm e = rw (other_trims m (month_other c m dm)) refl
-parts_trim c None (Some m) y (Some b) dm e = rw (other_trims m (month_other c m dm), other_trims b (epoch_other c b e)) refl
+parts_trim c None (Some m) y None dm e = rw (other_trims m (month_other c m (and_parts (is_month c m) _ dm).0)) refl
+parts_trim c None (Some m) y (Some b) dm e = rw (other_trims m (month_other c m (and_parts (is_month c m) _ dm).0), other_trims b (epoch_other c b e)) refl
 parts_trim c (Some d) None y e dm h = absurd (false≢true dm)
 parts_trim c (Some d) (Some m) y None dm e = rw (other_trims m (month_other c m (and_parts (is_month c m) _ dm).0)) refl
 parts_trim c (Some d) (Some m) y (Some b) dm e = rw (other_trims m (month_other c m (and_parts (is_month c m) _ dm).0), other_trims b (epoch_other c b e)) refl

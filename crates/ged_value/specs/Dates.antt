@@ -1,5 +1,5 @@
 -- Dates: their parts, and the words that spell them (FamilySearch GEDCOM 7.0, "Date").
-use Rattle.std.specs.Prelude.{◌≡◌, ℕ, Bool, true, false, List, ◌∷◌, ◌++◌, ◌&&◌, ◌||◌, ◌⊎◌, Option, Some, None, is_some, IsTrue, not, nat_le, if◌then◌else◌, codes}
+use Rattle.std.specs.Prelude.{◌≡◌, ℕ, Bool, true, false, List, ◌∷◌, ◌++◌, ◌&&◌, ◌||◌, ◌⊎◌, Option, Some, None, is_some, is_none, IsTrue, not, nat_le, if◌then◌else◌, codes}
 use Rattle.std.specs.Option.{option_map_or, option_to_list}
 use Rattle.std.specs.Str.{bytes_eq}
 use Rattle.ged_value.specs.Words.{Bytes, words_of, is_one_of, is_integer, is_standard_tag, is_extension_tag, number}
@@ -79,10 +79,8 @@ is_calendar _ = true
 
 -- the calendar has the month, and the month the day; a day stands only with a month
 abbrev pub is_day_and_month : CalendarName → Option Bytes → Option Bytes → Bool
-is_day_and_month calendar None None = true
-is_day_and_month calendar (Some day) None = false
-is_day_and_month calendar None (Some month) = is_month calendar month
-is_day_and_month calendar (Some day) (Some month) = is_month calendar month && is_day calendar month day
+is_day_and_month calendar day None = is_none day
+is_day_and_month calendar day (Some month) = is_month calendar month && option_map_or (is_day calendar month) day true
 
 -- the parts are those of a date
 abbrev pub is_date : DateParts → Bool

@@ -1,5 +1,5 @@
 -- Times of day: their parts, and the text that spells them (FamilySearch GEDCOM 7.0, "Time").
-use Rattle.std.specs.Prelude.{◌≡◌, Bool, true, false, [], ◌∷◌, ◌++◌, ◌&&◌, ◌==◌, nat_le, Option, Some, None, IsTrue, if◌then◌else◌, length, codes}
+use Rattle.std.specs.Prelude.{◌≡◌, Bool, true, [], ◌∷◌, ◌++◌, ◌&&◌, ◌==◌, nat_le, Option, Some, None, is_none, IsTrue, if◌then◌else◌, length, codes}
 use Rattle.std.specs.Option.{option_map_or}
 use Rattle.ged_value.specs.Words.{Bytes, is_integer, number}
 
@@ -21,10 +21,8 @@ is_sixtieth digits = is_integer digits && (length digits == 2 && nat_le (number 
 
 -- a fraction stands only behind a second
 abbrev pub is_second : Option Bytes → Option Bytes → Bool
-is_second None None = true
-is_second None (Some fraction) = false
-is_second (Some second) None = is_sixtieth second
-is_second (Some second) (Some fraction) = is_sixtieth second && is_integer fraction
+is_second None fraction = is_none fraction
+is_second (Some second) fraction = is_sixtieth second && option_map_or is_integer fraction true
 
 -- whether the parts are those of a time
 abbrev pub is_time : TimeParts → Bool
