@@ -12,7 +12,8 @@ abbrev pub SpellsList : List Bytes → Bytes → Type 0
 SpellsList [] text = ⊥
 SpellsList (item ∷ []) text = text ≡ item
 SpellsList (item ∷ next ∷ items) text =
-    (before : Bytes) × (after : Bytes) × (rest : Bytes) × IsTrue (are_spaces before && are_spaces after) × (text ≡ item ++ (before ++ (44 ∷ (after ++ rest)))) × SpellsList (next ∷ items) rest
+    (before : Bytes) × (after : Bytes) × (rest : Bytes) × IsTrue (are_spaces before && are_spaces after)
+    × (text ≡ item ++ (before ++ (44 ∷ (after ++ rest)))) × SpellsList (next ∷ items) rest
 
 -- each item is a restriction
 abbrev pub RestrictionsText : List Bytes → Bytes → Type 0
