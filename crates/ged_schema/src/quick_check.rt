@@ -8,6 +8,7 @@ ghost use Rattle.ged_tree.specs.declared.owned.payload.Payload.TheVariants.{Poin
 ghost use Rattle.ged_tree.specs.Documents.{is_document};
 ghost use Rattle.ged_tree.specs.Places.{structure_at};
 ghost use Rattle.ged_tree.specs.Runs.{IsRun, trees_between};
+ghost use Rattle.ged_tree.specs.Views.{payload_of};
 ghost use Rattle.ged_value.specs.Kinds.{Fits as FitsGiven, FitsLine};
 ghost use Rattle.ged_value.specs.declared.kind.Given.TheVariants.{Pointer as GivenPointer, Void as GivenVoid};
 ghost use Rattle.ged_link.specs.Indexes.{IsIndexOf};
@@ -154,22 +155,25 @@ fn is_pointer_right(
     }
 }
 
-/// Whether the payload of the structure at a place is of the kind, and leads to a record of the tag that the kind names.
+/// Whether this payload, that of the structure at a place, is of the kind, and leads to a record of the tag that the kind names.
 #[inline(always)]
 fn is_payload_right<F: Forest>(
     forest: &F,
     index: &Index,
     kind: Kind,
     place: usize,
+    payload: PayloadView<'_>,
     pointers: &mut PointerCursor,
 ) -> bool
     requires within { place < trees_count (F.trees forest.now) }
+    requires payload { payload_of payload (further_lines (structure_at (F.trees forest.now) place).payload)
+        ≡ (structure_at (F.trees forest.now) place).payload }
     requires index { IsIndexOf (F.trees forest.now) index.now }
     requires document { is_document (F.trees forest.now) ≡ true }
     ensures { OnTrue result (IsOfKind kind (structure_at (F.trees forest.now) place).payload
         × PointsRight (F.trees forest.now) (target kind) (structure_at (F.trees forest.now) place).payload) }
 {
-    match forest.payload(place) {
+    match payload {
         PayloadView::Text(line) => is_text_right(forest, kind, line, place),
         PayloadView::Pointer(name) => is_pointer_right(index, kind, place, name, pointers),
         PayloadView::Void => takes_void(kind),
@@ -199,13 +203,13 @@ pub(crate) fn all_pass<F: Forest>(
     let mut marks = 0;
     let mut place = start;
     while let Some(after) = next_in_run(forest, place, end) {
-        let tag = forest.tag(place);
+        let (tag, payload) = forest.tag_and_payload(place);
         if let Some(number) = number_among(rules, seed, tag) {
             let rule = &rules[number];
             if !mark(&mut marks, number, rule.most) {
                 return false;
             }
-            if !is_payload_right(forest, index, rule.kind, place, &mut pass.pointers) {
+            if !is_payload_right(forest, index, rule.kind, place, payload, &mut pass.pointers) {
                 return false;
             }
             if place + 1 < after {

@@ -58,6 +58,16 @@ pub trait Forest {
         ensures { payload_of result (further_lines (structure_at (trees self.now) place).payload)
             ≡ (structure_at (trees self.now) place).payload };
 
+    /// The tag, and the payload by its first line. A forest that has both on one line looks for it once.
+    fn tag_and_payload(&self, place: usize) -> (&str, PayloadView<'_>)
+        requires { place < trees_count (trees self.now) }
+        ensures tag { result.0.now ≡ (structure_at (trees self.now) place).tag }
+        ensures payload { payload_of result.1 (further_lines (structure_at (trees self.now) place).payload)
+            ≡ (structure_at (trees self.now) place).payload }
+    {
+        (self.tag(place), self.payload(place))
+    }
+
     /// How many lines the payload has past the first.
     fn further(&self, place: usize) -> usize
         requires { place < trees_count (trees self.now) }

@@ -1,6 +1,7 @@
 // Cutting a text into lines from its front, and telling at once whether a line may hold only characters that may stand
 // there.
 ghost use Rattle.std.specs.Prelude.{◌≡◌, ◌<◌, ◌++◌, ◌∷◌, ◌⊎◌, length, slice_index, IsUtf8};
+ghost use Rattle.memchr.specs.Find.{IsFirstByte, is_byte2};
 ghost use Rattle.ged_line.specs.Bytes.{Bytes, carriage_return, line_feed};
 ghost use Rattle.ged_line.specs.Characters.{has_banned as tests_banned};
 ghost use Rattle.ged_line.specs.Pieces.{IsEnd, IsFirstPiece, pieces_of};
@@ -62,8 +63,18 @@ pub(crate) fn cut_line(text: &str) -> Cut<'_>
     cut_special_line(text)
 }
 
-/// The same, where some byte of the line may belong to a character that may not stand there.
+/// The first line end of bytes. A function of its own, whose answer is small, so that the frequent way has no room for a line to
+/// clear.
 #[cold]
+#[inline(never)]
+fn end_behind_special(bytes: &[u8]) -> Option<usize>
+    ensures { IsFirstByte (is_byte2 carriage_return line_feed) bytes.now result }
+{
+    first_end(bytes)
+}
+
+/// The same, where some byte of the line may belong to a character that may not stand there.
+#[inline(always)]
 fn cut_special_line(text: &str) -> Cut<'_>
     requires { 0 < length text.now }
     ensures first { IsFirstPiece text.now result.piece.now result.after.now }
@@ -73,7 +84,7 @@ fn cut_special_line(text: &str) -> Cut<'_>
     ensures piece_utf8 { IsUtf8 result.piece.now }
     ensures shorter { length result.after.now < length text.now }
 {
-    let Some(end) = first_end(text.as_bytes()) else {
+    let Some(end) = end_behind_special(text.as_bytes()) else {
         return Cut {
             piece: text,
             after: "",

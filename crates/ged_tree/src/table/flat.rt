@@ -220,6 +220,12 @@ impl<'a> Forest for Flat<'a> {
     }
 
     #[inline(always)]
+    fn tag_and_payload(&self, place: usize) -> (&str, PayloadView<'_>) {
+        let structure = self.at(place);
+        (structure.tag(), structure.payload())
+    }
+
+    #[inline(always)]
     fn points(&self, place: usize) -> bool {
         match self.kept_points_at(place) {
             Some(points) => points,
