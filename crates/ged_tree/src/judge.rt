@@ -12,7 +12,7 @@ ghost use Rattle.ged_tree.specs.Judging.{StandsFor, seen};
 ghost use Rattle.ged_tree.specs.inner.Judging.{end_faults};
 
 use crate::fault::TreeFault;
-use ged_line::{LineView, ValueView};
+use ged_line::{LineView, ValueView, is_same_tag};
 use std::marker::Model;
 
 /// What a judge keeps of a line.
@@ -188,7 +188,7 @@ impl Judge {
 pub(crate) fn is_cont(line: &LineView<'_>) -> bool
     ensures { result ≡ tests_cont line.now }
 {
-    matches!(line.tag().as_bytes(), [b'C', b'O', b'N', b'T'])
+    is_same_tag(line.tag(), "CONT")
 }
 
 pub(crate) fn is_header(line: &LineView<'_>) -> bool
