@@ -1,44 +1,26 @@
 -- The canonical spelling of a file's lines has at most four bytes more than the file: a mark, and an end after the last line.
 use Rattle.std.proofs.Common.{◌≡◌, ℕ, ◌+◌, ◌<◌, ◌≤◌, List, [], ◌∷◌, ◌++◌, ◌∙◌, inl, inr, length, decimal, ap, arith, length-append}
 use Rattle.ged_line.specs.Bytes.{Bytes, space, line_feed}
-use Rattle.ged_line.specs.Lines.{Value, Empty, Void, Pointer, Text, LineParts, LineText, IsValuePart, xref_part}
+use Rattle.ged_line.specs.Lines.{Value, Empty, Void, Pointer, Text, LineParts, xref_part}
+use Rattle.ged_line.specs.inner.LineTexts.{IsValuePart}
+use Rattle.ged_line.specs.Spelling.{LineText, value_part, spelling, spelled_lines}
 use Rattle.ged_line.specs.Pieces.{IsEnd, IsBehindMark}
 use Rattle.ged_line.specs.Files.{SpellLines, IsRespelling}
 use Rattle.ged_tool.specs.declared.runs.answer.Command.TheVariants.{Lines}
 use Rattle.ged_c.specs.Calls.{IsCall, Means, length_of}
 use Rattle.ged_c.specs.declared.answering.Ended.{Ended}
 use Rattle.ged_c.specs.declared.answering.Ended.TheVariants.{Answered, NoRoom, Refused, BadSettings, NotFound}
-use Rattle.ged_line.specs.Spelling.{value_part, spelling, spelled_lines}
 
 some_end : {end rest : Bytes} → IsEnd end rest → 0 < length end
 some_end (inl e) = let size = ap (λ (bs : Bytes). length bs) e in omega (arith, size)
 some_end (inr (inl e)) = let size = ap (λ (bs : Bytes). length bs) e in omega (arith, size)
 some_end (inr (inr e)) = let size = ap (λ (bs : Bytes). length bs) e.0 in omega (arith, size)
 
-part_fits : (value : Value) (part : Bytes) → IsValuePart value part → length (value_part value) ≤ length part
-part_fits Empty part is = omega arith
-part_fits Void part is = let size = ap (λ (bs : Bytes). length bs) is in omega (arith, size)
-part_fits (Pointer name) part is = let size = ap (λ (bs : Bytes). length bs) is in omega (arith, size)
-part_fits (Text text) part is = let size = ap (λ (bs : Bytes). length bs) is in omega (arith, size)
-
 spelling_fits : (line : LineParts) (text : Bytes) → LineText line text → length (spelling line) ≤ length text
-spelling_fits line text t =
-    let xref = xref_part line.xref in
-    let head = decimal line.level in
-    let size : length text ≡ length head + length (space ∷ (xref ++ (line.tag ++ t.value_part))) =
-    ap (λ (bs : Bytes). length bs) t.spelled ∙ length-append head (space ∷ (xref ++ (line.tag ++ t.value_part))) in
-    let made : length (spelling line) ≡ length head + length (space ∷ (xref ++ (line.tag ++ value_part line.value))) =
-    length-append head (space ∷ (xref ++ (line.tag ++ value_part line.value))) in
-    omega (
-      arith,
-      size,
-      made,
-      length-append xref (line.tag ++ t.value_part),
-      length-append line.tag t.value_part,
-      length-append xref (line.tag ++ value_part line.value),
-      length-append line.tag (value_part line.value),
-      part_fits line.value t.value_part t.value,
-    )
+spelling_fits line text t = elim t.spelled [
+  | inl own ↦ (let size = ap (λ (bs : Bytes). length bs) own in omega (arith, size))
+  | inr blank ↦ (let size = ap (λ (bs : Bytes). length bs) blank.1 in omega (arith, size, length-append (spelling line) (space ∷ [])))
+]
 
 lines_fit : (lines : List LineParts) (bytes : Bytes) → SpellLines lines bytes → length (spelled_lines lines) ≤ length bytes + 1
 lines_fit [] bytes s = omega arith

@@ -12,7 +12,7 @@ use Rattle.ged_link.specs.Links.{IsAmong, xrefs, IsNamed, identifiers}
 use Rattle.ged_link.specs.inner.Identifiers.{with_xref}
 use Rattle.ged_schema.specs.declared.context.Context.TheVariants.{File}
 use Rattle.ged_canon.specs.declared.edition.Edition.{Edition}
-use Rattle.ged_canon.specs.Normal.{InOrder, tags, AreNormal, AreNumbered, numbered, Normal}
+use Rattle.ged_canon.specs.Normal.{InOrder, AreNormal, AreNumbered, numbered, Normal}
 use Rattle.ged_canon.specs.inner.Working.{HasOwnNumber, HaveOwnNumbers, xref_count}
 use Rattle.ged_canon.proofs.theory.Texts.{same_bytes, equal_bytes}
 use Rattle.ged_canon.proofs.theory.Heads.{parts}
@@ -89,7 +89,7 @@ module _ (edition : Edition) (s : Structure) (b next : Trees) (h : is_document (
   same_xrefs : xrefs (tree s b next) ≡ xrefs next
   same_xrefs = ap (λ x. with_xref x (xrefs next)) (no_identifier s b next h)
 
-  tree_normal : AreNormal edition File (tree s b next) → InOrder (tags next) → HaveOwnNumbers (tree s b next) 1 0 next → Normal edition (tree s b next)
+  tree_normal : AreNormal edition File (tree s b next) → InOrder next → HaveOwnNumbers (tree s b next) 1 0 next → Normal edition (tree s b next)
   tree_normal places order own = record {
     places = places;
     records_in_order = order;
@@ -103,11 +103,11 @@ module _ (edition : Edition) (s : Structure) (b next : Trees) (h : is_document (
       (subst (AreNumbered 1) same_xrefs k.xrefs_numbered) (λ name m. k.xrefs_used name (subst (IsAmong name) (sym same_xrefs) m))
 
 module _ (edition : Edition) (d : Trees) (s : Structure) (b next : Trees) (is : d ≡ tree s b next) (h : is_document d ≡ true) where
-  pub normal_from : AreNormal edition File d → InOrder (tags next) → HaveOwnNumbers d 1 0 next → Normal edition d
-  normal_from = subst (λ x. is_document x ≡ true → AreNormal edition File x → InOrder (tags next) → HaveOwnNumbers x 1 0 next → Normal edition x) (sym is) (tree_normal edition s b next) h
+  pub normal_from : AreNormal edition File d → InOrder next → HaveOwnNumbers d 1 0 next → Normal edition d
+  normal_from = subst (λ x. is_document x ≡ true → AreNormal edition File x → InOrder next → HaveOwnNumbers x 1 0 next → Normal edition x) (sym is) (tree_normal edition s b next) h
 
-  pub order_from : Normal edition d → InOrder (tags next)
-  order_from k = subst (λ x. InOrder (tags (records_of x))) is k.records_in_order
+  pub order_from : Normal edition d → InOrder next
+  order_from k = subst (λ x. InOrder (records_of x)) is k.records_in_order
 
   pub numbers_of_normal : Normal edition d → HaveOwnNumbers d 1 0 next
   numbers_of_normal = subst (λ x. is_document x ≡ true → Normal edition x → HaveOwnNumbers x 1 0 next) (sym is) (normal_numbers edition s b next) h

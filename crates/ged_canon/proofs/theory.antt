@@ -13,6 +13,7 @@ pub mod NormalTests
 pub mod Normality
 pub mod Noticed
 pub mod Numbering
+pub mod Orders
 pub mod Plain
 pub mod Reach
 pub mod Renaming

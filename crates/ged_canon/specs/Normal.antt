@@ -32,23 +32,17 @@ abbrev pub IsBriefPayload : Edition → Option Row → Payload → Type 0
 IsBriefPayload edition r (Text (line ∷ [])) = IsBrief edition r line
 IsBriefPayload edition r payload = ⊤
 
--- the tags of trees that stand side by side
-abbrev pub tags : Trees → List Bytes
-tags none = []
-tags (tree s below next) = s.tag ∷ tags next
-
--- no tag is followed by one that stands before it in the order of tags
-abbrev pub InOrder : List Bytes → Type 0
-InOrder [] = ⊤
-InOrder (a ∷ []) = ⊤
-InOrder (a ∷ b ∷ rest) = (tag_order a b ≢ Greater) × InOrder (b ∷ rest)
+-- no structure of trees side by side is followed by one whose tag stands before its own in the order of tags
+abbrev pub InOrder : Trees → Type 0
+InOrder (tree s below (tree t under next)) = (tag_order s.tag t.tag ≢ Greater) × InOrder (tree t under next)
+InOrder _ = ⊤
 
 -- each payload is brief, and what stands below each structure is in the order of tags
 abbrev pub AreNormal : Edition → Context → Trees → Type 0
 AreNormal edition context none = ⊤
 AreNormal edition context (tree s below next) =
     IsBriefPayload edition (row context s.tag) s.payload
-    × InOrder (tags below)
+    × InOrder below
     × AreNormal edition (context_below context s.tag) below
     × AreNormal edition context next
 
@@ -64,7 +58,7 @@ AreNumbered n (name ∷ names) = (name ≡ numbered n) × AreNumbered (n + 1) na
 -- the document is normal
 pub record Normal (edition : Edition) (d : Trees) : Type 0 where
   pub places : AreNormal edition File d
-  pub records_in_order : InOrder (tags (records_of d))
+  pub records_in_order : InOrder (records_of d)
   -- the records with an identifier are X1, X2, and so on, and a pointer names each
   pub xrefs_numbered : AreNumbered 1 (xrefs d)
   pub xrefs_used : (name : Bytes) → IsAmong name (xrefs d) → IsNamed d name

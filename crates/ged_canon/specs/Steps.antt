@@ -47,10 +47,6 @@ pub data Respelt (edition : Edition) (r : Option Row) : Payload → Payload → 
   respelt : (longer shorter : Bytes) → Shortened edition r longer shorter → Fits r (Text (longer ∷ [])) → Fits r (Text (shorter ∷ []))
       → Respelt edition r (Text (longer ∷ [])) (Text (shorter ∷ []))
 
--- the structure with another payload
-abbrev pub with_payload : Structure → Payload → Structure
-with_payload s payload = record { xref = s.xref; tag = s.tag; payload = payload }
-
 -- Changes at one place.
 
 -- trees that stand side by side in a context become others by a change of the first of them
@@ -60,9 +56,9 @@ pub data Change (edition : Edition) (context : Context) : Trees → Trees → Ty
       → Change edition context (tree s below_s (tree t below_t next)) (tree t below_t (tree s below_s next))
   -- a payload is respelt, to and fro
   leave_out : (s : Structure) (longer shorter : Payload) (below next : Trees) → Respelt edition (row context s.tag) longer shorter
-      → Change edition context (tree (with_payload s longer) below next) (tree (with_payload s shorter) below next)
+      → Change edition context (tree (record s { payload = longer }) below next) (tree (record s { payload = shorter }) below next)
   put_in : (s : Structure) (longer shorter : Payload) (below next : Trees) → Respelt edition (row context s.tag) longer shorter
-      → Change edition context (tree (with_payload s shorter) below next) (tree (with_payload s longer) below next)
+      → Change edition context (tree (record s { payload = shorter }) below next) (tree (record s { payload = longer }) below next)
 
 -- trees in a context become others by a change at one place, among them or deeper
 pub data Somewhere (Changes : Context → Trees → Trees → Type 0) : Context → Trees → Trees → Type 0 where
@@ -83,13 +79,11 @@ abbrev pub renamed_payload : (Bytes → Bytes) → Payload → Payload
 renamed_payload new (Pointer name) = Pointer (new name)
 renamed_payload new payload = payload
 
-abbrev pub renamed_structure : (Bytes → Bytes) → Structure → Structure
-renamed_structure new s = record { xref = option_map new s.xref; tag = s.tag; payload = renamed_payload new s.payload }
-
 -- each identifier and each pointer gets its new name
 abbrev pub renamed : (Bytes → Bytes) → Trees → Trees
 renamed new none = none
-renamed new (tree s below next) = tree (renamed_structure new s) (renamed new below) (renamed new next)
+renamed new (tree s below next) =
+    tree (record s { xref = option_map new s.xref; payload = renamed_payload new s.payload }) (renamed new below) (renamed new next)
 
 -- the records get new identifiers, and the pointers with them, all at once; each pair has a record's old name and its new one
 pub record Renamed (d e : Trees) : Type 0 where
@@ -101,13 +95,10 @@ pub record Renamed (d e : Trees) : Type 0 where
   pub no_other_names_a_new : (name : Bytes) → IsNamed d name → IsAmong name (map (λ pair. pair.1) pairs) → IsAmong name (xrefs d)
   pub all_at_once : e ≡ renamed (new_name pairs) d
 
--- the structure with another identifier, or none
-abbrev pub with_identifier : Structure → Option Bytes → Structure
-with_identifier s xref = record { xref = xref; tag = s.tag; payload = s.payload }
-
 -- one of the trees side by side gains an identifier
 pub data Gains (name : Bytes) : Trees → Trees → Type 0 where
-  gains : (s : Structure) (below next : Trees) → Gains name (tree (with_identifier s None) below next) (tree (with_identifier s (Some name)) below next)
+  gains : (s : Structure) (below next : Trees)
+      → Gains name (tree (record s { xref = None }) below next) (tree (record s { xref = Some name }) below next)
   after : {t u : Trees} (s : Structure) (below : Trees) → Gains name t u → Gains name (tree s below t) (tree s below u)
 
 -- a record gains a name that no record has and no pointer names

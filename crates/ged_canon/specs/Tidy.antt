@@ -7,7 +7,7 @@ use Rattle.ged_tree.specs.Documents.{is_document}
 use Rattle.ged_schema.specs.declared.context.Context.TheVariants.{File}
 use Rattle.ged_canon.specs.declared.edition.Edition.{Edition}
 use Rattle.ged_canon.specs.Steps.{Change, Somewhere, Chain}
-use Rattle.ged_canon.specs.Normal.{tags, InOrder, AreNormal}
+use Rattle.ged_canon.specs.Normal.{InOrder, AreNormal}
 
 -- a step that is a change at one place, so that each identifier stays as it is
 pub record PlaceStep (edition : Edition) (d e : Trees) : Type 0 where
@@ -22,7 +22,7 @@ EquivalentInPlace edition = Chain (PlaceStep edition)
 -- the document is tidy
 pub record Tidy (edition : Edition) (d : Trees) : Type 0 where
   pub places : AreNormal edition File d
-  pub records_in_order : InOrder (tags (records_of d))
+  pub records_in_order : InOrder (records_of d)
 
 -- the second document is tidy, and the first becomes it by steps at places
 pub record IsTidyForm (edition : Edition) (d e : Trees) : Type 0 where

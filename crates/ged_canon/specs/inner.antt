@@ -1,4 +1,5 @@
 pub mod CanonBytes
+pub mod Orders
 pub mod Runs
 pub mod Siblings
 pub mod StepParts

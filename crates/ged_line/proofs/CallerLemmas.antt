@@ -4,7 +4,9 @@ use Rattle.std.specs.List.{AllByRecursion}
 use Rattle.ged_line.specs.Bytes.{Bytes, space}
 use Rattle.ged_line.specs.Characters.{is_tag_character, is_plain}
 use Rattle.ged_line.specs.Names.{is_tag, is_xref}
-use Rattle.ged_line.specs.Lines.{Value, LineParts, LineText, IsValuePart}
+use Rattle.ged_line.specs.Lines.{Value, LineParts}
+use Rattle.ged_line.specs.inner.LineTexts.{IsValuePart, LineInParts}
+use Rattle.ged_line.specs.Spelling.{LineText}
 use Rattle.ged_line.specs.Faults.{StandsAt, word}
 use Rattle.ged_line.specs.Pieces.{HasNoEnd, IsFirstPiece, AreCutInto, ArePiecesOf, IsBehindMark, pieces_of}
 use Rattle.ged_line.specs.WholeLines.{EndsLine, OneWholeFront, WholePiecesStay}
@@ -16,6 +18,7 @@ use Rattle.ged_line.proofs.bytes.Cutting as cutting
 use Rattle.ged_line.proofs.file.FileLaws as files
 use Rattle.ged_line.proofs.file.WholeLines as whole_lines
 use Rattle.ged_line.proofs.line.LineLaws as lines_of_pieces
+use Rattle.ged_line.proofs.line.LineTexts as texts_of_lines
 use Rattle.ged_line.proofs.line.NameTests as names
 use Rattle.ged_line.proofs.line.Scans as scans
 use Rattle.std.proofs.lemmas.Str.{IsUtf8-nil}
@@ -48,6 +51,10 @@ no_fault = lines_of_pieces.no_fault
 -- the text of a line is UTF-8 without banned characters
 pub line_plain : (line : LineParts) (text : Bytes) → LineText line text → is_plain text ≡ true
 line_plain line text t = let plain = lines_of_pieces.line_plain line text t in banned.is_plain-from text plain.0 plain.1
+
+-- the text of a line is its level, its identifier, its tag and what spells its value
+pub in_parts : (line : LineParts) (text : Bytes) → LineText line text → LineInParts line text
+in_parts = texts_of_lines.in_parts
 
 -- what stands behind a tag is nothing or begins with a space
 pub part_ends : (value : Value) (part : Bytes) → IsValuePart value part → (part ≡ []) ⊎ ((more : Bytes) × (part ≡ space ∷ more))

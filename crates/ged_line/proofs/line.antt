@@ -2,6 +2,7 @@ pub mod Capitals
 pub mod Cuts
 pub mod Identifiers
 pub mod Levels
+pub mod LineTexts
 pub mod LineLaws
 pub mod NameMarks
 pub mod NameTests

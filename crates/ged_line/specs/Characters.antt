@@ -1,5 +1,6 @@
 -- The characters of a line (FamilySearch GEDCOM 7.0, "Characters").
-use Rattle.std.specs.Prelude.{ℕ, ◌==◌, ◌&&◌, ◌||◌, nat_lt, nat_le, not, Bool}
+use Rattle.std.specs.Prelude.{ℕ, ◌==◌, ◌&&◌, ◌||◌, nat_lt, not, Bool}
+use Rattle.std.specs.Char.{is_ascii_digit, is_ascii_uppercase}
 use Rattle.std.specs.List.{list_any}
 use Rattle.std.specs.Str.{is_utf8, chars}
 use Rattle.ged_line.specs.Bytes.{Bytes}
@@ -17,14 +18,6 @@ has_banned bytes = list_any is_banned (chars bytes)
 abbrev pub is_plain : Bytes → Bool
 is_plain bytes = is_utf8 bytes && not (list_any is_banned (chars bytes))
 
--- 0 to 9
-abbrev pub is_digit : ℕ → Bool
-is_digit c = nat_le 0x30 c && nat_le c 0x39
-
--- A to Z
-abbrev pub is_capital : ℕ → Bool
-is_capital c = nat_le 0x41 c && nat_le c 0x5A
-
 -- a capital letter, a digit or an underscore (the standard's tagchar)
 abbrev pub is_tag_character : ℕ → Bool
-is_tag_character c = is_capital c || is_digit c || c == 0x5F
+is_tag_character c = is_ascii_uppercase c || is_ascii_digit c || c == 0x5F

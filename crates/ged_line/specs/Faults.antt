@@ -3,7 +3,8 @@ use Rattle.std.specs.Prelude.{◌≡◌, codes, ℕ, Bool, true, false, ◌<◌,
 use Rattle.std.specs.List.{before_first, list_all}
 use Rattle.std.specs.Str.{is_utf8}
 use Rattle.ged_line.specs.Bytes.{Bytes, space, at_sign}
-use Rattle.ged_line.specs.Characters.{is_digit, has_banned}
+use Rattle.ged_line.specs.Characters.{has_banned}
+use Rattle.std.specs.Char.{is_ascii_digit}
 use Rattle.ged_line.specs.Names.{is_tag, is_xref}
 use Rattle.ged_line.specs.declared.fault.LineFault.{LineFault}
 use Rattle.ged_line.specs.declared.fault.LineFault.TheVariants.{NotUtf8, BannedCharacter, EmptyLine, BadLevel, LevelTooLarge, BadXref, BadTag, BadValue}
@@ -11,7 +12,7 @@ use Rattle.ged_line.specs.declared.fault.LineFault.TheVariants.{NotUtf8, BannedC
 -- 0, or a digit from 1 to 9 and any digits
 abbrev pub is_level : Bytes → Bool
 is_level [] = false
-is_level (d ∷ ds) = if d == 0x30 then length ds == 0 else is_digit d && list_all is_digit ds
+is_level (d ∷ ds) = if d == 0x30 then length ds == 0 else is_ascii_digit d && list_all is_ascii_digit ds
 
 -- the number that digits spell after those of n
 abbrev pub number_after : ℕ → Bytes → ℕ

@@ -1,10 +1,10 @@
 -- The lines of a file (FamilySearch GEDCOM 7.0, "Lines").
 use Rattle.std.specs.Prelude.{◌≡◌, ℕ, ◌+◌, List, [], ◌∷◌, ◌++◌, ◌⊎◌, length}
 use Rattle.ged_line.specs.Bytes.{Bytes}
-use Rattle.ged_line.specs.Lines.{LineParts, LineText}
+use Rattle.ged_line.specs.Lines.{LineParts}
+use Rattle.ged_line.specs.Spelling.{LineText, file_of}
 use Rattle.ged_line.specs.Faults.{IsFaultOf}
 use Rattle.ged_line.specs.Pieces.{IsEnd, IsBehindMark, AreCutInto}
-use Rattle.ged_line.specs.Spelling.{file_of}
 use Rattle.ged_line.specs.declared.fault.LineFault.{LineFault}
 use Rattle.ged_line.specs.declared.file.spelled_part.SpelledPart.{SpelledPart}
 

@@ -2,11 +2,11 @@
 use Rattle.std.specs.Prelude.{◌≡◌, List, ◌⊎◌, true}
 use Rattle.std.specs.List.{AllByRecursion}
 use Rattle.ged_line.specs.Bytes.{Bytes}
-use Rattle.ged_line.specs.Lines.{LineParts, LineText, is_line}
+use Rattle.ged_line.specs.Lines.{LineParts, is_line}
+use Rattle.ged_line.specs.Spelling.{LineText, spelling, file_of}
 use Rattle.ged_line.specs.Faults.{StandsAt, IsFaultOf}
 use Rattle.ged_line.specs.Pieces.{ArePiecesOf}
 use Rattle.ged_line.specs.Files.{FileText}
-use Rattle.ged_line.specs.Spelling.{spelling, file_of}
 use Rattle.ged_line.specs.declared.fault.LineFault.{LineFault}
 
 -- a piece has one line at most

@@ -7,12 +7,13 @@ use Rattle.std.specs.declared.cmp.Ordering.{Ordering}
 use Rattle.std.specs.declared.cmp.Ordering.TheVariants.{Less, Equal, Greater}
 use Rattle.std.specs.Str.{bytes_eq}
 use Rattle.ged_line.specs.Bytes.{Bytes}
-use Rattle.ged_line.specs.Characters.{is_capital, is_tag_character}
+use Rattle.ged_line.specs.Characters.{is_tag_character}
+use Rattle.std.specs.Char.{is_ascii_uppercase}
 
 -- a capital letter and any tag characters
 abbrev pub is_standard_tag : Bytes → Bool
 is_standard_tag [] = false
-is_standard_tag (c ∷ cs) = is_capital c && list_all is_tag_character cs
+is_standard_tag (c ∷ cs) = is_ascii_uppercase c && list_all is_tag_character cs
 
 -- an underscore and one or more tag characters
 abbrev pub is_extension_tag : Bytes → Bool

@@ -1,5 +1,5 @@
 -- When a link is answered: what the sets of pairs tell, and what stands in the document.
-use Rattle.std.proofs.Common.{◌≡◌, ℕ, ◌+◌, ◌<◌, Bool, true, false, not, ◌||◌, cond, nat_eq, codes, Option, Some, None, List, [], ◌∷◌, ◌⊎◌, inl, inr, refl, sym, ap, subst, ◌∙◌, arith, rules, ◌↔◌}
+use Rattle.std.proofs.Common.{◌≡◌, ℕ, ◌+◌, ◌<◌, Bool, true, false, not, ◌||◌, cond, nat_eq, codes, Option, Some, None, [], ◌∷◌, ◌⊎◌, inl, inr, refl, sym, ap, subst, ◌∙◌, arith, rules, ◌↔◌}
 use Rattle.std.specs.Bool.{Decides}
 use Rattle.std.specs.Str.{bytes_eq}
 use Rattle.std.proofs.lemmas.Slice.Eq.{bytes_eq-Decides}
@@ -12,9 +12,10 @@ use Rattle.ged_tree.specs.declared.owned.payload.Payload.{Payload}
 use Rattle.ged_tree.specs.declared.owned.payload.Payload.TheVariants.{Void, Pointer, Text}
 use Rattle.ged_link.specs.declared.pairs.Role.{Role}
 use Rattle.ged_link.specs.declared.pairs.Role.TheVariants.{Partner, Child}
-use Rattle.ged_link.specs.Links.{IsAmong, SomeIn, SomeTree}
+use Rattle.ged_link.specs.Links.{IsAmong, SomeTree}
 use Rattle.ged_link.specs.LinkFaults.{HasXref}
-use Rattle.ged_link.specs.Notices.{Link, links, PointsBack, IsUnanswered, IsOneWay}
+use Rattle.ged_link.specs.Notices.{Link, links, IsUnanswered, IsOneWay}
+use Rattle.ged_link.specs.inner.Identifiers.{PointsBack}
 use Rattle.ged_link.specs.inner.LinkWalks.{role_under, is_role, target, is_place, linked, has_link_to, has_pair, other_tag, is_unanswered, is_one_way_for, is_one_way}
 use Rattle.ged_link.proofs.LinkLemmas.{both, level_parts, unnamed}
 use Rattle.ged_link.proofs.PlaceCases.{place_cases, at_first, at_below, at_next}
@@ -66,16 +67,6 @@ right_true true b e = refl
 right_true false b e = e
 
 -- ---- the links by their roles
-
-some_in : {X : Type 0} (P : X → Type 0) (x : X) (xs : List X) → IsAmong x xs → P x → SomeIn P xs
-some_in P x [] h p = h
-some_in P x (y ∷ ys) (inl e) p = inl (subst P e p)
-some_in P x (y ∷ ys) (inr h) p = inr (some_in P x ys h p)
-
-in_some : {X : Type 0} (P : X → Type 0) (xs : List X) → SomeIn P xs → (x : X) × IsAmong x xs × P x
-in_some P [] h = absurd h
-in_some P (x ∷ xs) (inl p) = (x, inl refl, p)
-in_some P (x ∷ xs) (inr h) = let k = in_some P xs h in (k.0, inr k.1, k.2)
 
 -- what a link and a role have to do with each other
 pub record IsLinkOf (link : Link) (role : Role) : Type 0 where
@@ -327,13 +318,12 @@ module _ (d : Trees) (level : are_at 0 d ≡ true) (find : Bytes → Option ℕ)
       let x = (finds t.0 u.0).0 t.2 in
       let tag : (structure_at d u.0).tag ≡ l.0.to = u.2 ∙ ap other_tag (sym l.2) ∙ of.to in
       let z : 0 + u.0 ≡ u.0 = omega arith in
-      some_in (λ (link : Link). (link.at ≡ (structure_at d p).tag) × (link.tag ≡ s.tag) × (name : Bytes) × (s.payload ≡ Pointer name) × SomeTree (IsUnanswered name (structure_at d p).xref link) d)
-      l.0 links l.1 (l.2, l.3, t.0, t.1, at_unanswered d find finds l.0 b.0 of p within d 0 t.0 level u.0 x.0 x.1 tag (rw z u.3))
+      (l.0, l.1, (l.2, l.3, t.0, t.1, at_unanswered d find finds l.0 b.0 of p within d 0 t.0 level u.0 x.0 x.1 tag (rw z u.3)))
 
   pub IsOneWay-is_one_way : IsOneWay d (structure_at d p).tag (structure_at d p).xref s below → is_one_way find d (structure_at d p).tag p s ≡ true
   IsOneWay-is_one_way h =
       let at = (structure_at d p).tag in
-      let i = in_some (λ (link : Link). (link.at ≡ (structure_at d p).tag) × (link.tag ≡ s.tag) × (name : Bytes) × (s.payload ≡ Pointer name) × SomeTree (IsUnanswered name (structure_at d p).xref link) d) links h in
+      let i = h in
       let o = role_of_link i.0 i.1 in
       let k = i.2 in
       let r = unanswered_at d find finds i.0 o.0 o.1 p within d 0 k.2 k.4 in

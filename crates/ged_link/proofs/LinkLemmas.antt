@@ -6,7 +6,8 @@ use Rattle.std.proofs.lemmas.Slice.Eq.{bytes_eq-Decides}
 use Rattle.std.proofs.lemmas.Bool.Decides.{nat_tests}
 use Rattle.ged_line.specs.Bytes.{Bytes}
 use Rattle.ged_tree.specs.Trees.{Structure, Trees, none, tree, trees_count}
-use Rattle.ged_tree.specs.Documents.{is_document, are_at, is_structure_at, is_xref_at}
+use Rattle.ged_tree.specs.Documents.{is_document, are_at, is_structure_at}
+use Rattle.ged_tree.specs.inner.DocumentParts.{is_xref_at}
 use Rattle.ged_tree.specs.Places.{structure_at}
 use Rattle.ged_tree.specs.Runs.{trees_between, IsRun}
 use Rattle.ged_link.specs.Links.{SomeTree, IsAmong, AreDistinct, xrefs, IsNamed}

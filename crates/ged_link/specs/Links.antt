@@ -5,14 +5,10 @@ use Rattle.ged_line.specs.Bytes.{Bytes}
 use Rattle.ged_tree.specs.Trees.{Structure, Trees, none, tree, records_of}
 use Rattle.ged_tree.specs.declared.owned.payload.Payload.TheVariants.{Pointer}
 
--- one of them has P
-abbrev pub SomeIn : {X : Type 0} → (X → Type 0) → List X → Type 0
-SomeIn P [] = ⊥
-SomeIn P (x ∷ xs) = P x ⊎ SomeIn P xs
-
 -- x is one of them
 abbrev pub IsAmong : {X : Type 0} → X → List X → Type 0
-IsAmong x xs = SomeIn (λ y. x ≡ y) xs
+IsAmong x [] = ⊥
+IsAmong x (y ∷ ys) = (x ≡ y) ⊎ IsAmong x ys
 
 -- no two of them are the same
 abbrev pub AreDistinct : {X : Type 0} → List X → Type 0

@@ -5,7 +5,7 @@ use Rattle.ged_line.specs.Bytes.{Bytes}
 use Rattle.ged_tree.specs.Trees.{Structure, Trees, none, tree, trees_count}
 use Rattle.ged_tree.specs.Places.{line_at}
 use Rattle.ged_tree.specs.declared.owned.payload.Payload.TheVariants.{Pointer}
-use Rattle.ged_link.specs.Links.{IsAmong, SomeIn, SomeTree}
+use Rattle.ged_link.specs.Links.{IsAmong, SomeTree}
 use Rattle.ged_link.specs.declared.notices.Notice.{Notice}
 use Rattle.ged_link.specs.declared.notices.NoticeKind.TheVariants as kinds
 
@@ -26,18 +26,15 @@ links =
     ∷ (record { at = codes "FAM"; tag = codes "CHIL"; to = codes "INDI"; answers = codes "FAMC" ∷ [] }
     ∷ []))))
 
--- a structure with one of these tags that points to the record with this identifier
-abbrev pub PointsBack : Option Bytes → List Bytes → Structure → Trees → Type 0
-PointsBack xref tags s below = IsAmong s.tag tags × (name : Bytes) × (xref ≡ Some name) × (s.payload ≡ Pointer name)
-
--- a record of the tag has this identifier, and nothing directly under it points back
+-- a record of the tag has this name, and no answer directly under it points back to the record with the other identifier
 abbrev pub IsUnanswered : Bytes → Option Bytes → Link → Structure → Trees → Type 0
-IsUnanswered name xref link s below = (s.xref ≡ Some name) × (s.tag ≡ link.to) × (SomeTree (PointsBack xref link.answers) below → ⊥)
+IsUnanswered name xref link s below = (s.xref ≡ Some name) × (s.tag ≡ link.to)
+    × (SomeTree (λ t _. IsAmong t.tag link.answers × (back : Bytes) × (xref ≡ Some back) × (t.payload ≡ Pointer back)) below → ⊥)
 
 -- a structure directly under a record with this tag and identifier is a link in one direction only
 abbrev pub IsOneWay : Trees → Bytes → Option Bytes → Structure → Trees → Type 0
-IsOneWay d at xref s below =
-    SomeIn (λ link. (link.at ≡ at) × (link.tag ≡ s.tag) × (name : Bytes) × (s.payload ≡ Pointer name) × SomeTree (IsUnanswered name xref link) d) links
+IsOneWay d at xref s below = (link : Link) × IsAmong link links
+    × ((link.at ≡ at) × (link.tag ≡ s.tag) × (name : Bytes) × (s.payload ≡ Pointer name) × SomeTree (IsUnanswered name xref link) d)
 
 -- some link of the document goes in one direction only
 abbrev pub OneWay : Trees → Type 0

@@ -1,13 +1,15 @@
 -- Structures with unlisted tags, from one place to the next.
 use Rattle.std.proofs.Common.{sym, ◌∙◌, ap, map, ◌≡◌, ◌≢◌, ℕ, ◌+◌, ◌-◌, ◌^◌, ◌<◌, refl, arith, true, ◌&&◌, not, nat_le, List, [], ◌∷◌, ◌++◌, inl, inr, Some, None, codes}
-use Rattle.std.specs.Prelude.{nat_lt}
+use Rattle.std.specs.Prelude.{nat_lt, length}
 use Rattle.std.specs.Str.{bytes_eq}
 use Rattle.std.proofs.lemmas.List.{append_assoc, map-append}
 use Rattle.std.proofs.lemmas.Bool.{cases_lt}
 use Rattle.ged_line.specs.Names.{is_tag, is_standard_tag}
 use Rattle.ged_schema.proofs.Decided.{and_left, and_right}
-use Rattle.ged_tree.specs.Trees.{Structure, Trees, none, tree, trees_count, lines_count}
-use Rattle.ged_tree.specs.Documents.{is_document, is_head, are_records, are_at, is_structure_at, is_xref_at, is_payload_at}
+use Rattle.ged_tree.specs.DocumentLines.{document_lines}
+use Rattle.ged_tree.specs.Trees.{Structure, Trees, none, tree, trees_count}
+use Rattle.ged_tree.specs.Documents.{is_document, are_records, are_at, is_structure_at, is_payload_at}
+use Rattle.ged_tree.specs.inner.DocumentParts.{is_head, is_xref_at}
 use Rattle.ged_tree.specs.Places.{structure_at, line_at}
 use Rattle.ged_tree.proofs.CallerLemmas.{from_first, from_below, from_next}
 use Rattle.ged_link.specs.declared.notices.Notice.{Notice}
@@ -57,7 +59,7 @@ tag_at level (tree s b n) p h inside =
 pub document_tag : (d : Trees) (p : ℕ) → is_document d ≡ true → p < trees_count d → is_tag (structure_at d p).tag ≡ true
 document_tag none p h inside = absurd (omega arith)
 document_tag (tree s b n) p h inside =
-    tag_at 0 (tree s b n) p (and_left (are_at 0 (tree s b n)) (nat_lt (lines_count (tree s b n) + 1) (2 ^ 63)) (and_right (is_head s && are_records n) (are_at 0 (tree s b n) && nat_lt (lines_count (tree s b n) + 1) (2 ^ 63)) h)) inside
+    tag_at 0 (tree s b n) p (and_left (are_at 0 (tree s b n)) (nat_lt (length (document_lines (tree s b n))) (2 ^ 63)) (and_right (is_head s && are_records n) (are_at 0 (tree s b n) && nat_lt (length (document_lines (tree s b n))) (2 ^ 63)) h)) inside
 
 pub unlisted_end : (c : Context) (place : ℕ) (t : Trees) → t ≡ none → ListsUnlisted c place t []
 unlisted_end c place t is = rw is refl

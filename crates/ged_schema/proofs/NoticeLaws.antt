@@ -6,7 +6,8 @@ use Rattle.ged_tree.specs.Trees.{Trees, none, tree, trees_count, Structure}
 use Rattle.ged_tree.specs.Places.{line_at}
 use Rattle.ged_tree.proofs.CallerLemmas.{next_line}
 use Rattle.ged_link.specs.LinkFaults.{IsLowest}
-use Rattle.ged_link.specs.Notices.{OneWay, OneWayAt, IsOneWay, SomeTreeFrom}
+use Rattle.ged_link.specs.Links.{IsAmong}
+use Rattle.ged_link.specs.Notices.{Link, links, OneWay, OneWayAt, IsOneWay, SomeTreeFrom}
 use Rattle.ged_link.proofs.CallerLemmas.{one_way_within, one_way_has_place}
 use Rattle.ged_schema.specs.declared.context.Context.TheVariants.{File}
 use Rattle.ged_schema.specs.declared.fault.FaultPlace.{FaultPlace}
@@ -89,14 +90,17 @@ module _ (d : Trees) (line : ℕ) where
 -- ---- no place has two notices
 
 -- the tables list each link where it stands
-link_has_row : (d below : Trees) (r s : Structure) → IsOneWay d r.tag r.xref s below → row (context_below File r.tag) s.tag ≡ None → ⊥
+row_of_link : (link : Link) → IsAmong link links → row (context_below File link.at) link.tag ≡ None → ⊥
 unfolding row rows
-link_has_row d below r s (inl h) nothing = let k = rw (sym h.0, sym h.1) at nothing in cc
-link_has_row d below r s (inr (inl h)) nothing = let k = rw (sym h.0, sym h.1) at nothing in cc
-link_has_row d below r s (inr (inr (inl h))) nothing = let k = rw (sym h.0, sym h.1) at nothing in cc
-link_has_row d below r s (inr (inr (inr (inl h)))) nothing = let k = rw (sym h.0, sym h.1) at nothing in cc
-link_has_row d below r s (inr (inr (inr (inr (inl h))))) nothing = let k = rw (sym h.0, sym h.1) at nothing in cc
-link_has_row d below r s (inr (inr (inr (inr (inr h))))) nothing = h
+row_of_link link (inl e) nothing = let k = rw e at nothing in cc
+row_of_link link (inr (inl e)) nothing = let k = rw e at nothing in cc
+row_of_link link (inr (inr (inl e))) nothing = let k = rw e at nothing in cc
+row_of_link link (inr (inr (inr (inl e)))) nothing = let k = rw e at nothing in cc
+row_of_link link (inr (inr (inr (inr (inl e))))) nothing = let k = rw e at nothing in cc
+row_of_link link (inr (inr (inr (inr (inr h))))) nothing = h
+
+link_has_row : (d below : Trees) (r s : Structure) → IsOneWay d r.tag r.xref s below → row (context_below File r.tag) s.tag ≡ None → ⊥
+link_has_row d below r s (link, among, h) nothing = row_of_link link among (rw (sym h.0, sym h.1) at nothing)
 
 module _ (d : Trees) (p : ℕ) where
   -- a link of the record stands at the place

@@ -1,5 +1,5 @@
 -- A document is as the strict profile asks, or the first fault of it is found.
-use Rattle.std.proofs.Common.{◌≡◌, ◌≢◌, ℕ, ◌+◌, Bool, true, false, refl, sym, ap, ◌∙◌, arith, List, [], ◌∷◌, Option, Some, None, inl, inr}
+use Rattle.std.proofs.Common.{◌≡◌, ◌≢◌, ℕ, ◌+◌, Bool, true, false, refl, sym, ap, subst, ◌∙◌, arith, List, [], ◌∷◌, Option, Some, None, inl, inr}
 use Rattle.std.specs.Prelude.{◌⊎◌}
 use Rattle.std.proofs.lemmas.Bool.{cases_lt, false≢true}
 use Rattle.ged_line.specs.Bytes.{Bytes}
@@ -8,9 +8,10 @@ use Rattle.ged_tree.specs.declared.owned.payload.Payload.{Payload}
 use Rattle.ged_tree.specs.declared.owned.payload.Payload.TheVariants.{Void, Pointer, Text}
 use Rattle.ged_tree.specs.Trees.{Structure, Trees, none, tree, trees_count}
 use Rattle.ged_tree.specs.Places.{line_at}
-use Rattle.ged_link.specs.Links.{SomeIn, SomeTree}
+use Rattle.ged_link.specs.Links.{IsAmong, SomeTree}
 use Rattle.ged_link.specs.LinkFaults.{IsLowest}
-use Rattle.ged_link.specs.Notices.{Link, links, PointsBack, IsUnanswered, IsOneWay, OneWay, OneWayAt, SomeTreeFrom}
+use Rattle.ged_link.specs.Notices.{Link, links, IsUnanswered, IsOneWay, OneWay, OneWayAt, SomeTreeFrom}
+use Rattle.ged_link.specs.inner.Identifiers.{PointsBack}
 use Rattle.ged_link.proofs.CallerLemmas.{one_way_within, one_way_has_place}
 use Rattle.ged_schema.specs.declared.context.Context.{Context}
 use Rattle.ged_schema.specs.declared.context.Context.TheVariants as contexts
@@ -46,9 +47,19 @@ none_decided : {X : Type 0} (o : Option X) → IsDecided (o ≡ None)
 none_decided None = inl refl
 none_decided (Some x) = inr (λ e. cc)
 
-some_in_decided : {X : Type 0} (P : X → Type 0) → ((x : X) → IsDecided (P x)) → (xs : List X) → IsDecided (SomeIn P xs)
-some_in_decided P decided [] = inr (λ h. h)
-some_in_decided P decided (x ∷ xs) = one_decided (decided x) (some_in_decided P decided xs)
+not_among : {X : Type 0} (P : X → Type 0) (x : X) (xs : List X) → (P x → ⊥) → ((y : X) × IsAmong y xs × P y → ⊥) → (y : X) → IsAmong y (x ∷ xs) → P y → ⊥
+not_among P x xs first later y (inl e) p = first (subst P e p)
+not_among P x xs first later y (inr h) p = later (y, h, p)
+
+some_decided : {X : Type 0} (P : X → Type 0) → ((x : X) → IsDecided (P x)) → (xs : List X) → IsDecided ((x : X) × IsAmong x xs × P x)
+some_decided P decided [] = inr (λ h. h.1)
+some_decided P decided (x ∷ xs) = elim (decided x) [
+  | inl here ↦ inl (x, inl refl, here)
+  | inr other ↦ elim (some_decided P decided xs) [
+    | inl h ↦ inl (h.0, inr h.1, h.2)
+    | inr later ↦ inr (λ h. not_among P x xs other later h.0 h.1 h.2)
+  ]
+]
 
 some_from_decided : (P : ℕ → Structure → Trees → Type 0) → ((here : ℕ) (s : Structure) (below : Trees) → IsDecided (P here s below)) → (start : ℕ) (t : Trees) → IsDecided (SomeTreeFrom start P t)
 some_from_decided P decided start none = inr (λ h. h)
@@ -113,7 +124,7 @@ link_decided d at xref s link = elim (same_or_other link.at at) [
 ]
 
 one_way_decided : (d : Trees) (at : Bytes) (xref : Option Bytes) (s : Structure) (below : Trees) → IsDecided (IsOneWay d at xref s below)
-one_way_decided d at xref s below = some_in_decided (IsOneWayBy d at xref s) (link_decided d at xref s) links
+one_way_decided d at xref s below = some_decided (IsOneWayBy d at xref s) (link_decided d at xref s) links
 
 one_way_at_decided : (d : Trees) (place : ℕ) → IsDecided (OneWayAt d place)
 one_way_at_decided d place =

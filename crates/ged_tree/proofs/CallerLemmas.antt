@@ -1,15 +1,16 @@
 -- What the proofs of the crates above cite of this crate, and they cite nothing else of its proofs.
-use Rattle.std.specs.Prelude.{◌≡◌, ◌≢◌, ℕ, ◌+◌, ◌-◌, ◌<◌, ◌≤◌, true, List, Some}
+use Rattle.std.specs.Prelude.{◌≡◌, ◌≢◌, ℕ, ◌+◌, ◌-◌, ◌<◌, ◌≤◌, true, List, Some, length}
 use Rattle.ged_line.specs.Bytes.{Bytes}
 use Rattle.ged_line.specs.Lines.{LineParts}
 use Rattle.ged_line.specs.Files.{FileText}
 use Rattle.ged_line.specs.WholeLines.{EndsLine}
-use Rattle.ged_tree.specs.Trees.{Structure, Trees, none, tree, trees_count, line_count}
+use Rattle.ged_tree.specs.Trees.{Structure, Trees, none, tree, trees_count, line_count, lines_count}
 use Rattle.ged_tree.specs.Places.{trees_from, structure_at, below_at, place_after, line_at}
 use Rattle.ged_tree.specs.Runs.{trees_between, IsRun}
-use Rattle.ged_tree.specs.Documents.{is_document, are_at}
+use Rattle.ged_tree.specs.Documents.{is_document, are_at, HasLines}
+use Rattle.ged_tree.specs.DocumentLines.{document_lines}
 use Rattle.ged_tree.specs.TreeLaws.{NoneShared, OneFaultInFile, AreLines}
-use Rattle.ged_tree.specs.Building.{FaultyFileHasNone, FileFaultIsBuildFault}
+use Rattle.ged_tree.specs.Building.{HasFile, FaultyFileHasNone, FileFaultIsBuildFault}
 use Rattle.ged_tree.specs.TreeFaults.{Pass, fault_after}
 use Rattle.ged_tree.specs.FileFaults.{FirstFaultIn}
 use Rattle.ged_tree.specs.FaultsStay.{FirstFaultStays}
@@ -19,6 +20,7 @@ use Rattle.ged_tree.proofs.theory.Building as building
 use Rattle.ged_tree.proofs.laws.FaultsStay as stays
 use Rattle.ged_tree.proofs.laws.FileFaults as file_faults
 use Rattle.ged_tree.proofs.theory.OneDocument as lines
+use Rattle.ged_tree.proofs.theory.LineCounts as counts
 use Rattle.ged_tree.proofs.laws.LinesAtPlaces as numbers
 use Rattle.ged_tree.proofs.owned.LineTests as tests_of_lines
 use Rattle.ged_tree.proofs.theory.Places as places
@@ -88,6 +90,14 @@ none_shared = lines.one_document
 
 pub one_fault_in_file : OneFaultInFile
 one_fault_in_file = file_faults.one_in_file
+
+-- a file that spells a document's lines has the document
+pub file_of_lines : (document : Trees) (lines : List LineParts) (file : Bytes) → FileText lines file → HasLines document lines → HasFile document file
+file_of_lines = building.file_of_lines
+
+-- how many lines a document has
+pub counted : (document : Trees) → length (document_lines document) ≡ lines_count document + 1
+counted = counts.counted
 
 pub faulty_file_has_none : FaultyFileHasNone
 faulty_file_has_none = building.none_of_file

@@ -3,6 +3,7 @@ pub mod FirstFaults
 pub mod Growing
 pub mod Grown
 pub mod Judging
+pub mod LineCounts
 pub mod LineParts
 pub mod LinesAgain
 pub mod LinesThatPass

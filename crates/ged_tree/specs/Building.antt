@@ -1,12 +1,13 @@
 -- What building a document answers: the document that has the lines, or their first fault (FamilySearch GEDCOM 7.0,
 -- "Lines" and "Structures").
-use Rattle.std.specs.Prelude.{◌≡◌, ◌↔◌, ℕ, ◌≤◌, ◌⊎◌, List, length, Option, Some, None}
+use Rattle.std.specs.Prelude.{◌≡◌, true, ◌↔◌, ℕ, ◌≤◌, ◌⊎◌, List, length, Option, Some, None}
 use Rattle.ged_line.specs.Bytes.{Bytes}
 use Rattle.ged_line.specs.Lines.{LineParts}
 use Rattle.ged_line.specs.Files.{FileText, StopsAt}
 use Rattle.ged_line.specs.declared.fault.LineAt.{LineAt}
 use Rattle.ged_tree.specs.Trees.{Trees}
-use Rattle.ged_tree.specs.DocumentLines.{HasLines}
+use Rattle.ged_tree.specs.DocumentLines.{document_lines}
+use Rattle.ged_tree.specs.Documents.{is_document}
 use Rattle.ged_tree.specs.TreeFaults.{Pass, FirstFault}
 use Rattle.ged_tree.specs.FileFaults.{FirstFaultIn}
 use Rattle.ged_tree.specs.declared.fault.TreeFault.{TreeFault}
@@ -23,7 +24,7 @@ IsBuildFault lines (Some stop) line fault = (FirstFault lines line fault × (lin
 
 -- the document is that of the lines that the file spells
 abbrev pub HasFile : Trees → Bytes → Type 0
-HasFile document file = (lines : List LineParts) × FileText lines file × HasLines document lines
+HasFile document file = (is_document document ≡ true) × FileText (document_lines document) file
 
 -- the first fault of the file; of want of memory nothing is said
 abbrev pub TellsFile : BuildFault → Bytes → Type 0

@@ -1,11 +1,10 @@
 -- The lines of a document (FamilySearch GEDCOM 7.0, "Lines" and "Structures").
-use Rattle.std.specs.Prelude.{◌≡◌, ℕ, true, ◌+◌, List, [], ◌∷◌, ◌++◌, None, codes}
+use Rattle.std.specs.Prelude.{ℕ, ◌+◌, List, [], ◌∷◌, ◌++◌, None, codes, map}
 use Rattle.ged_line.specs.Bytes.{Bytes}
 use Rattle.ged_line.specs.Lines.{Value, Empty, LineParts, line_parts}
 use Rattle.ged_line.specs.Lines.{Void as VoidValue, Pointer as PointerValue, Text as TextValue}
 use Rattle.ged_line.specs.Spelling.{value_part}
 use Rattle.ged_tree.specs.Trees.{Structure, Trees, none, tree, further_lines}
-use Rattle.ged_tree.specs.Documents.{is_document}
 use Rattle.ged_tree.specs.declared.owned.payload.Payload.{Payload}
 use Rattle.ged_tree.specs.declared.owned.payload.Payload.TheVariants.{Void, Pointer, Text}
 
@@ -25,14 +24,10 @@ first_value (Text (line ∷ lines)) = line_value line
 abbrev pub rest_of_line : Structure → Bytes
 rest_of_line s = s.tag ++ value_part (first_value s.payload)
 
--- one CONT line for each further line of a payload
-abbrev pub continued : ℕ → List Bytes → List LineParts
-continued level [] = []
-continued level (line ∷ lines) = line_parts level None (codes "CONT") (line_value line) ∷ continued level lines
-
--- a structure's own line, and CONT lines one level deeper
+-- a structure's own line, and a CONT line one level deeper for each further line of its payload
 abbrev pub structure_lines : ℕ → Structure → List LineParts
-structure_lines level s = line_parts level s.xref s.tag (first_value s.payload) ∷ continued (level + 1) (further_lines s.payload)
+structure_lines level s = line_parts level s.xref s.tag (first_value s.payload)
+    ∷ map (λ line. line_parts (level + 1) None (codes "CONT") (line_value line)) (further_lines s.payload)
 
 -- the lines of a structure, then those of the trees below it one level deeper, then those of the trees after it
 abbrev pub lines_of : ℕ → Trees → List LineParts
@@ -42,8 +37,3 @@ lines_of level (tree s below next) = structure_lines level s ++ lines_of (level 
 -- HEAD's tree, the records' trees, and TRLR
 abbrev pub document_lines : Trees → List LineParts
 document_lines document = lines_of 0 document ++ line_parts 0 None (codes "TRLR") Empty ∷ []
-
--- the document has these lines
-pub record HasLines (document : Trees) (lines : List LineParts) : Type 0 where
-  pub allowed : is_document document ≡ true
-  pub told : lines ≡ document_lines document

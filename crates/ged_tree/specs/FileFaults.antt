@@ -1,7 +1,8 @@
 -- The first fault of a file (FamilySearch GEDCOM 7.0, "Lines" and "Structures").
 use Rattle.std.specs.Prelude.{◌≡◌, ℕ, ◌+◌, true, List, ◌∷◌, ◌++◌, length, Some}
 use Rattle.ged_line.specs.Bytes.{Bytes}
-use Rattle.ged_line.specs.Lines.{LineParts, LineText}
+use Rattle.ged_line.specs.Lines.{LineParts}
+use Rattle.ged_line.specs.Spelling.{LineText}
 use Rattle.ged_line.specs.Faults.{IsFaultOf}
 use Rattle.ged_line.specs.Pieces.{ArePiecesOf}
 use Rattle.ged_line.specs.Files.{AreTexts, FileText}

@@ -4,7 +4,8 @@ use Rattle.std.specs.List.{AllByRecursion}
 use Rattle.std.specs.List.Sorted.{IsNonDecreasingBy}
 use Rattle.std.specs.Str.{IsCharBoundary}
 use Rattle.ged_line.specs.Bytes.{Bytes}
-use Rattle.ged_line.specs.Lines.{LineParts, LineText, Value, xref_part}
+use Rattle.ged_line.specs.Lines.{LineParts, Value, xref_part}
+use Rattle.ged_line.specs.Spelling.{LineText}
 use Rattle.ged_line.specs.Lines as value
 use Rattle.ged_tree.specs.Trees.{Structure, Trees, none, tree, trees_count, further_lines, line_count, lines_count}
 use Rattle.ged_tree.specs.Documents.{is_document}

@@ -4,8 +4,7 @@ use Rattle.std.specs.List.{list_all}
 use Rattle.ged_line.specs.Bytes.{Bytes}
 use Rattle.ged_line.specs.Lines.{LineParts, is_line}
 use Rattle.ged_tree.specs.Trees.{Trees}
-use Rattle.ged_tree.specs.Documents.{is_document}
-use Rattle.ged_tree.specs.DocumentLines.{HasLines}
+use Rattle.ged_tree.specs.Documents.{is_document, HasLines}
 use Rattle.ged_tree.specs.TreeFaults.{Pass, has_trailer, FirstFault}
 use Rattle.ged_tree.specs.FileFaults.{FirstFaultIn, FilePasses}
 use Rattle.ged_tree.specs.declared.fault.TreeFault.{TreeFault}

@@ -1,4 +1,5 @@
 pub mod Copies
+pub mod DocumentParts
 pub mod Judging
 pub mod PathLines
 pub mod Rows

@@ -1,8 +1,8 @@
 // On ged_line.
 ghost use Rattle.std.specs.Prelude.{◌≡◌, [], ◌∷◌, ◌++◌, IfOk, MatchOption};
-ghost use Rattle.ged_line.specs.Lines.{LineParts, LineText};
+ghost use Rattle.ged_line.specs.Lines.{LineParts};
+ghost use Rattle.ged_line.specs.Spelling.{LineText, spelling};
 ghost use Rattle.ged_line.specs.Faults.{IsFaultOf};
-ghost use Rattle.ged_line.specs.Spelling.{spelling};
 ghost use Rattle.ged_line.specs.Bytes.{line_feed};
 
 use ged_line::{LineFault, view_line, view_lines, write_view};

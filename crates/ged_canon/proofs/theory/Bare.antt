@@ -4,7 +4,8 @@ use Rattle.std.proofs.lemmas.Bool.{and_parts}
 use Rattle.ged_line.specs.Bytes.{Bytes}
 use Rattle.ged_line.specs.Names.{is_xref, is_tag}
 use Rattle.ged_tree.specs.Trees.{Structure, Trees, none, tree}
-use Rattle.ged_tree.specs.Documents.{is_document, is_xref_at, is_payload_at, is_structure_at, are_at}
+use Rattle.ged_tree.specs.Documents.{is_document, is_payload_at, is_structure_at, are_at}
+use Rattle.ged_tree.specs.inner.DocumentParts.{is_xref_at}
 use Rattle.ged_link.specs.Links.{IsAmong, xrefs, IsNamed}
 use Rattle.ged_link.specs.inner.Identifiers.{Names}
 use Rattle.ged_schema.specs.declared.context.Context.{Context}

@@ -7,7 +7,7 @@ use Rattle.ged_tree.specs.declared.owned.payload.Payload.{Payload}
 use Rattle.ged_tree.specs.declared.owned.payload.Payload.TheVariants.{Pointer, Text}
 use Rattle.ged_tree.specs.Trees.{Structure, Trees, none, tree, records_of}
 use Rattle.ged_tree.specs.Documents.{is_document}
-use Rattle.ged_link.specs.Notices.{OneWay}
+use Rattle.ged_link.specs.Notices.{Link, OneWay}
 use Rattle.ged_schema.specs.Tables.{row, rows}
 use Rattle.ged_canon.specs.declared.edition.Edition.TheVariants.{First, Second}
 use Rattle.ged_canon.specs.Steps.{gains, after, lose, done, then, Equivalent}
@@ -117,4 +117,6 @@ order_is_meaning h = true≢false (ap (first_name_is (codes "Ann")) (canon_equiv
 
 -- a link that is not answered
 one_direction : OneWay (doc (rec (Some (codes "I")) (codes "INDI") (node (codes "FAMS") (Pointer (codes "F")) none none) (rec (Some (codes "F")) (codes "FAM") none none)))
-one_direction = inr (inl (inl (inl (refl, refl, codes "F", refl, inr (inr (inl (refl, refl, λ h. h)))))))
+one_direction =
+    let to_family : Link = record { at = codes "INDI"; tag = codes "FAMS"; to = codes "FAM"; answers = codes "HUSB" ∷ (codes "WIFE" ∷ []) } in
+    inr (inl (inl (to_family, inl refl, (refl, refl, codes "F", refl, inr (inr (inl (refl, refl, λ h. h)))))))

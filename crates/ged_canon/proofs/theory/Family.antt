@@ -22,7 +22,7 @@ use Rattle.ged_schema.specs.Tables.{row, rows, context_below}
 use Rattle.ged_canon.specs.declared.edition.Edition.TheVariants.{First}
 use Rattle.ged_canon.specs.Steps.{calendar, Respelt, respelt, Change, put_in, here, new_name, renamed, Renamed, rename, done, Equivalent}
 use Rattle.ged_canon.specs.inner.StepParts.{news}
-use Rattle.ged_canon.specs.Normal.{tags, Normal, IsNormalForm}
+use Rattle.ged_canon.specs.Normal.{Normal, IsNormalForm}
 use Rattle.ged_canon.specs.inner.Working.{falls}
 use Rattle.ged_canon.proofs.theory.Used.{is_named-from}
 use Rattle.ged_canon.proofs.theory.Chains.{both, back}
@@ -318,7 +318,7 @@ canonical_is_normal : Normal First canonical
 unfolding row rows falls
 canonical_is_normal = record {
   places = normal File canonical refl;
-  records_in_order = in_order (tags (records_of canonical)) refl;
+  records_in_order = in_order (records_of canonical) refl;
   xrefs_numbered = (refl, (refl, (refl, tt)));
   xrefs_used = used;
 }

@@ -11,10 +11,12 @@ use Rattle.ged_link.specs.inner.Identifiers.{with_xref, Names}
 use Rattle.ged_schema.specs.declared.context.Context.{Context}
 use Rattle.ged_schema.specs.declared.context.Context.TheVariants.{File}
 use Rattle.ged_schema.specs.Tables.{row, context_below}
+use Rattle.ged_canon.proofs.theory.Orders.{tags_of_order}
 use Rattle.ged_canon.specs.declared.edition.Edition.{Edition}
-use Rattle.ged_canon.specs.Steps.{renamed_payload, renamed, with_payload}
-use Rattle.ged_canon.specs.inner.StepParts.{renamed_xref}
-use Rattle.ged_canon.specs.Normal.{InOrder, tags, AreNormal, AreNumbered, Normal}
+use Rattle.ged_canon.specs.Steps.{renamed_payload, renamed}
+use Rattle.ged_canon.specs.inner.StepParts.{with_payload, renamed_xref}
+use Rattle.ged_canon.specs.Normal.{InOrder, AreNormal, AreNumbered, Normal}
+use Rattle.ged_canon.specs.inner.Orders.{TagsInOrder, tags}
 use Rattle.ged_canon.specs.inner.Working.{names, is_named, used_xref, used_trees, used_document, brief_structure, sorted, sorted_document, number_of, numbered_document, canon}
 use Rattle.ged_canon.proofs.theory.Texts.{same_bytes, equal_bytes}
 use Rattle.ged_canon.proofs.theory.Sorting.{put_first}
@@ -49,24 +51,24 @@ used_all used (tree s below next) h =
 
 -- Order.
 
-in_order_rest : (a : Bytes) (rest : List Bytes) → InOrder (a ∷ rest) → InOrder rest
+in_order_rest : (a : Bytes) (rest : List Bytes) → TagsInOrder (a ∷ rest) → TagsInOrder rest
 in_order_rest a [] h = h
 in_order_rest a (b ∷ rest) h = h.1
 
 -- normal trees are sorted
-pub sorted_same : (edition : Edition) (context : Context) (xs : Trees) → AreNormal edition context xs → InOrder (tags xs) → sorted edition context xs ≡ xs
+pub sorted_same : (edition : Edition) (context : Context) (xs : Trees) → AreNormal edition context xs → TagsInOrder (tags xs) → sorted edition context xs ≡ xs
 sorted_same edition context none h o = refl
 sorted_same edition context (tree s below next) h o =
-    let deep = sorted_same edition (context_below context s.tag) below h.2 h.1 in
+    let deep = sorted_same edition (context_below context s.tag) below h.2 (tags_of_order below h.1) in
     let rest = sorted_same edition context next h.3 (in_order_rest s.tag (tags next) o) in
     let calm : brief_structure edition context s ≡ s = λ i. with_payload s (brief_payload_same edition (row context s.tag) s.payload h.0 i) in
     rw (deep, rest, calm) (put_first s below next o)
 
-pub sorted_document_same : (edition : Edition) (d : Trees) → AreNormal edition File d → InOrder (tags (records_of d)) → sorted_document edition d ≡ d
+pub sorted_document_same : (edition : Edition) (d : Trees) → AreNormal edition File d → InOrder (records_of d) → sorted_document edition d ≡ d
 sorted_document_same edition none h o = refl
 sorted_document_same edition (tree s below next) h o =
-    let deep = sorted_same edition (context_below File s.tag) below h.2 h.1 in
-    let rest = sorted_same edition File next h.3 o in
+    let deep = sorted_same edition (context_below File s.tag) below h.2 (tags_of_order below h.1) in
+    let rest = sorted_same edition File next h.3 (tags_of_order next o) in
     λ i. tree (with_payload s (brief_payload_same edition (row File s.tag) s.payload h.0 i)) (deep i) (rest i)
 
 -- Numbers.

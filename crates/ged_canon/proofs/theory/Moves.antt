@@ -10,7 +10,8 @@ use Rattle.ged_schema.specs.declared.context.Context.TheVariants.{File}
 use Rattle.ged_schema.specs.Rows.{Row}
 use Rattle.ged_schema.specs.Tables.{row, context_below}
 use Rattle.ged_canon.specs.declared.edition.Edition.{Edition}
-use Rattle.ged_canon.specs.Steps.{Respelt, respelt, with_payload, Change, exchange, leave_out, put_in, Somewhere, here, under, later}
+use Rattle.ged_canon.specs.Steps.{Respelt, respelt, Change, exchange, leave_out, put_in, Somewhere, here, under, later}
+use Rattle.ged_canon.specs.inner.StepParts.{with_payload}
 use Rattle.ged_canon.specs.inner.Working.{put, brief, brief_structure, names, is_named, used_structure, used_trees, sorted, sorted_document, numbered_document, canon}
 use Rattle.ged_canon.proofs.theory.Sorting.{put-put}
 use Rattle.ged_canon.proofs.theory.Brief.{brief_alike}

@@ -12,9 +12,11 @@ use Rattle.ged_value.specs.Default.{default_word, is_other}
 use Rattle.ged_schema.specs.declared.context.Context.{Context}
 use Rattle.ged_schema.specs.Rows.{Row}
 use Rattle.ged_schema.specs.Tables.{row, context_below}
+use Rattle.ged_canon.proofs.theory.Orders.{order_of_tags}
 use Rattle.ged_canon.specs.declared.edition.Edition.TheVariants.{First}
 use Rattle.ged_canon.specs.inner.StepParts.{is_dated}
-use Rattle.ged_canon.specs.Normal.{IsBrief, IsBriefPayload, tags, InOrder, AreNormal}
+use Rattle.ged_canon.specs.Normal.{InOrder, IsBrief, IsBriefPayload, AreNormal}
+use Rattle.ged_canon.specs.inner.Orders.{tags, TagsInOrder}
 use Rattle.ged_canon.specs.inner.Working.{falls}
 use Rattle.ged_canon.proofs.theory.Texts.{same_bytes}
 use Rattle.ged_canon.proofs.theory.Sorting.{not_greater}
@@ -60,12 +62,15 @@ not_true : (t : Bool) → not t ≡ true → t ≡ false
 not_true true h = sym h
 not_true false h = refl
 
-pub in_order : (ts : List Bytes) → are_in_order ts ≡ true → InOrder ts
-in_order [] h = tt
-in_order (a ∷ []) h = tt
-in_order (a ∷ b ∷ rest) h =
+ordered : (ts : List Bytes) → are_in_order ts ≡ true → TagsInOrder ts
+ordered [] h = tt
+ordered (a ∷ []) h = tt
+ordered (a ∷ b ∷ rest) h =
     let p = and_parts (not (falls a b)) (are_in_order (b ∷ rest)) h in
-    (not_greater a b (not_true (falls a b) p.0), in_order (b ∷ rest) p.1)
+    (not_greater a b (not_true (falls a b) p.0), ordered (b ∷ rest) p.1)
+
+pub in_order : (xs : Trees) → are_in_order (tags xs) ≡ true → InOrder xs
+in_order xs h = order_of_tags xs (ordered (tags xs) h)
 
 pub normal : (context : Context) (xs : Trees) → are_normal context xs ≡ true → AreNormal First context xs
 normal context none h = tt
@@ -73,4 +78,4 @@ normal context (tree s below next) h =
     let p = and_parts (is_brief_payload (row context s.tag) s.payload) (are_in_order (tags below) && (are_normal (context_below context s.tag) below && are_normal context next)) h in
     let q = and_parts (are_in_order (tags below)) (are_normal (context_below context s.tag) below && are_normal context next) p.1 in
     let r = and_parts (are_normal (context_below context s.tag) below) (are_normal context next) q.1 in
-    (brief_payload (row context s.tag) s.payload p.0, in_order (tags below) q.0, normal (context_below context s.tag) below r.0, normal context next r.1)
+    (brief_payload (row context s.tag) s.payload p.0, in_order below q.0, normal (context_below context s.tag) below r.0, normal context next r.1)

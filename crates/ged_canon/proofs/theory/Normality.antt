@@ -14,9 +14,11 @@ use Rattle.ged_schema.specs.declared.context.Context.TheVariants.{File}
 use Rattle.ged_schema.specs.Rows.{Row}
 use Rattle.ged_schema.specs.Tables.{row, context_below}
 use Rattle.ged_schema.specs.Checked.{AreChecked, Checked}
+use Rattle.ged_canon.proofs.theory.Orders.{tags_of_order, order_of_tags}
 use Rattle.ged_canon.specs.declared.edition.Edition.{Edition}
 use Rattle.ged_canon.specs.Steps.{Equivalent, done, then, renamed_payload, renamed}
-use Rattle.ged_canon.specs.Normal.{InOrder, tags, IsBriefPayload, AreNormal, numbered, AreNumbered, Normal, IsNormalForm}
+use Rattle.ged_canon.specs.Normal.{InOrder, IsBriefPayload, AreNormal, numbered, AreNumbered, Normal, IsNormalForm}
+use Rattle.ged_canon.specs.inner.Orders.{TagsInOrder, tags}
 use Rattle.ged_canon.specs.inner.Working.{falls, put, is_named, used_trees, used_document, brief_structure, sorted, sorted_document, number_of, canon}
 use Rattle.ged_canon.proofs.theory.Texts.{same_bytes, other_bytes}
 use Rattle.ged_canon.proofs.theory.Sorting.{not_greater, after_falling}
@@ -29,29 +31,32 @@ use Rattle.ged_canon.proofs.theory.Numbering.{reach_used, numbering_step, resolv
 
 -- Order.
 
-put_after : (b : Bytes) (s : Structure) (c xs : Trees) → tag_order b s.tag ≢ Greater → InOrder (b ∷ tags xs) → InOrder (b ∷ tags (put s c xs))
+put_after : (b : Bytes) (s : Structure) (c xs : Trees) → tag_order b s.tag ≢ Greater → TagsInOrder (b ∷ tags xs) → TagsInOrder (b ∷ tags (put s c xs))
 put_after b s c none h o = (h, tt)
 put_after b s c (tree x y xs) h o = by (falls s.tag x.tag) refl (put_after x.tag s c xs)
   where
-    by : (t : Bool) → falls s.tag x.tag ≡ t → (tag_order x.tag s.tag ≢ Greater → InOrder (x.tag ∷ tags xs) → InOrder (x.tag ∷ tags (put s c xs))) → InOrder (b ∷ tags (cond t (tree x y (put s c xs)) (tree s c (tree x y xs))))
+    by : (t : Bool) → falls s.tag x.tag ≡ t → (tag_order x.tag s.tag ≢ Greater → TagsInOrder (x.tag ∷ tags xs) → TagsInOrder (x.tag ∷ tags (put s c xs))) → TagsInOrder (b ∷ tags (cond t (tree x y (put s c xs)) (tree s c (tree x y xs))))
     by true e f = (o.0, f (after_falling s.tag x.tag e) o.1)
     by false e f = (h, (not_greater s.tag x.tag e, o.1))
 
-pub put_in_order : (s : Structure) (c xs : Trees) → InOrder (tags xs) → InOrder (tags (put s c xs))
+pub put_in_order : (s : Structure) (c xs : Trees) → TagsInOrder (tags xs) → TagsInOrder (tags (put s c xs))
 put_in_order s c none o = tt
 put_in_order s c (tree x y xs) o = by (falls s.tag x.tag) refl
   where
-    by : (t : Bool) → falls s.tag x.tag ≡ t → InOrder (tags (cond t (tree x y (put s c xs)) (tree s c (tree x y xs))))
+    by : (t : Bool) → falls s.tag x.tag ≡ t → TagsInOrder (tags (cond t (tree x y (put s c xs)) (tree s c (tree x y xs))))
     by true e = put_after x.tag s c xs (after_falling s.tag x.tag e) o
     by false e = (not_greater s.tag x.tag e, o)
 
-sorted_in_order : (edition : Edition) (context : Context) (xs : Trees) → InOrder (tags (sorted edition context xs))
-sorted_in_order edition context none = tt
-sorted_in_order edition context (tree s below next) = put_in_order (brief_structure edition context s) (sorted edition (context_below context s.tag) below) (sorted edition context next) (sorted_in_order edition context next)
+sorted_tags : (edition : Edition) (context : Context) (xs : Trees) → TagsInOrder (tags (sorted edition context xs))
+sorted_tags edition context none = tt
+sorted_tags edition context (tree s below next) = put_in_order (brief_structure edition context s) (sorted edition (context_below context s.tag) below) (sorted edition context next) (sorted_tags edition context next)
+
+sorted_in_order : (edition : Edition) (context : Context) (xs : Trees) → InOrder (sorted edition context xs)
+sorted_in_order edition context xs = order_of_tags (sorted edition context xs) (sorted_tags edition context xs)
 
 -- a tree is normal in a context
 abbrev IsNormalTree : Edition → Context → Structure → Trees → Type 0
-IsNormalTree edition context s below = IsBriefPayload edition (row context s.tag) s.payload × InOrder (tags below) × AreNormal edition (context_below context s.tag) below
+IsNormalTree edition context s below = IsBriefPayload edition (row context s.tag) s.payload × InOrder below × AreNormal edition (context_below context s.tag) below
 
 normal_put : (edition : Edition) (context : Context) (s : Structure) (c xs : Trees) → IsNormalTree edition context s c → AreNormal edition context xs → AreNormal edition context (put s c xs)
 normal_put edition context s c none h k = (h.0, h.1, h.2, tt)
@@ -74,7 +79,7 @@ module _ (edition : Edition) (d : Trees) where
   document_normal (tree s below next) h =
       (brief_is_brief edition (row File s.tag) s.payload (meets-fits d (row File s.tag) s.payload below h.0), sorted_in_order edition (context_below File s.tag) below, sorted_normal (context_below File s.tag) below h.1, sorted_normal File next h.2)
 
-pub records_in_order : (edition : Edition) (d : Trees) → InOrder (tags (records_of (sorted_document edition d)))
+pub records_in_order : (edition : Edition) (d : Trees) → InOrder (records_of (sorted_document edition d))
 records_in_order edition none = tt
 records_in_order edition (tree s below next) = sorted_in_order edition File next
 
@@ -98,7 +103,7 @@ module _ (edition : Edition) (f : Bytes → Bytes) where
   normal_renamed context none h = tt
   normal_renamed context (tree s below next) h = (
     brief_renamed (row context s.tag) s.payload h.0,
-    subst InOrder (sym (tags_renamed below)) h.1,
+    order_of_tags (renamed f below) (subst TagsInOrder (sym (tags_renamed below)) (tags_of_order below h.1)),
     normal_renamed (context_below context s.tag) below h.2,
     normal_renamed context next h.3,
   )
@@ -170,7 +175,7 @@ module _ (edition : Edition) (d : Trees) (v : is_document d ≡ true) (r : Resol
       let f = number_of 1 (xrefs s) in
       record {
         places = normal_renamed edition f File s (document_normal edition d (used_document d) used_is_checked);
-        records_in_order = subst InOrder (sym (records_tags_renamed edition f s)) (records_in_order edition (used_document d));
+        records_in_order = order_of_tags (records_of (renamed f s)) (subst TagsInOrder (sym (records_tags_renamed edition f s)) (tags_of_order (records_of s) (records_in_order edition (used_document d))));
         xrefs_numbered = subst (AreNumbered 1) (sym (xrefs_renamed f s)) (numbers 1 (xrefs s) (resolved_sorted edition d r).distinct);
         xrefs_used = λ name k.
             let o = among_map f (xrefs s) name (subst (IsAmong name) (xrefs_renamed f s) k) in

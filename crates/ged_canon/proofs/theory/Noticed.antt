@@ -4,17 +4,17 @@ use Rattle.ged_line.specs.Bytes.{Bytes}
 use Rattle.ged_tree.specs.declared.owned.payload.Payload.{Payload}
 use Rattle.ged_tree.specs.declared.owned.payload.Payload.TheVariants.{Void, Pointer, Text}
 use Rattle.ged_tree.specs.Trees.{Structure, Trees, none, tree}
-use Rattle.ged_link.specs.Links.{SomeTree, SomeIn, IsAmong, xrefs, IsNamed}
-use Rattle.ged_link.specs.inner.Identifiers.{Names}
-use Rattle.ged_link.specs.Notices.{Link, links, PointsBack, IsUnanswered, IsOneWay, OneWay}
+use Rattle.ged_link.specs.Links.{SomeTree, IsAmong, xrefs, IsNamed}
+use Rattle.ged_link.specs.inner.Identifiers.{Names, PointsBack}
+use Rattle.ged_link.specs.Notices.{Link, links, IsUnanswered, IsOneWay, OneWay}
 use Rattle.ged_schema.specs.declared.context.Context.{Context}
 use Rattle.ged_schema.specs.declared.context.Context.TheVariants.{File}
 use Rattle.ged_schema.specs.Rows.{Row}
 use Rattle.ged_schema.specs.Tables.{row, context_below}
 use Rattle.ged_schema.specs.Unlisted.{Unlisted}
 use Rattle.ged_canon.specs.declared.edition.Edition.{Edition}
-use Rattle.ged_canon.specs.Steps.{Respelt, respelt, with_payload, Change, exchange, leave_out, put_in, Somewhere, here, under, later, new_name, renamed_payload, renamed_structure, renamed, Gains, gains, after, GainsName, Move, change, rename, gain, lose, Step}
-use Rattle.ged_canon.specs.inner.StepParts.{renamed_xref}
+use Rattle.ged_canon.specs.Steps.{Respelt, respelt, Change, exchange, leave_out, put_in, Somewhere, here, under, later, new_name, renamed_payload, renamed, Gains, gains, after, GainsName, Move, change, rename, gain, lose, Step}
+use Rattle.ged_canon.specs.inner.StepParts.{with_payload, renamed_structure, renamed_xref}
 use Rattle.ged_schema.specs.Profiles.{NoNotice}
 use Rattle.ged_canon.proofs.theory.Fixed.{with_others}
 use Rattle.ged_canon.proofs.theory.Used.{none_some, some_some, with_xref_here}
@@ -98,13 +98,11 @@ steady_unanswered edition name x link = record {
 abbrev Goes : Trees → Bytes → Option Bytes → Structure → Link → Type 0
 Goes d at x s link = (link.at ≡ at) × (link.tag ≡ s.tag) × (name : Bytes) × (s.payload ≡ Pointer name) × SomeTree (IsUnanswered name x link) d
 
-some_in : {A : Type 0} (P Q : A → Type 0) (xs : List A) → ((a : A) → P a → Q a) → SomeIn P xs → SomeIn Q xs
-some_in P Q [] f h = h
-some_in P Q (x ∷ xs) f h = let rest = some_in P Q xs f in ⊎_elim (λ p. inl (f x p)) (λ q. inr (rest q)) h
+some_in : {A : Type 0} (P Q : A → Type 0) (xs : List A) → ((a : A) → P a → Q a) → (a : A) × IsAmong a xs × P a → (a : A) × IsAmong a xs × Q a
+some_in P Q xs f h = (h.0, h.1, f h.0 h.2)
 
-no_goes : (edition : Edition) (d : Trees) (at : Bytes) (x : Option Bytes) (s : Structure) (ls : List Link) → ((name : Bytes) → s.payload ≡ Pointer name → ⊥) → SomeIn (Goes d at x s) ls → ⊥
-no_goes edition d at x s [] f h = h
-no_goes edition d at x s (l ∷ ls) f h = let rest = no_goes edition d at x s ls f in ⊎_elim (λ p. f p.2 p.3) (λ q. rest q) h
+no_goes : (edition : Edition) (d : Trees) (at : Bytes) (x : Option Bytes) (s : Structure) (ls : List Link) → ((name : Bytes) → s.payload ≡ Pointer name → ⊥) → (link : Link) × IsAmong link ls × Goes d at x s link → ⊥
+no_goes edition d at x s ls f h = f h.2.2 h.2.3
 
 steady_one_way : (edition : Edition) (d : Trees) (at : Bytes) (x : Option Bytes) → Steady edition (IsOneWay d at x)
 steady_one_way edition d at x = record {

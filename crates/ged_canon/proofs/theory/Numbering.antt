@@ -6,25 +6,28 @@ use Rattle.std.specs.Int.Digits.{digits_of}
 use Rattle.std.proofs.lemmas.Int.Digits.{same_from_digits_of, all_below_base_digits_of}
 use Rattle.std.proofs.lemmas.Bool.{true≢false, false≢true, and_parts, and_from, or_right, or_left, false_from_ne_true}
 use Rattle.ged_line.specs.Bytes.{Bytes}
-use Rattle.ged_line.specs.Characters.{is_capital, is_digit, is_tag_character}
+use Rattle.ged_line.specs.Characters.{is_tag_character}
+use Rattle.std.specs.Char.{is_ascii_uppercase, is_ascii_digit}
 use Rattle.ged_line.specs.Names.{is_tag, is_xref}
 use Rattle.ged_tree.specs.declared.owned.payload.Payload.{Payload}
 use Rattle.ged_tree.specs.declared.owned.payload.Payload.TheVariants.{Void, Pointer, Text}
 use Rattle.ged_tree.specs.Trees.{Structure, Trees, none, tree, line_count, lines_count}
-use Rattle.ged_tree.specs.Documents.{is_document, is_head, is_record_tag, are_records, are_at, is_structure_at, is_xref_at, is_payload_at}
+use Rattle.ged_tree.specs.DocumentLines.{document_lines}
+use Rattle.ged_tree.specs.Documents.{is_document, are_records, are_at, is_structure_at, is_payload_at}
+use Rattle.ged_tree.specs.inner.DocumentParts.{is_head, is_record_tag, is_xref_at}
 use Rattle.ged_link.specs.Links.{SomeTree, IsAmong, AreDistinct, xrefs, Resolved}
 use Rattle.ged_link.specs.inner.Identifiers.{with_xref, Names}
 use Rattle.ged_schema.specs.declared.context.Context.{Context}
 use Rattle.ged_schema.specs.declared.context.Context.TheVariants.{File}
 use Rattle.ged_schema.specs.Tables.{context_below}
 use Rattle.ged_canon.specs.declared.edition.Edition.{Edition}
-use Rattle.ged_canon.specs.Steps.{Step, rename, lose, Chain, done, then, new_name, Renamed, renamed_payload, renamed_structure, renamed, with_identifier, Gains, gains, after}
-use Rattle.ged_canon.specs.inner.StepParts.{olds, news, renamed_xref}
+use Rattle.ged_canon.specs.Steps.{Step, rename, lose, Chain, done, then, new_name, Renamed, renamed_payload, renamed, Gains, gains, after}
+use Rattle.ged_canon.specs.inner.StepParts.{renamed_structure, with_identifier, olds, news, renamed_xref}
 use Rattle.ged_canon.specs.Normal.{numbered}
 use Rattle.ged_canon.specs.inner.Working.{falls, put, is_named, used_xref, used_structure, used_trees, used_document, brief_structure, sorted, sorted_document, number_of, numbered_document}
 use Rattle.ged_canon.proofs.theory.Texts.{same_bytes, equal_bytes}
 use Rattle.ged_canon.proofs.theory.Fixed.{is_named-true, with_others}
-use Rattle.ged_canon.proofs.theory.Heads.{parts}
+use Rattle.ged_canon.proofs.theory.Heads.{parts, same_length}
 use Rattle.ged_canon.proofs.theory.Bare.{Mentions, mentions_has, stands, document_bare}
 use Rattle.ged_canon.proofs.theory.Used.{HasXref, has_xref, xref_among, some_put, some_sorted_xref, used_some, used_names, xrefs_used, document_sorted_names, xrefs_sorted, some_some, none_some}
 use Rattle.ged_canon.proofs.theory.Renaming.{gained_names}
@@ -152,9 +155,9 @@ module _ (name : Bytes) where
   lost_document _ _ (gains s below next) h = absurd (false≢true ((and_parts (bytes_eq s.tag (codes "HEAD")) false (parts (with_identifier s (Some name)) below next h).head).1))
   lost_document _ _ (after {t = t} {u = u} s below g) h =
       let p = parts s below u h in
-      and_from (is_head s && are_records t) (are_at 0 (tree s below t) && nat_lt (lines_count (tree s below t) + 1) (2 ^ 63))
+      and_from (is_head s && are_records t) (are_at 0 (tree s below t) && nat_lt (length (document_lines (tree s below t))) (2 ^ 63))
       (and_from (is_head s) (are_records t) p.head (lost_records t u g ∙ p.records))
-      (and_from (are_at 0 (tree s below t)) (nat_lt (lines_count (tree s below t) + 1) (2 ^ 63)) (lost_at 0 (tree s below t) (tree s below u) (after s below g) p.places) (ap (λ n. nat_lt (line_count s.payload + lines_count below + n + 1) (2 ^ 63)) (lost_lines t u g) ∙ p.small))
+      (and_from (are_at 0 (tree s below t)) (nat_lt (length (document_lines (tree s below t))) (2 ^ 63)) (lost_at 0 (tree s below t) (tree s below u) (after s below g) p.places) (ap (λ n. nat_lt n (2 ^ 63)) (same_length (tree s below t) (tree s below u) (lost_lines (tree s below t) (tree s below u) (after s below g))) ∙ p.small))
 
 -- Unused names dropped.
 
@@ -236,7 +239,7 @@ digits_are_tag_characters (d ∷ ds) h =
     let lower : 48 ≤ 48 + d = omega arith in
     let upper : 48 + d ≤ 57 = omega arith in
     let c = and_from (nat_le 48 (48 + d)) (nat_le (48 + d) 57) (le-leb 48 (48 + d) lower) (le-leb (48 + d) 57 upper) in
-    and_from (is_tag_character (48 + d)) (list_all is_tag_character (map (λ x. 48 + x) ds)) (or_left (is_capital (48 + d) || is_digit (48 + d)) ((48 + d) == 95) (or_right (is_capital (48 + d)) (is_digit (48 + d)) c)) (digits_are_tag_characters ds h.1)
+    and_from (is_tag_character (48 + d)) (list_all is_tag_character (map (λ x. 48 + x) ds)) (or_left (is_ascii_uppercase (48 + d) || is_ascii_digit (48 + d)) ((48 + d) == 95) (or_right (is_ascii_uppercase (48 + d)) (is_ascii_digit (48 + d)) c)) (digits_are_tag_characters ds h.1)
 
 pub numbered_name : (n : ℕ) → is_xref (numbered n) ≡ true
 numbered_name n =
@@ -309,9 +312,9 @@ module _ (f : Bytes → Bytes) where
   renamed_is_document none k h = h
   renamed_is_document (tree s below next) k h =
       let p = parts s below next h in
-      and_from (is_head (renamed_structure f s) && are_records (renamed f next)) (are_at 0 (renamed f (tree s below next)) && nat_lt (lines_count (renamed f (tree s below next)) + 1) (2 ^ 63))
+      and_from (is_head (renamed_structure f s) && are_records (renamed f next)) (are_at 0 (renamed f (tree s below next)) && nat_lt (length (document_lines (renamed f (tree s below next)))) (2 ^ 63))
       (and_from (is_head (renamed_structure f s)) (are_records (renamed f next)) (renamed_head s p.head) (renamed_records next ∙ p.records))
-      (and_from (are_at 0 (renamed f (tree s below next))) (nat_lt (lines_count (renamed f (tree s below next)) + 1) (2 ^ 63)) (renamed_at 0 (tree s below next) k p.places) (ap (λ n. nat_lt (n + 1) (2 ^ 63)) (renamed_lines (tree s below next)) ∙ p.small))
+      (and_from (are_at 0 (renamed f (tree s below next))) (nat_lt (length (document_lines (renamed f (tree s below next)))) (2 ^ 63)) (renamed_at 0 (tree s below next) k p.places) (ap (λ n. nat_lt n (2 ^ 63)) (same_length (renamed f (tree s below next)) (tree s below next) (renamed_lines (tree s below next))) ∙ p.small))
 
 numbering : (s : Trees) → Resolved s → Renamed s (numbered_document s)
 numbering s r = record {

@@ -10,7 +10,8 @@ use Rattle.ged_schema.specs.Tables.{row, context_below}
 use Rattle.ged_schema.specs.Payloads.{Fits}
 use Rattle.ged_schema.specs.Checked.{MeetsRow, AreChecked}
 use Rattle.ged_canon.specs.declared.edition.Edition.{Edition}
-use Rattle.ged_canon.specs.Steps.{Respelt, with_payload, Change, exchange, leave_out, Somewhere, here, under, later, Step, Chain, done, then}
+use Rattle.ged_canon.specs.Steps.{Respelt, Change, exchange, leave_out, Somewhere, here, under, later, Step, Chain, done, then}
+use Rattle.ged_canon.specs.inner.StepParts.{with_payload}
 use Rattle.ged_canon.specs.Tidy.{PlaceStep}
 use Rattle.ged_canon.specs.inner.Working.{falls, put, brief_structure, sorted, sorted_document}
 use Rattle.ged_canon.proofs.theory.Sorting.{falls_itself}

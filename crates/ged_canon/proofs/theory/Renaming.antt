@@ -14,8 +14,8 @@ use Rattle.ged_schema.specs.declared.context.Context.TheVariants.{File}
 use Rattle.ged_schema.specs.Rows.{Row}
 use Rattle.ged_schema.specs.Tables.{row, context_below}
 use Rattle.ged_canon.specs.declared.edition.Edition.{Edition}
-use Rattle.ged_canon.specs.Steps.{new_name, renamed_payload, renamed_structure, renamed, Renamed, Gains, gains, after, GainsName}
-use Rattle.ged_canon.specs.inner.StepParts.{renamed_xref, olds, news}
+use Rattle.ged_canon.specs.Steps.{new_name, renamed_payload, renamed, Renamed, Gains, gains, after, GainsName}
+use Rattle.ged_canon.specs.inner.StepParts.{renamed_structure, renamed_xref, olds, news}
 use Rattle.ged_canon.specs.inner.Working.{put, names, is_named, used_xref, used_structure, used_trees, used_document, brief, brief_structure, sorted, sorted_document, number_of, numbered_document, canon}
 use Rattle.ged_canon.proofs.theory.Texts.{same_bytes, equal_bytes, other_bytes}
 use Rattle.ged_canon.proofs.theory.Sorting.{put_renamed}

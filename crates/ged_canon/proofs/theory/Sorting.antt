@@ -13,8 +13,9 @@ use Rattle.std.proofs.lemmas.Bool.{true≢false, true_from_ne_false}
 use Rattle.ged_line.specs.Bytes.{Bytes}
 use Rattle.ged_line.specs.Names.{tag_order}
 use Rattle.ged_tree.specs.Trees.{Structure, Trees, none, tree}
-use Rattle.ged_canon.specs.Steps.{renamed_structure, renamed}
-use Rattle.ged_canon.specs.Normal.{InOrder, tags}
+use Rattle.ged_canon.specs.Steps.{renamed}
+use Rattle.ged_canon.specs.inner.StepParts.{renamed_structure}
+use Rattle.ged_canon.specs.inner.Orders.{TagsInOrder, tags}
 use Rattle.ged_canon.specs.inner.Working.{falls, put}
 
 abbrev gedc : Bytes
@@ -104,6 +105,6 @@ put_renamed f s b (tree x y xs) = by (falls s.tag x.tag) refl (put_renamed f s b
     by false e rest = rw e
 
 -- a tree that may stand before the others is put first
-pub put_first : (s : Structure) (b xs : Trees) → InOrder (s.tag ∷ tags xs) → put s b xs ≡ tree s b xs
+pub put_first : (s : Structure) (b xs : Trees) → TagsInOrder (s.tag ∷ tags xs) → put s b xs ≡ tree s b xs
 put_first s b none h = refl
 put_first s b (tree x y xs) h = rw (not_falling s.tag x.tag h.0)

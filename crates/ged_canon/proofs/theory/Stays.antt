@@ -9,13 +9,16 @@ use Rattle.ged_line.specs.Characters.{is_plain}
 use Rattle.ged_line.specs.Names.{is_tag}
 use Rattle.ged_tree.specs.declared.owned.payload.Payload.{Payload}
 use Rattle.ged_tree.specs.Trees.{Structure, Trees, tree, line_count, lines_count}
-use Rattle.ged_tree.specs.Documents.{is_payload_at, is_structure_at, is_xref_at, are_at, is_record_tag, are_records, is_head, is_document}
+use Rattle.ged_tree.specs.Documents.{is_payload_at, is_structure_at, are_at, are_records, is_document}
+use Rattle.ged_tree.specs.inner.DocumentParts.{is_xref_at, is_record_tag, is_head}
 use Rattle.ged_value.specs.Default.{default_word}
 use Rattle.ged_schema.specs.declared.context.Context.{Context}
 use Rattle.ged_schema.specs.Rows.{Row}
 use Rattle.ged_schema.specs.Tables.{row, context_below}
 use Rattle.ged_canon.specs.declared.edition.Edition.{Edition}
-use Rattle.ged_canon.specs.Steps.{Shortened, calendar, leading_zero, Respelt, respelt, with_payload, Change, exchange, leave_out, put_in, Somewhere, here, under, later}
+use Rattle.ged_canon.specs.Steps.{Shortened, calendar, leading_zero, Respelt, respelt, Change, exchange, leave_out, put_in, Somewhere, here, under, later}
+use Rattle.ged_canon.specs.inner.StepParts.{with_payload}
+use Rattle.ged_canon.proofs.theory.Heads.{same_length}
 use Rattle.ged_canon.proofs.theory.Plain.{plain_words, plain_zero, default_plain}
 
 -- Texts.
@@ -104,4 +107,6 @@ somewhere_alike edition context _ _ (later {t = t} {u = u} s below h) = later_al
 
 -- with one head, or a respelt one, they are documents alike
 pub documents_alike : (s t : Structure) (b c n m : Trees) → is_head s ≡ is_head t → are_records n ≡ are_records m → StandAlike (tree s b n) (tree t c m) → is_document (tree s b n) ≡ is_document (tree t c m)
-documents_alike s t b c n m h r a = λ i. (h i && r i) && (a.places 0 i && nat_lt (a.lines i + 1) (2 ^ 63))
+documents_alike s t b c n m h r a =
+    let few = same_length (tree s b n) (tree t c m) a.lines in
+    λ i. (h i && r i) && (a.places 0 i && nat_lt (few i) (2 ^ 63))

@@ -16,15 +16,16 @@ use Rattle.ged_line.specs.Spelling.{spelling, spelled_lines}
 use Rattle.ged_tree.specs.declared.owned.payload.Payload.{Payload}
 use Rattle.ged_tree.specs.declared.owned.payload.Payload.TheVariants.{Void, Pointer, Text}
 use Rattle.ged_tree.specs.Trees.{Structure, further_lines}
-use Rattle.ged_tree.specs.Documents.{is_payload_at, is_xref_at, is_structure_at}
-use Rattle.ged_tree.specs.DocumentLines.{line_value, first_value, continued}
+use Rattle.ged_tree.specs.Documents.{is_payload_at, is_structure_at}
+use Rattle.ged_tree.specs.inner.DocumentParts.{is_xref_at, continued}
+use Rattle.ged_tree.specs.DocumentLines.{line_value, first_value}
 use Rattle.ged_tree.specs.Views.{is_pointer}
 use Rattle.ged_tree.specs.inner.Walks.{HasLinesAt}
 use Rattle.ged_schema.specs.Rows.{Row}
 use Rattle.ged_canon.specs.declared.edition.Edition.{Edition}
 use Rattle.ged_canon.specs.declared.edition.Edition.TheVariants.{First, Second}
-use Rattle.ged_canon.specs.Steps.{renamed_payload, with_identifier}
-use Rattle.ged_canon.specs.inner.StepParts.{is_dated, is_numeric}
+use Rattle.ged_canon.specs.Steps.{renamed_payload}
+use Rattle.ged_canon.specs.inner.StepParts.{with_identifier, is_dated, is_numeric}
 use Rattle.ged_canon.specs.Normal.{IsBriefPayload}
 use Rattle.ged_canon.specs.inner.Working.{is_second, may_shorten, brief, brief_line}
 use Rattle.ged_canon.proofs.theory.Brief.{brief_same, brief_payload_same, brief_anyway}

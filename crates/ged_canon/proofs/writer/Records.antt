@@ -6,7 +6,8 @@ use Rattle.ged_line.specs.Bytes.{Bytes, line_feed}
 use Rattle.ged_line.specs.Lines.{may_be_xref}
 use Rattle.ged_line.specs.Spelling.{spelling, spelled_lines}
 use Rattle.ged_tree.specs.Trees.{Structure, Trees, tree, records_of}
-use Rattle.ged_tree.specs.Documents.{is_document, is_xref_at, is_structure_at, are_at}
+use Rattle.ged_tree.specs.Documents.{is_document, is_structure_at, are_at}
+use Rattle.ged_tree.specs.inner.DocumentParts.{is_xref_at}
 use Rattle.ged_tree.specs.DocumentLines.{structure_lines, lines_of}
 use Rattle.ged_tree.specs.inner.Trailers.{trailer_line}
 use Rattle.ged_tree.specs.Places.{structure_at, below_at}
@@ -21,8 +22,8 @@ use Rattle.ged_schema.specs.Tables.{row, context_below}
 use Rattle.ged_schema.specs.Checked.{Checked}
 use Rattle.ged_canon.specs.declared.edition.Edition.{Edition}
 use Rattle.ged_canon.specs.declared.writer.siblings.Sibling.{Sibling}
-use Rattle.ged_canon.specs.Steps.{renamed_structure, renamed}
-use Rattle.ged_canon.specs.inner.StepParts.{renamed_xref}
+use Rattle.ged_canon.specs.Steps.{renamed}
+use Rattle.ged_canon.specs.inner.StepParts.{renamed_structure, renamed_xref}
 use Rattle.ged_canon.specs.Normal.{numbered, IsNormalForm}
 use Rattle.ged_canon.specs.CanonText.{CanonText}
 use Rattle.ged_canon.specs.inner.Working.{is_named, used_xref, used_structure, used_trees, used_document, brief_structure, sorted, sorted_document, number_among, number_of, canon}

@@ -9,7 +9,8 @@ use Rattle.ged_line.specs.Lines.{LineParts}
 use Rattle.ged_line.specs.Names.{is_xref}
 use Rattle.ged_line.specs.Spelling.{spelled_lines}
 use Rattle.ged_tree.specs.Trees.{Structure, Trees, none, tree}
-use Rattle.ged_tree.specs.Documents.{is_xref_at, is_structure_at, are_at}
+use Rattle.ged_tree.specs.Documents.{is_structure_at, are_at}
+use Rattle.ged_tree.specs.inner.DocumentParts.{is_xref_at}
 use Rattle.ged_tree.specs.DocumentLines.{structure_lines, lines_of}
 use Rattle.ged_tree.specs.Places.{structure_at, below_at}
 use Rattle.ged_tree.specs.Runs.{trees_between, IsRun, IsStep}
@@ -17,10 +18,13 @@ use Rattle.ged_tree.specs.inner.Walks.{HasLinesAt}
 use Rattle.ged_schema.specs.declared.context.Context.{Context}
 use Rattle.ged_schema.specs.Rows.{Row}
 use Rattle.ged_schema.specs.Tables.{row, below_row, context_below}
+use Rattle.ged_canon.specs.Normal.{InOrder}
+use Rattle.ged_canon.proofs.theory.Orders.{tags_of_order}
 use Rattle.ged_canon.specs.declared.edition.Edition.{Edition}
 use Rattle.ged_canon.specs.declared.writer.siblings.Sibling.{Sibling}
-use Rattle.ged_canon.specs.Steps.{with_identifier, renamed}
-use Rattle.ged_canon.specs.Normal.{InOrder, tags}
+use Rattle.ged_canon.specs.Steps.{renamed}
+use Rattle.ged_canon.specs.inner.StepParts.{with_identifier}
+use Rattle.ged_canon.specs.inner.Orders.{TagsInOrder, tags}
 use Rattle.ged_canon.specs.inner.Working.{used_xref, used_trees, put, brief, brief_structure, sorted, each_sorted}
 use Rattle.ged_canon.specs.inner.Siblings.{sibling_trees}
 use Rattle.ged_canon.specs.inner.Writing.{brief_sibling, renamed_sibling}
@@ -121,15 +125,18 @@ tags_sorted : (edition : Edition) (context : Context) (xs : Trees) → tags (eac
 tags_sorted edition context none = refl
 tags_sorted edition context (tree s below next) = ap (λ ts. s.tag ∷ ts) (tags_sorted edition context next)
 
-rest_in_order : (a : Bytes) (rest : List Bytes) → InOrder (a ∷ rest) → InOrder rest
+rest_in_order : (a : Bytes) (rest : List Bytes) → TagsInOrder (a ∷ rest) → TagsInOrder rest
 rest_in_order a [] h = h
 rest_in_order a (b ∷ rest) h = h.1
 
-pub in_order_sorted : (edition : Edition) (context : Context) (xs : Trees) → InOrder (tags xs) → sorted edition context xs ≡ each_sorted edition context xs
-in_order_sorted edition context none o = refl
-in_order_sorted edition context (tree s below next) o =
-    ap (put (brief_structure edition context s) (sorted edition (context_below context s.tag) below)) (in_order_sorted edition context next (rest_in_order s.tag (tags next) o))
-    ∙ put_first (brief_structure edition context s) (sorted edition (context_below context s.tag) below) (each_sorted edition context next) (subst (λ ts. InOrder (s.tag ∷ ts)) (sym (tags_sorted edition context next)) o)
+tags_in_order_sorted : (edition : Edition) (context : Context) (xs : Trees) → TagsInOrder (tags xs) → sorted edition context xs ≡ each_sorted edition context xs
+tags_in_order_sorted edition context none o = refl
+tags_in_order_sorted edition context (tree s below next) o =
+    ap (put (brief_structure edition context s) (sorted edition (context_below context s.tag) below)) (tags_in_order_sorted edition context next (rest_in_order s.tag (tags next) o))
+    ∙ put_first (brief_structure edition context s) (sorted edition (context_below context s.tag) below) (each_sorted edition context next) (subst (λ ts. TagsInOrder (s.tag ∷ ts)) (sym (tags_sorted edition context next)) o)
+
+pub in_order_sorted : (edition : Edition) (context : Context) (xs : Trees) → InOrder xs → sorted edition context xs ≡ each_sorted edition context xs
+in_order_sorted edition context xs o = tags_in_order_sorted edition context xs (tags_of_order xs o)
 
 -- a run from a place on begins with the structure there
 pub run_first : (edition : Edition) (context : Context) (d : Trees) (place end after : ℕ) (sibling : Sibling) → IsRun d place end → IsStep d place end after → sibling.place ≡ place → sibling.tag.now ≡ (structure_at d place).tag

@@ -13,7 +13,7 @@ use Rattle.ged_tree.specs.Records.{record_trees}
 use Rattle.ged_schema.specs.declared.context.Context.{Context}
 use Rattle.ged_schema.specs.Tables.{context_below}
 use Rattle.ged_canon.specs.declared.edition.Edition.{Edition}
-use Rattle.ged_canon.specs.Normal.{InOrder}
+use Rattle.ged_canon.specs.inner.Orders.{TagsInOrder}
 use Rattle.ged_canon.specs.inner.Working.{falls, grouped, brief_structure, sorted, each_sorted}
 use Rattle.ged_canon.specs.inner.Working.{put as put_tree}
 use Rattle.ged_canon.proofs.theory.Sorting.{between, falls_itself, not_falling, not_greater, after_falling, tags_total, equal_tags}
@@ -25,19 +25,19 @@ module _ {A : Type 0} (tag : A → Bytes) where
   put a (x ∷ xs) = cond (falls (tag a) (tag x)) (x ∷ put a xs) (a ∷ (x ∷ xs))
 
 module _ {A : Type 0} (tag : A → Bytes) where
-  put_after : (b : Bytes) (a : A) (xs : List A) → tag_order b (tag a) ≢ Greater → InOrder (b ∷ map tag xs) → InOrder (b ∷ map tag (put tag a xs))
+  put_after : (b : Bytes) (a : A) (xs : List A) → tag_order b (tag a) ≢ Greater → TagsInOrder (b ∷ map tag xs) → TagsInOrder (b ∷ map tag (put tag a xs))
   put_after b a [] h o = (h, tt)
   put_after b a (x ∷ xs) h o = by (falls (tag a) (tag x)) refl (put_after (tag x) a xs)
     where
-      by : (t : Bool) → falls (tag a) (tag x) ≡ t → (tag_order (tag x) (tag a) ≢ Greater → InOrder (tag x ∷ map tag xs) → InOrder (tag x ∷ map tag (put tag a xs))) → InOrder (b ∷ map tag (cond t (x ∷ put tag a xs) (a ∷ (x ∷ xs))))
+      by : (t : Bool) → falls (tag a) (tag x) ≡ t → (tag_order (tag x) (tag a) ≢ Greater → TagsInOrder (tag x ∷ map tag xs) → TagsInOrder (tag x ∷ map tag (put tag a xs))) → TagsInOrder (b ∷ map tag (cond t (x ∷ put tag a xs) (a ∷ (x ∷ xs))))
       by true e f = (o.0, f (after_falling (tag a) (tag x) e) o.1)
       by false e f = (h, (not_greater (tag a) (tag x) e, o.1))
 
-  pub put_in_order : (a : A) (xs : List A) → InOrder (map tag xs) → InOrder (map tag (put tag a xs))
+  pub put_in_order : (a : A) (xs : List A) → TagsInOrder (map tag xs) → TagsInOrder (map tag (put tag a xs))
   put_in_order a [] o = tt
   put_in_order a (x ∷ xs) o = by (falls (tag a) (tag x)) refl
     where
-      by : (t : Bool) → falls (tag a) (tag x) ≡ t → InOrder (map tag (cond t (x ∷ put tag a xs) (a ∷ (x ∷ xs))))
+      by : (t : Bool) → falls (tag a) (tag x) ≡ t → TagsInOrder (map tag (cond t (x ∷ put tag a xs) (a ∷ (x ∷ xs))))
       by true e = put_after (tag x) a xs (after_falling (tag a) (tag x) e) o
       by false e = (not_greater (tag a) (tag x) e, o)
 
@@ -75,14 +75,14 @@ module _ {A : Type 0} (tag : A → Bytes) where
   not_tied x y ne = ⊎_elim (λ e. absurd (ne (same_tag x y e))) (λ e. e) (cases_Bool (ties before x y))
 
   -- among what comes after a greater tag none ties
-  none_tie : (b : Bytes) (z : A) (ys : List A) → InOrder (b ∷ map tag ys) → falls b (tag z) ≡ true → filter (ties before z) ys ≡ []
+  none_tie : (b : Bytes) (z : A) (ys : List A) → TagsInOrder (b ∷ map tag ys) → falls b (tag z) ≡ true → filter (ties before z) ys ≡ []
   none_tie b z [] o h = refl
   none_tie b z (y ∷ ys) o h =
       let f : falls (tag y) (tag z) ≡ true = ⊎_elim (λ e. e) (λ e. absurd (true≢false (sym (between b (tag y) (tag z) h e) ∙ not_falling b (tag y) o.0))) (cases_Bool (falls (tag y) (tag z))) in
       let n = not_tied z y (λ e. falls_itself (tag y) (tag z) f (sym e)) in
       rw n (none_tie (tag y) z ys o.1 f)
 
-  in_order_rest : (y : A) (ys : List A) → InOrder (map tag (y ∷ ys)) → InOrder (map tag ys)
+  in_order_rest : (y : A) (ys : List A) → TagsInOrder (map tag (y ∷ ys)) → TagsInOrder (map tag ys)
   in_order_rest y [] o = tt
   in_order_rest y (z ∷ ys) o = o.1
 
@@ -99,7 +99,7 @@ module _ {A : Type 0} (tag : A → Bytes) where
   cons_rest y z ys zs e = cc
 
   -- the heads of two lists in order whose ties are alike have one tag
-  heads_tie : (y z : A) (ys zs : List A) → InOrder (map tag (y ∷ ys)) → filter (ties before z) (y ∷ ys) ≡ filter (ties before z) (z ∷ zs) → falls (tag y) (tag z) ≡ true → ⊥
+  heads_tie : (y z : A) (ys zs : List A) → TagsInOrder (map tag (y ∷ ys)) → filter (ties before z) (y ∷ ys) ≡ filter (ties before z) (z ∷ zs) → falls (tag y) (tag z) ≡ true → ⊥
   heads_tie y z ys zs o e f =
       let n = not_tied z y (λ p. falls_itself (tag y) (tag z) f (sym p)) in
       let k : filter (ties before z) (y ∷ ys) ≡ [] = rw n (none_tie (tag y) z ys o f) in
@@ -112,7 +112,7 @@ module _ {A : Type 0} (tag : A → Bytes) where
       by true k g = cons_rest y y (filter (ties before x) ys) (filter (ties before x) zs) (rw k at g)
       by false k g = rw k at g
 
-  unique : (ys zs : List A) → InOrder (map tag ys) → InOrder (map tag zs) → ((x : A) → filter (ties before x) ys ≡ filter (ties before x) zs) → ys ≡ zs
+  unique : (ys zs : List A) → TagsInOrder (map tag ys) → TagsInOrder (map tag zs) → ((x : A) → filter (ties before x) ys ≡ filter (ties before x) zs) → ys ≡ zs
   unique [] [] o p h = refl
   unique [] (z ∷ zs) o p h = absurd (nil_cons z (filter (ties before z) zs) (h z ∙ first_tie z zs))
   unique (y ∷ ys) [] o p h = absurd (nil_cons y (filter (ties before y) ys) (sym (h y) ∙ first_tie y ys))
@@ -142,14 +142,14 @@ module _ {A : Type 0} (tag : A → Bytes) where
   all_stable x [] = refl
   all_stable x (y ∷ ys) = put_stable x y (put_all ys) ∙ ap (λ l. cond (ties before x y) (y ∷ l) l) (all_stable x ys)
 
-  all_in_order : (xs : List A) → InOrder (map tag (put_all xs))
+  all_in_order : (xs : List A) → TagsInOrder (map tag (put_all xs))
   all_in_order [] = tt
   all_in_order (x ∷ xs) = put_in_order tag x (put_all xs) (all_in_order xs)
 
   not_after : (a b : A) → before b a ≡ false → tag_order (tag a) (tag b) ≢ Greater
   not_after a b h e = true≢false (sym (ap is_lt (tags_total.antisymm (tag b) (tag a) ∙ ap ordering_reverse e)) ∙ h)
 
-  sorted_in_order : (ys : List A) → IsSortedBy before ys → InOrder (map tag ys)
+  sorted_in_order : (ys : List A) → IsSortedBy before ys → TagsInOrder (map tag ys)
   sorted_in_order [] h = tt
   sorted_in_order (y ∷ []) h = tt
   sorted_in_order (y ∷ (z ∷ ys)) h =

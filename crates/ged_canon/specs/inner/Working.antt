@@ -22,8 +22,8 @@ use Rattle.ged_schema.specs.Rows.{Row}
 use Rattle.ged_schema.specs.Tables.{row, context_below}
 use Rattle.ged_canon.specs.declared.edition.Edition.{Edition}
 use Rattle.ged_canon.specs.declared.edition.Edition.TheVariants.{First, Second}
-use Rattle.ged_canon.specs.Steps.{with_payload, with_identifier, renamed_payload, renamed}
-use Rattle.ged_canon.specs.inner.StepParts.{is_dated, is_numeric, renamed_xref}
+use Rattle.ged_canon.specs.Steps.{renamed_payload, renamed}
+use Rattle.ged_canon.specs.inner.StepParts.{with_payload, with_identifier, is_dated, is_numeric, renamed_xref}
 use Rattle.ged_canon.specs.Normal.{numbered}
 
 -- Use, as a test.

@@ -7,7 +7,8 @@ ghost use Rattle.ged_line.specs.Characters.{is_plain};
 ghost use Rattle.ged_line.specs.Lines.{Pointer, is_line, line_parts, xref_part};
 ghost use Rattle.ged_line.specs.Spelling.{spelling, spelled_lines};
 ghost use Rattle.ged_line.specs.Views.{viewed_value};
-ghost use Rattle.ged_tree.specs.DocumentLines.{line_value, continued};
+ghost use Rattle.ged_tree.specs.DocumentLines.{line_value};
+ghost use Rattle.ged_tree.specs.inner.DocumentParts.{continued};
 ghost use Rattle.ged_canon.specs.Normal.{numbered as spells_number};
 
 use crate::spelled::SpelledForm;

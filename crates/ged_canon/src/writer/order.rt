@@ -1,7 +1,7 @@
 // Whether structures stand in the order of their tags.
 ghost use Rattle.std.specs.Prelude.{◌<◌, ◌↔◌, Some, IsTrue};
 ghost use Rattle.ged_tree.specs.Runs.{IsRun, trees_between};
-ghost use Rattle.ged_canon.specs.Normal.{InOrder, tags};
+ghost use Rattle.ged_canon.specs.Normal.{InOrder};
 
 use ged_line::tag_order;
 use ged_tree::{Forest, next_in_run};
@@ -10,7 +10,7 @@ use std::cmp::Ordering;
 /// Whether the structures of a run stand in the order of their tags.
 pub(crate) fn are_in_order<F: Forest>(forest: &F, start: usize, end: usize) -> bool
     requires { IsRun (F.trees forest.now) start end }
-    ensures { IsTrue result ↔ InOrder (tags (trees_between (F.trees forest.now) start end)) }
+    ensures { IsTrue result ↔ InOrder (trees_between (F.trees forest.now) start end) }
 {
     let Some(mut place) = next_in_run(forest, start, end) else {
         return true;

@@ -7,10 +7,11 @@ use Rattle.std.specs.List.{AllByRecursion}
 use Rattle.std.specs.declared.alloc.AllocError.{AllocError}
 use Rattle.ged_line.specs.Bytes.{Bytes}
 use Rattle.ged_line.specs.Characters.{is_banned}
-use Rattle.ged_line.specs.Lines.{LineParts, Value, Empty, Void, Pointer, Text, is_line, LineText, IsValuePart}
+use Rattle.ged_line.specs.Lines.{LineParts, Value, Empty, Void, Pointer, Text, is_line}
+use Rattle.ged_line.specs.inner.LineTexts.{IsValuePart}
+use Rattle.ged_line.specs.Spelling.{LineText, spelling, value_part, spelled_lines, file_of}
 use Rattle.ged_line.specs.Faults.{IsFaultOf}
 use Rattle.ged_line.specs.Pieces.{HasNoEnd, AreCutInto, ArePiecesOf, IsBehindMark, pieces_of}
-use Rattle.ged_line.specs.Spelling.{spelling, value_part, spelled_lines, file_of}
 use Rattle.ged_line.specs.Files.{SpellLines, FileText, AreTexts, StopsIn, StopsAt}
 use Rattle.ged_line.specs.Reading.{TellsLines}
 use Rattle.ged_line.specs.declared.fault.LineFault.{LineFault}
@@ -42,14 +43,8 @@ HasNoEnd-line line text t = HasNoEnd-plain text (line_plain line text t)
 pub line_not_empty : (line : LineParts) (text : Bytes) → LineText line text → text ≢ []
 line_not_empty line text t e = no_fault line text t EmptyLine e
 
-part_is : (value : Value) → IsValuePart value (value_part value)
-part_is Empty = inl refl
-part_is Void = refl
-part_is (Pointer name) = refl
-part_is (Text text) = refl
-
 pub LineText-spelling : (line : LineParts) → is_line line ≡ true → LineText line (spelling line)
-LineText-spelling line l = record { is_line = l; value_part = value_part line.value; value = part_is line.value; spelled = refl }
+LineText-spelling line l = record { is_line = l; spelled = inl refl }
 
 -- one more line and its piece
 pub AreTexts-more : (lines : List LineParts) (before : List Bytes) (line : LineParts) (piece : Bytes)

@@ -2,17 +2,19 @@
 use Rattle.std.proofs.Common.{◌≡◌, ◌≢◌, ℕ, ◌+◌, ◌-◌, ◌<◌, ◌≤◌, List, [], ◌∷◌, ◌++◌, ◌⊎◌, inl, inr, true, length, take, drop, refl, sym, ◌∙◌, ap, subst, arith, decimal, length-append}
 use Rattle.std.proofs.lemmas.List.{append-nil, append_assoc, append_cancel_right}
 use Rattle.ged_line.specs.Bytes.{Bytes}
-use Rattle.ged_line.specs.Lines.{LineParts, Value, Empty, Void, Pointer, Text, LineText, IsValuePart, xref_part}
+use Rattle.ged_line.specs.Lines.{LineParts, Value, Empty, Void, Pointer, Text, xref_part}
+use Rattle.ged_line.specs.inner.LineTexts.{IsValuePart}
+use Rattle.ged_line.specs.Spelling.{LineText, spelling, value_part, spelled_lines}
 use Rattle.ged_line.specs.Views.{viewed_value}
 use Rattle.ged_line.specs.Faults.{IsFaultOf}
 use Rattle.ged_line.specs.Pieces.{AreCutInto, pieces_of}
-use Rattle.ged_line.specs.Spelling.{spelling, value_part, spelled_lines}
 use Rattle.ged_line.specs.Files.{SpellLines, StopsIn}
 use Rattle.ged_line.specs.inner.Reading.{IsRespelledBehind}
 use Rattle.ged_line.specs.inner.Respelling.{Growing, EndsWith, IsSpelledOn, text_before}
 use Rattle.ged_line.specs.declared.fault.LineFault.{LineFault}
 use Rattle.ged_line.specs.declared.line.view.ValueView.{ValueView}
 use Rattle.ged_line.specs.declared.line.view.ValueView.TheVariants as views
+use Rattle.ged_line.proofs.line.LineTexts.{before_tag, empty_spelling}
 use Rattle.ged_line.proofs.file.Answering.{take_front, drop_front}
 use Rattle.ged_line.proofs.line.Cuts.{Lacks, cut_not_whole}
 use Rattle.ged_line.proofs.line.NameTests.{tag_some}
@@ -37,21 +39,8 @@ last_lacks c (x ∷ xs) ys (f ∷ front) l n e =
     let tail : xs ++ ys ≡ front ++ (c ∷ []) = cc in
     last_lacks c xs ys front l n tail
 
--- the bytes of a line before its tag
-abbrev before_tag : LineParts → Bytes
-before_tag line = decimal line.level ++ (32 ∷ xref_part line.xref)
-
-before_and_tag : (line : LineParts) (part : Bytes) → decimal line.level ++ (32 ∷ (xref_part line.xref ++ (line.tag ++ part))) ≡ (before_tag line ++ line.tag) ++ part
-before_and_tag line part = sym (append_assoc (before_tag line) line.tag part ∙ append_assoc (decimal line.level) (32 ∷ xref_part line.xref) (line.tag ++ part))
-
 tag_not_nil : (line : LineParts) (text : Bytes) → LineText line text → line.tag ≢ []
 tag_not_nil line text t e = tag_some (subst (λ tag. is_tag tag ≡ true) e (line_is line t.is_line).tag)
-
-part_filled : (value : Value) (part : Bytes) → IsValuePart value part → value ≢ Empty → part ≡ value_part value
-part_filled Empty part p n = absurd (n refl)
-part_filled Void part p n = p
-part_filled (Pointer name) part p n = p
-part_filled (Text text) part p n = p
 
 not_empty_value : (view : ValueView) (value : Value) → viewed_value view ≡ value → view ≢ views.Empty → value ≢ Empty
 not_empty_value views.Empty value e n = λ f. n refl
@@ -61,31 +50,26 @@ not_empty_value (views.Text text) value e n = λ f. (let z : Text text.now ≡ E
 
 -- a line with a value has one text
 pub text_filled : (line : LineParts) (text : Bytes) (view : ValueView) → LineText line text → viewed_value view ≡ line.value → view ≢ views.Empty → text ≡ spelling line
-text_filled line text view t e n =
-    let part : t.value_part ≡ value_part line.value = part_filled line.value t.value_part t.value (not_empty_value view line.value e n) in
-    t.spelled ∙ ap (λ p. decimal line.level ++ (32 ∷ (xref_part line.xref ++ (line.tag ++ p)))) part
-
-empty_spelling : (line : LineParts) → line.value ≡ Empty → spelling line ≡ before_tag line ++ line.tag
-empty_spelling line e = ap (λ v. decimal line.level ++ (32 ∷ (xref_part line.xref ++ (line.tag ++ value_part v)))) e ∙ before_and_tag line [] ∙ append-nil (before_tag line ++ line.tag)
-
-empty_part : (line : LineParts) (text : Bytes) (t : LineText line text) → line.value ≡ Empty → (t.value_part ≡ []) ⊎ (t.value_part ≡ 32 ∷ [])
-empty_part line text t e = subst (λ v. IsValuePart v t.value_part) e t.value
+text_filled line text view t e n = elim t.spelled [
+  | inl own ↦ own
+  | inr blank ↦ absurd (not_empty_value view line.value e n blank.0)
+]
 
 -- the text of a line without a value has a space at its end, or is its spelling
 pub text_stripped : (line : LineParts) (text front : Bytes) → LineText line text → Empty ≡ line.value → text ≡ front ++ (32 ∷ []) → front ≡ spelling line
-text_stripped line text front t e s = elim (empty_part line text t (sym e)) [
-  | inl none ↦
-      let whole : before_tag line ++ line.tag ≡ text = sym (append-nil (before_tag line ++ line.tag)) ∙ ap (λ p. (before_tag line ++ line.tag) ++ p) (sym none) ∙ sym (t.spelled ∙ before_and_tag line t.value_part) in
-      absurd (last_lacks 32 (before_tag line) line.tag front (Lacks-tag line.tag (line_is line t.is_line).tag) (tag_not_nil line text t) (whole ∙ s))
+text_stripped line text front t e s = elim t.spelled [
+  | inl own ↦
+      let whole : before_tag line ++ line.tag ≡ front ++ (32 ∷ []) = sym (empty_spelling line (sym e)) ∙ sym own ∙ s in
+      absurd (last_lacks 32 (before_tag line) line.tag front (Lacks-tag line.tag (line_is line t.is_line).tag) (tag_not_nil line text t) whole)
   | inr blank ↦
-      let whole : (before_tag line ++ line.tag) ++ (32 ∷ []) ≡ front ++ (32 ∷ []) = ap (λ p. (before_tag line ++ line.tag) ++ p) (sym blank) ∙ sym (t.spelled ∙ before_and_tag line t.value_part) ∙ s in
-      sym (append_cancel_right (before_tag line ++ line.tag) front (32 ∷ []) whole) ∙ sym (empty_spelling line (sym e))
+      let whole : spelling line ++ (32 ∷ []) ≡ front ++ (32 ∷ []) = sym blank.1 ∙ s in
+      sym (append_cancel_right (spelling line) front (32 ∷ []) whole)
 ]
 
 pub text_kept : (line : LineParts) (text : Bytes) → LineText line text → Empty ≡ line.value → ((front : Bytes) → text ≢ front ++ (32 ∷ [])) → text ≡ spelling line
-text_kept line text t e n = elim (empty_part line text t (sym e)) [
-  | inl none ↦ t.spelled ∙ before_and_tag line t.value_part ∙ ap (λ p. (before_tag line ++ line.tag) ++ p) none ∙ append-nil (before_tag line ++ line.tag) ∙ sym (empty_spelling line (sym e))
-  | inr blank ↦ absurd (n (before_tag line ++ line.tag) (t.spelled ∙ before_and_tag line t.value_part ∙ ap (λ p. (before_tag line ++ line.tag) ++ p) blank))
+text_kept line text t e n = elim t.spelled [
+  | inl own ↦ own
+  | inr blank ↦ absurd (n (spelling line) blank.1)
 ]
 
 -- so many lines of the bytes are respelled behind what stood there, and those pieces are left

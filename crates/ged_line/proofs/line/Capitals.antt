@@ -2,7 +2,7 @@
 use Rattle.std.proofs.Common.{◌≡◌, ℕ, ◌+◌, ◌*◌, ◌<◌, Bool, true, false, List, get_or, cond, ltb, zero, suc, refl, arith}
 use Rattle.std.proofs.lemmas.Bool.Decides.{nat_tests}
 use Rattle.std.specs.Simd.Lanes.{top}
-use Rattle.ged_line.specs.Characters.{is_capital}
+use Rattle.std.specs.Char.{is_ascii_uppercase}
 
 -- what `simd_clamp` gives at one lane
 abbrev pub not_below : ℕ → ℕ
@@ -22,7 +22,7 @@ nearest_is x = rw (top_of (ltb x 65), top_of (ltb (cond (ltb x 65) 65 x) 90)) re
 pub nearest_small : (x : ℕ) → nearest x < 256
 nearest_small x = let e = nearest_is x in grind (arith, nat_tests)
 
-pub nearest_capital : (x : ℕ) → nearest x ≡ x → is_capital x ≡ true
+pub nearest_capital : (x : ℕ) → nearest x ≡ x → is_ascii_uppercase x ≡ true
 nearest_capital x same = let e = nearest_is x in grind (arith, nat_tests)
 
 -- the number that four bytes spell, the lowest first
@@ -33,8 +33,8 @@ same_parts : (a b c d e f g h : ℕ) → a < 256 → b < 256 → c < 256 → d <
     → number_of a b c d ≡ number_of e f g h → (a ≡ e) × (b ≡ f) × (c ≡ g) × (d ≡ h)
 same_parts a b c d e f g h s1 s2 s3 s4 s5 s6 s7 s8 same = (omega arith, omega arith, omega arith, omega arith)
 
-four_places : (bytes : List ℕ) → is_capital (get_or bytes 0 0) ≡ true → is_capital (get_or bytes 1 0) ≡ true
-    → is_capital (get_or bytes 2 0) ≡ true → is_capital (get_or bytes 3 0) ≡ true → (at : ℕ) → at < 4 → is_capital (get_or bytes at 0) ≡ true
+four_places : (bytes : List ℕ) → is_ascii_uppercase (get_or bytes 0 0) ≡ true → is_ascii_uppercase (get_or bytes 1 0) ≡ true
+    → is_ascii_uppercase (get_or bytes 2 0) ≡ true → is_ascii_uppercase (get_or bytes 3 0) ≡ true → (at : ℕ) → at < 4 → is_ascii_uppercase (get_or bytes at 0) ≡ true
 four_places bytes p q r s zero lt = p
 four_places bytes p q r s (suc zero) lt = q
 four_places bytes p q r s (suc (suc zero)) lt = r
@@ -45,7 +45,7 @@ four_places bytes p q r s (suc (suc (suc (suc n)))) lt = absurd (omega arith)
 pub capitals_from : (bytes : List ℕ) → ((i : ℕ) → get_or bytes i 0 < 256)
     → number_of (nearest (get_or bytes 0 0)) (nearest (get_or bytes 1 0)) (nearest (get_or bytes 2 0)) (nearest (get_or bytes 3 0))
     ≡ number_of (get_or bytes 0 0) (get_or bytes 1 0) (get_or bytes 2 0) (get_or bytes 3 0)
-    → (at : ℕ) → at < 4 → is_capital (get_or bytes at 0) ≡ true
+    → (at : ℕ) → at < 4 → is_ascii_uppercase (get_or bytes at 0) ≡ true
 capitals_from bytes fits same =
     let a = get_or bytes 0 0 in
     let b = get_or bytes 1 0 in

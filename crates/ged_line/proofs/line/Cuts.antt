@@ -3,7 +3,8 @@ use Rattle.std.proofs.Common.{◌≡◌, ◌≢◌, ℕ, ◌<◌, true, List, []
 use Rattle.std.proofs.lemmas.Bool.Decides.{nat_tests}
 use Rattle.std.proofs.lemmas.List.Elements.{recursion_from_All, All-from_get_or}
 use Rattle.std.specs.List.{AllByRecursion}
-use Rattle.ged_line.specs.Characters.{is_digit, is_tag_character}
+use Rattle.ged_line.specs.Characters.{is_tag_character}
+use Rattle.std.specs.Char.{is_ascii_digit}
 
 -- c is no element
 abbrev pub Lacks : ℕ → List ℕ → Type 0
@@ -16,7 +17,7 @@ pub AllByRecursion-weaker : {X : Type 0} (P Q : X → Type 0) → ((x : X) → P
 AllByRecursion-weaker P Q h [] a = tt
 AllByRecursion-weaker P Q h (x ∷ xs) a = (h x a.0, AllByRecursion-weaker P Q h xs a.1)
 
-pub digit_not_space : (c : ℕ) → is_digit c ≡ true → c ≢ 32
+pub digit_not_space : (c : ℕ) → is_ascii_digit c ≡ true → c ≢ 32
 digit_not_space c h = λ (e : c ≡ 32). grind (arith, nat_tests)
 
 pub tag_character_not_space : (c : ℕ) → is_tag_character c ≡ true → c ≢ 32

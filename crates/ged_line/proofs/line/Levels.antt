@@ -4,25 +4,25 @@ use native.Mathlib.Decide.{dec_lt}
 use Rattle.std.proofs.lemmas.Bool.Decides.{nat_tests}
 use Rattle.std.proofs.lemmas.Fmt.{decimal_digit, decimal_step}
 use Rattle.std.specs.List.{AllByRecursion, list_all}
-use Rattle.ged_line.specs.Characters.{is_digit}
+use Rattle.std.specs.Char.{is_ascii_digit}
 use Rattle.ged_line.specs.Faults.{is_level, number_after}
 use Rattle.ged_line.proofs.line.NameTests.{and_left, and_right, and_true, all_each, each_all}
 use Rattle.ged_line.proofs.line.Cuts.{Lacks, AllByRecursion-weaker, digit_not_space}
 
-pub digit_from : (d : ℕ) → 48 ≤ d → d ≤ 57 → is_digit d ≡ true
+pub digit_from : (d : ℕ) → 48 ≤ d → d ≤ 57 → is_ascii_digit d ≡ true
 digit_from d l h = grind (arith, nat_tests)
 
-pub digit_bounds : (d : ℕ) → is_digit d ≡ true → (48 ≤ d) × (d ≤ 57)
+pub digit_bounds : (d : ℕ) → is_ascii_digit d ≡ true → (48 ≤ d) × (d ≤ 57)
 digit_bounds d h = (grind (arith, nat_tests), grind (arith, nat_tests))
 
 abbrev pub AreDigits : List ℕ → Type 0
-AreDigits ds = AllByRecursion (λ c. is_digit c ≡ true) ds
+AreDigits ds = AllByRecursion (λ c. is_ascii_digit c ≡ true) ds
 
 -- what the test of a level says
-level_by : (b : Bool) (d : ℕ) (ds : List ℕ) → (d == 0x30) ≡ b → cond b (length ds == 0) (is_digit d && list_all is_digit ds) ≡ true → AreDigits (d ∷ ds)
+level_by : (b : Bool) (d : ℕ) (ds : List ℕ) → (d == 0x30) ≡ b → cond b (length ds == 0) (is_ascii_digit d && list_all is_ascii_digit ds) ≡ true → AreDigits (d ∷ ds)
 level_by true d [] z h = let e : d ≡ 48 = grind (arith, nat_tests) in (digit_from d (omega arith) (omega arith), tt)
 level_by true d (x ∷ ds) z h = absurd (grind (arith, nat_tests))
-level_by false d ds z h = (and_left (is_digit d) (list_all is_digit ds) h, all_each is_digit ds (and_right (is_digit d) (list_all is_digit ds) h))
+level_by false d ds z h = (and_left (is_ascii_digit d) (list_all is_ascii_digit ds) h, all_each is_ascii_digit ds (and_right (is_ascii_digit d) (list_all is_ascii_digit ds) h))
 
 pub level_each : (digits : List ℕ) → is_level digits ≡ true → AreDigits digits
 level_each [] h = cc
@@ -32,13 +32,13 @@ not_zero : (d : ℕ) → d ≢ 48 → (d == 0x30) ≡ false
 not_zero d h = grind (arith, nat_tests)
 
 pub level_from : (d : ℕ) (ds : List ℕ) → AreDigits (d ∷ ds) → d ≢ 48 → is_level (d ∷ ds) ≡ true
-level_from d ds a h = rw (not_zero d h) (and_true (is_digit d) (list_all is_digit ds) a.0 (each_all is_digit ds a.1))
+level_from d ds a h = rw (not_zero d h) (and_true (is_ascii_digit d) (list_all is_ascii_digit ds) a.0 (each_all is_ascii_digit ds a.1))
 
-digit_by : (b : Bool) (d : ℕ) → (d == 0x30) ≡ b → is_digit d ≡ true → cond b true (is_digit d && true) ≡ true
+digit_by : (b : Bool) (d : ℕ) → (d == 0x30) ≡ b → is_ascii_digit d ≡ true → cond b true (is_ascii_digit d && true) ≡ true
 digit_by true d z h = refl
-digit_by false d z h = and_true (is_digit d) true h refl
+digit_by false d z h = and_true (is_ascii_digit d) true h refl
 
-digit_is_level : (d : ℕ) → is_digit d ≡ true → is_level (d ∷ []) ≡ true
+digit_is_level : (d : ℕ) → is_ascii_digit d ≡ true → is_level (d ∷ []) ≡ true
 digit_is_level d h = digit_by (d == 0x30) d refl h
 
 pub Lacks-level : (digits : List ℕ) → is_level digits ≡ true → Lacks 32 digits
@@ -51,7 +51,7 @@ decimal_two n l h =
     let two : decimal n ≡ decimal (n / 10) ++ ((48 + n % 10) ∷ []) = decimal_step n l (omega arith) in
     cc
 
-pub number_two : (d e : ℕ) → is_digit d ≡ true → is_digit e ≡ true → d ≢ 48 → decimal ((d - 48) * 10 + (e - 48)) ≡ d ∷ e ∷ []
+pub number_two : (d e : ℕ) → is_ascii_digit d ≡ true → is_ascii_digit e ≡ true → d ≢ 48 → decimal ((d - 48) * 10 + (e - 48)) ≡ d ∷ e ∷ []
 number_two d e p q ne =
     let x = digit_bounds d p in
     let y = digit_bounds e q in
@@ -61,7 +61,7 @@ number_two d e p q ne =
     let low : 48 + n % 10 ≡ e = omega arith in
     cc
 
-pub number_one : (d : ℕ) → is_digit d ≡ true → decimal (d - 48) ≡ d ∷ []
+pub number_one : (d : ℕ) → is_ascii_digit d ≡ true → decimal (d - 48) ≡ d ∷ []
 number_one d p =
     let x = digit_bounds d p in
     let one : decimal (d - 48) ≡ (48 + (d - 48)) ∷ [] = decimal_digit (d - 48) (omega arith) in

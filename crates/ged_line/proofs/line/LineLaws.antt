@@ -12,11 +12,14 @@ use Rattle.std.specs.List.{AllByRecursion}
 use Rattle.std.specs.Str.{NoCharPasses, IsUtf8}
 use lib.Utf8.{encodes}
 use Rattle.ged_line.specs.Bytes.{at_sign}
-use Rattle.ged_line.specs.Characters.{is_tag_character, is_digit, is_plain, is_banned}
+use Rattle.ged_line.specs.Characters.{is_tag_character, is_plain, is_banned}
+use Rattle.std.specs.Char.{is_ascii_digit}
 use Rattle.ged_line.specs.Names.{is_tag, is_xref}
-use Rattle.ged_line.specs.Lines.{LineParts, Value, Empty, Void, Pointer, Text, is_value, may_be_xref, is_line, IsValuePart, LineText, xref_part, doubled}
-use Rattle.ged_line.specs.inner.LineTexts.{is_line_text}
+use Rattle.ged_line.specs.Lines.{LineParts, Value, Empty, Void, Pointer, Text, is_value, may_be_xref, is_line, xref_part, doubled}
+use Rattle.ged_line.specs.inner.LineTexts.{is_line_text, IsValuePart, LineInParts}
+use Rattle.ged_line.specs.Spelling.{LineText}
 use Rattle.ged_line.specs.Faults.{StandsAt, IsFaultOf, line_fault_number, BeginsWith, IsPointer}
+use Rattle.ged_line.proofs.line.LineTexts.{in_parts}
 use Rattle.ged_line.proofs.line.NameTests.{and_left, and_right, tag_each, tag_some, xref_each, xref_not_void}
 use Rattle.ged_line.proofs.bytes.Banned.{IsUtf8-plain, NoCharPasses-plain, has_banned-none}
 use Rattle.ged_line.specs.declared.fault.LineFault.{LineFault}
@@ -85,7 +88,7 @@ IsPlain-graphic (c ∷ cs) a = IsPlain-append (c ∷ []) cs (one_plain c a.0) (I
 tag_character_graphic : (c : ℕ) → is_tag_character c ≡ true → IsGraphic c
 tag_character_graphic c h = (grind (arith, nat_tests), grind (arith, nat_tests))
 
-digit_graphic : (c : ℕ) → is_digit c ≡ true → IsGraphic c
+digit_graphic : (c : ℕ) → is_ascii_digit c ≡ true → IsGraphic c
 digit_graphic c h = (grind (arith, nat_tests), grind (arith, nat_tests))
 
 small_graphic : (c : ℕ) → 32 ≤ c → c < 127 → IsPlain (c ∷ [])
@@ -124,16 +127,16 @@ value_plain (Text text) part v e = subst IsPlain (sym e) (IsPlain-append (32 ∷
       | inr d ↦ subst IsPlain (sym d) (IsPlain-append (64 ∷ []) text (small_graphic 64 (omega arith) (omega arith)) (text_plain text v))
     ]))
 
-pub line_plain : (line : LineParts) (piece : List ℕ) → LineText line piece → IsPlain piece
-line_plain line piece t = subst IsPlain (sym t.spelled)
+parts_plain : (line : LineParts) (piece : List ℕ) → LineInParts line piece → IsPlain piece
+parts_plain line piece t = subst IsPlain (sym t.spelled)
     (IsPlain-append (decimal line.level) (32 ∷ (xref_part line.xref ++ (line.tag ++ t.value_part)))
     (IsPlain-graphic (decimal line.level) (AllByRecursion-weaker _ _ digit_graphic (decimal line.level) (level_each (decimal line.level) (is_level-decimal line.level (line_is line t.is_line).level).0)))
     (IsPlain-append (32 ∷ []) (xref_part line.xref ++ (line.tag ++ t.value_part)) (small_graphic 32 (omega arith) (omega arith))
     (IsPlain-append (xref_part line.xref) (line.tag ++ t.value_part) (xref_plain line.xref (line_is line t.is_line).xref)
     (IsPlain-append line.tag t.value_part (name_plain line.tag (tag_each line.tag (line_is line t.is_line).tag)) (value_plain line.value t.value_part (line_is line t.is_line).value t.value)))))
 
-line_leveled : (line : LineParts) (piece : List ℕ) (t : LineText line piece) → Leveled piece line.level (xref_part line.xref ++ (line.tag ++ t.value_part))
-line_leveled line piece t = record { utf8 = (line_plain line piece t).0; unbanned = has_banned-none piece (line_plain line piece t).0 (line_plain line piece t).1; small = (line_is line t.is_line).level; spelled = t.spelled }
+line_leveled : (line : LineParts) (piece : List ℕ) (t : LineInParts line piece) → Leveled piece line.level (xref_part line.xref ++ (line.tag ++ t.value_part))
+line_leveled line piece t = record { utf8 = (parts_plain line piece t).0; unbanned = has_banned-none piece (parts_plain line piece t).0 (parts_plain line piece t).1; small = (line_is line t.is_line).level; spelled = t.spelled }
 
 no_sign : (tag part : List ℕ) → is_tag tag ≡ true → ¬ (BeginsWith at_sign (tag ++ part))
 no_sign [] part t b = tag_some t
@@ -152,7 +155,7 @@ part_ends Void part e = inr (64 ∷ 86 ∷ 79 ∷ 73 ∷ 68 ∷ 64 ∷ [], e)
 part_ends (Pointer name) part e = inr (64 ∷ (name ++ (64 ∷ [])), e)
 part_ends (Text text) part e = inr (doubled text, e)
 
-line_tag : (line : LineParts) (piece : List ℕ) (t : LineText line piece) → IsTagCut (line.tag ++ t.value_part) line.tag t.value_part
+line_tag : (line : LineParts) (piece : List ℕ) (t : LineInParts line piece) → IsTagCut (line.tag ++ t.value_part) line.tag t.value_part
 line_tag line piece t = ((line_is line t.is_line).tag, part_ends line.value t.value_part t.value, refl)
 
 tag_cut_same : (rest tag part other back : List ℕ) → IsTagCut rest tag part → IsTagCut rest other back → (tag ≡ other) × (part ≡ back)
@@ -247,7 +250,7 @@ no_value_fault Void part more v e f p b = p (codes "VOID", inr refl, let z : mor
 no_value_fault (Pointer name) part more v e f p b = p (name, inl v, let z : more ≡ name ++ (64 ∷ []) = cc in ap (λ x. 64 ∷ x) z)
 no_value_fault (Text text) part more v e f p b = b (doubled_sign text more (let z : doubled text ≡ 64 ∷ more = cc in z))
 
-bad_value_not_line : (line : LineParts) (piece : List ℕ) → LineText line piece → ¬ (StandsAt BadValue piece)
+bad_value_not_line : (line : LineParts) (piece : List ℕ) → LineInParts line piece → ¬ (StandsAt BadValue piece)
 bad_value_not_line line piece t (tag, more, from, passes, p, b) =
     let bytes : List ℕ = xref_part line.xref ++ (line.tag ++ t.value_part) in
     let back : tag ++ (32 ∷ 64 ∷ more) ≡ line.tag ++ t.value_part =
@@ -272,17 +275,15 @@ same_parts : (a b : LineParts) → a.level ≡ b.level → a.xref ≡ b.xref →
 same_parts a b e f g h =
     ap (λ l. parts l a.xref a.tag a.value) e ∙ ap (λ x. parts b.level x a.tag a.value) f ∙ ap (λ t. parts b.level b.xref t a.value) g ∙ ap (λ v. parts b.level b.xref b.tag v) h
 
--- no fault stands at a line
-pub no_fault : (line : LineParts) (piece : List ℕ) → LineText line piece → (fault : LineFault) → ¬ (StandsAt fault piece)
-no_fault line piece t fault h = elim (dec_lt (line_fault_number fault) 8) [
+parts_no_fault : (line : LineParts) (piece : List ℕ) → LineInParts line piece → (fault : LineFault) → ¬ (StandsAt fault piece)
+parts_no_fault line piece t fault h = elim (dec_lt (line_fault_number fault) 8) [
   | yes lt ↦ no_tag_fault piece line.level (xref_part line.xref ++ (line.tag ++ t.value_part)) line.xref (line.tag ++ t.value_part) line.tag t.value_part
       (line_leveled line piece t) (line_cut line.xref line.tag t.value_part (line_is line t.is_line).xref (line_is line t.is_line).tag) (line_tag line piece t) fault lt h
   | no ge ↦ bad_value_not_line line piece t (last_fault fault ge piece h)
 ]
 
--- a piece has one line
-pub one_line : (line other : LineParts) (piece : List ℕ) → LineText line piece → LineText other piece → line ≡ other
-one_line line other piece t u =
+parts_one_line : (line other : LineParts) (piece : List ℕ) → LineInParts line piece → LineInParts other piece → line ≡ other
+parts_one_line line other piece t u =
     let level = same_after piece line.level (xref_part line.xref ++ (line.tag ++ t.value_part)) (decimal other.level) (xref_part other.xref ++ (other.tag ++ u.value_part))
     (line_leveled line piece t) (Leveled-after piece other.level (xref_part other.xref ++ (other.tag ++ u.value_part)) (line_leveled other piece u)) in
     let a = (line_is line t.is_line).level in
@@ -294,6 +295,17 @@ one_line line other piece t u =
     let tags = tag_cut_same (line.tag ++ t.value_part) line.tag t.value_part other.tag u.value_part (line_tag line piece t) ((line_is other u.is_line).tag, part_ends other.value u.value_part u.value, cut.1) in
     let values : line.value ≡ other.value = value_same line.value other.value t.value_part (line_is line t.is_line).value (line_is other u.is_line).value t.value (subst (λ x. IsValuePart other.value x) (sym tags.1) u.value) in
     same_parts line other levels cut.0 tags.0 values
+
+pub line_plain : (line : LineParts) (piece : List ℕ) → LineText line piece → IsPlain piece
+line_plain line piece t = parts_plain line piece (in_parts line piece t)
+
+-- no fault stands at a line
+pub no_fault : (line : LineParts) (piece : List ℕ) → LineText line piece → (fault : LineFault) → ¬ (StandsAt fault piece)
+no_fault line piece t = parts_no_fault line piece (in_parts line piece t)
+
+-- a piece has one line
+pub one_line : (line other : LineParts) (piece : List ℕ) → LineText line piece → LineText other piece → line ≡ other
+one_line line other piece t u = parts_one_line line other piece (in_parts line piece t) (in_parts other piece u)
 
 pub only_line : (result : Result LineParts LineFault) (piece : List ℕ) → MatchResult result (λ line. LineText line piece) (λ fault. IsFaultOf fault piece)
     → (line : LineParts) → LineText line piece → IsOkAnd result (λ found. found ≡ line)

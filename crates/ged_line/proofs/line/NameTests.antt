@@ -3,7 +3,8 @@ use Rattle.std.proofs.Common.{◌≡◌, ◌≢◌, ℕ, Bool, true, false, ◌&
 use Rattle.std.proofs.lemmas.Bool.Decides.{nat_tests}
 use Rattle.std.specs.List.{AllByRecursion, list_all}
 use Rattle.std.specs.Str.{bytes_eq}
-use Rattle.ged_line.specs.Characters.{is_tag_character, is_capital}
+use Rattle.ged_line.specs.Characters.{is_tag_character}
+use Rattle.std.specs.Char.{is_ascii_uppercase}
 use Rattle.ged_line.specs.Names.{is_tag, is_standard_tag, is_extension_tag, is_xref}
 
 pub bool_cases : (b : Bool) → (b ≡ true) ⊎ (b ≡ false)
@@ -37,7 +38,7 @@ each_all p (x ∷ xs) h = and_true (p x) (list_all p xs) h.0 (each_all p xs h.1)
 abbrev pub AreTagCharacters : List ℕ → Type 0
 AreTagCharacters xs = AllByRecursion (λ c. is_tag_character c ≡ true) xs
 
-pub capital_is_tag_character : (c : ℕ) → is_capital c ≡ true → is_tag_character c ≡ true
+pub capital_is_tag_character : (c : ℕ) → is_ascii_uppercase c ≡ true → is_tag_character c ≡ true
 capital_is_tag_character c h = grind (arith, nat_tests)
 
 underscore_is_tag_character : (c : ℕ) → (c == 0x5F) ≡ true → is_tag_character c ≡ true
@@ -46,7 +47,7 @@ underscore_is_tag_character c h = grind (arith, nat_tests)
 pub tag_each : (tag : List ℕ) → is_tag tag ≡ true → AreTagCharacters tag
 tag_each [] h = cc
 tag_each (c ∷ cs) h = elim (or_cases (is_standard_tag (c ∷ cs)) (is_extension_tag (c ∷ cs)) h) [
-  | inl s ↦ (capital_is_tag_character c (and_left (is_capital c) (list_all is_tag_character cs) s), all_each is_tag_character cs (and_right (is_capital c) (list_all is_tag_character cs) s))
+  | inl s ↦ (capital_is_tag_character c (and_left (is_ascii_uppercase c) (list_all is_tag_character cs) s), all_each is_tag_character cs (and_right (is_ascii_uppercase c) (list_all is_tag_character cs) s))
   | inr x ↦
       let front : ((c == 0x5F) && not (length cs == 0)) ≡ true = and_left ((c == 0x5F) && not (length cs == 0)) (list_all is_tag_character cs) x in
       (underscore_is_tag_character c (and_left (c == 0x5F) (not (length cs == 0)) front), all_each is_tag_character cs (and_right ((c == 0x5F) && not (length cs == 0)) (list_all is_tag_character cs) x))

@@ -8,9 +8,11 @@ use Rattle.std.proofs.Math.Numerals.{one-add, add-one}
 use Rattle.std.specs.List.{list_all}
 use Rattle.std.specs.Str.{IsUtf8, IsCharBoundary, NoCharPasses}
 use Rattle.std.specs.Result.{MatchResult}
-use Rattle.ged_line.specs.Characters.{is_capital, is_tag_character, is_banned}
+use Rattle.ged_line.specs.Characters.{is_tag_character, is_banned}
+use Rattle.std.specs.Char.{is_ascii_uppercase}
 use Rattle.ged_line.specs.Names.{is_tag}
-use Rattle.ged_line.specs.Lines.{Empty, Text, is_value, IsValuePart}
+use Rattle.ged_line.specs.Lines.{Empty, Text, is_value}
+use Rattle.ged_line.specs.inner.LineTexts.{IsValuePart}
 use Rattle.ged_line.specs.Views.{viewed_value}
 use Rattle.ged_line.specs.Faults.{word, IsPointer, BeginsWith}
 use Rattle.ged_line.specs.declared.line.view.ValueView.{ValueView}
@@ -95,7 +97,7 @@ word_is_tag text tag rest value c (inr e) = ap word (c.spelled ∙ ap (λ r. tag
 
 -- a text that begins with four capital letters
 abbrev pub CapitalFront : List ℕ → Type 0
-CapitalFront text = (at : ℕ) → at < 4 → is_capital (get_or text at 0) ≡ true
+CapitalFront text = (at : ℕ) → at < 4 → is_ascii_uppercase (get_or text at 0) ≡ true
 
 pub capital_boundary : (text : List ℕ) → IsUtf8 text → 4 ≤ length text → CapitalFront text → IsCharBoundary text 4
 capital_boundary text u l f = front_boundary text 4 u l (λ at lt. capital_is_tag_character (get_or text at 0) (f at lt))
@@ -106,7 +108,7 @@ capitals_are_tag (a ∷ []) l f = absurd (omega arith)
 capitals_are_tag (a ∷ b ∷ []) l f = absurd (omega arith)
 capitals_are_tag (a ∷ b ∷ c ∷ []) l f = absurd (omega arith)
 capitals_are_tag (a ∷ b ∷ c ∷ d ∷ rest) l f =
-    let first : is_capital a ≡ true = f 0 (omega arith) in
+    let first : is_ascii_uppercase a ≡ true = f 0 (omega arith) in
     let second : is_tag_character b ≡ true = capital_is_tag_character b (f 1 (omega arith)) in
     let third : is_tag_character c ≡ true = capital_is_tag_character c (f 2 (omega arith)) in
     let fourth : is_tag_character d ≡ true = capital_is_tag_character d (f 3 (omega arith)) in

@@ -10,10 +10,14 @@ use Rattle.std.specs.Option.{MatchOption, option_map}
 use Rattle.std.specs.Str.{is_utf8}
 use Rattle.std.proofs.lemmas.Str.{is_utf8-from_IsUtf8, IsUtf8-from_is_utf8}
 use Rattle.ged_line.specs.Bytes.{at_sign}
-use Rattle.ged_line.specs.Characters.{is_tag_character, is_digit, is_banned, has_banned}
+use Rattle.ged_line.specs.Characters.{is_tag_character, is_banned, has_banned}
+use Rattle.std.specs.Char.{is_ascii_digit}
 use Rattle.ged_line.specs.Names.{is_tag}
-use Rattle.ged_line.specs.Lines.{Value, Empty, is_value, may_be_xref, is_line, IsValuePart, LineText, xref_part}
+use Rattle.ged_line.specs.Lines.{Value, Empty, is_value, may_be_xref, is_line, xref_part}
+use Rattle.ged_line.specs.inner.LineTexts.{IsValuePart}
+use Rattle.ged_line.specs.Spelling.{LineText}
 use Rattle.ged_line.specs.Faults.{StandsAt, IsFaultOf, line_fault_number, AfterLevel, AfterXref, BeginsWith, FromTag, IsPointer, word, number_after}
+use Rattle.ged_line.proofs.line.LineTexts.{from_parts}
 use Rattle.ged_line.proofs.line.NameTests.{bool_cases, and_true, tag_each, xref_each}
 use Rattle.ged_line.proofs.bytes.Banned.{NoCharPasses-banned}
 use Rattle.ged_line.specs.declared.fault.LineFault.{LineFault}
@@ -175,7 +179,7 @@ AreAscii xs = AllByRecursion (λ b. b < 128) xs
 tag_character_ascii : (c : ℕ) → is_tag_character c ≡ true → c < 128
 tag_character_ascii c h = grind (arith, nat_tests)
 
-digit_ascii : (c : ℕ) → is_digit c ≡ true → c < 128
+digit_ascii : (c : ℕ) → is_ascii_digit c ≡ true → c < 128
 digit_ascii c h = grind (arith, nat_tests)
 
 pub NoCharPasses-suffix : (p : ℕ → Bool) (front back : List ℕ) → AreAscii front → NoCharPasses p (front ++ back) → NoCharPasses p back
@@ -246,19 +250,19 @@ pub found_line : (piece : List ℕ) (level : ℕ) (bytes : List ℕ) (xref : Opt
     → (is_value value ≡ true) × IsValuePart value (32 ∷ more) × (more ≡ [] → value ≡ Empty)
     → LineText (record { level = level; xref = xref; tag = tag; value = value }) piece
 found_line piece level bytes xref rest tag more value s x (t, inl e) v =
-    record {
+    from_parts _ piece (record {
       is_line = cut_is_line piece level bytes xref rest tag value s x t v.0;
       value_part = [];
       value = subst (λ w. IsValuePart w []) (sym (v.2 e.1)) (inl refl);
       spelled = s.spelled ∙ ap (λ b. decimal level ++ (32 ∷ b)) (xref_spelled bytes xref rest x ∙ ap (λ r. xref_part xref ++ r) (e.0 ∙ sym (append-nil tag)));
-    }
+    })
 found_line piece level bytes xref rest tag more value s x (t, inr e) v =
-    record {
+    from_parts _ piece (record {
       is_line = cut_is_line piece level bytes xref rest tag value s x t v.0;
       value_part = 32 ∷ more;
       value = v.1;
       spelled = s.spelled ∙ ap (λ b. decimal level ++ (32 ∷ b)) (xref_spelled bytes xref rest x ∙ ap (λ r. xref_part xref ++ r) e);
-    }
+    })
 
 fault_from_one : (other : LineFault) → line_fault_number other < 1 → ⊥
 fault_from_one NotUtf8 lt = omega arith

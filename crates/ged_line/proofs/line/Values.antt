@@ -4,8 +4,8 @@ use Rattle.std.proofs.lemmas.Bool.Decides.{nat_tests}
 use Rattle.std.specs.Str.{NoCharPasses, IsUtf8}
 use Rattle.ged_line.specs.Bytes.{space, at_sign}
 use Rattle.ged_line.specs.Characters.{is_banned, is_plain}
-use Rattle.ged_line.specs.Lines.{Empty, Text, is_value, IsValuePart}
-use Rattle.ged_line.specs.inner.LineTexts.{is_line_text}
+use Rattle.ged_line.specs.Lines.{Empty, Text, is_value}
+use Rattle.ged_line.specs.inner.LineTexts.{IsValuePart, is_line_text}
 use Rattle.ged_line.specs.Faults.{BeginsWith}
 use Rattle.ged_line.proofs.line.NameTests.{and_true}
 use Rattle.ged_line.proofs.bytes.Banned.{is_plain-from}

@@ -1,12 +1,12 @@
 // The canonical spelling of a file's lines, straight from its bytes.
 ghost use Rattle.std.specs.Prelude.{◌≡◌, ◌-◌, ◌++◌, ◌∷◌, [], List, length, take, IsTrue, OnOk, IfOk, IfErr};
 ghost use Rattle.ged_line.specs.Bytes.{Bytes, line_feed};
-ghost use Rattle.ged_line.specs.Lines.{LineParts, LineText};
+ghost use Rattle.ged_line.specs.Lines.{LineParts};
+ghost use Rattle.ged_line.specs.Spelling.{LineText, spelling, spelled_lines};
 ghost use Rattle.ged_line.specs.Files.{SpellLines, IsRespelling, joined};
 ghost use Rattle.ged_line.specs.Reading.{TellsRespell};
 ghost use Rattle.ged_line.specs.inner.Reading.{TellsRespellIn, IsRespelledBehind};
 ghost use Rattle.ged_line.specs.inner.Respelling.{EndsWith, IsSpelledOn, text_before};
-ghost use Rattle.ged_line.specs.Spelling.{spelling, spelled_lines};
 
 use crate::bytes::blocks::split_block;
 use crate::bytes::cut::{Cut, cut_line};

@@ -5,7 +5,8 @@ ghost use Rattle.std.specs.Bool.{OnTrue};
 ghost use Rattle.std.specs.Int.{bit_at};
 ghost use Rattle.std.specs.List.{list_all};
 ghost use Rattle.std.specs.Str.{bytes_eq};
-ghost use Rattle.ged_line.specs.Characters.{is_capital, is_tag_character as tests_tag_character};
+ghost use Rattle.ged_line.specs.Characters.{is_tag_character as tests_tag_character};
+ghost use Rattle.std.specs.Char.{is_ascii_uppercase};
 ghost use Rattle.ged_line.specs.Names.{is_tag as tests_tag, is_xref as tests_xref, tag_order as order_of_tags};
 
 use std::cmp::Ordering;
@@ -47,7 +48,7 @@ fn is_tag_character(byte: u8) -> bool
 // cheaper than a mask of the four.
 #[inline(always)]
 pub(crate) fn begins_with_capitals(bytes: &[u8]) -> bool
-    ensures { OnTrue result ((4 ≤ length bytes.now) × ((at : ℕ) → at < 4 → is_capital (slice_index bytes.now at) ≡ true)) }
+    ensures { OnTrue result ((4 ≤ length bytes.now) × ((at : ℕ) → at < 4 → is_ascii_uppercase (slice_index bytes.now at) ≡ true)) }
 {
     match bytes {
         [first, second, third, fourth, ..] => {

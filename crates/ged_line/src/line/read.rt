@@ -3,9 +3,12 @@ ghost use Rattle.std.specs.Prelude.{◌≡◌, ◌≤◌, ◌<◌, ◌++◌, ◌
 ghost use Rattle.ged_line.specs.Bytes.{Bytes, space, at_sign};
 ghost use Rattle.std.specs.List.{list_all};
 ghost use Rattle.std.specs.Str.{NoCharPasses};
-ghost use Rattle.ged_line.specs.Characters.{is_banned, is_digit, has_banned as tests_banned};
+ghost use Rattle.ged_line.specs.Characters.{is_banned, has_banned as tests_banned};
+ghost use Rattle.std.specs.Char.{is_ascii_digit};
 ghost use Rattle.ged_line.specs.Names.{is_tag as tests_tag, is_xref as tests_xref};
-ghost use Rattle.ged_line.specs.Lines.{LineParts, LineText, IsValuePart, is_value, Empty};
+ghost use Rattle.ged_line.specs.Lines.{LineParts, is_value, Empty};
+ghost use Rattle.ged_line.specs.inner.LineTexts.{IsValuePart};
+ghost use Rattle.ged_line.specs.Spelling.{LineText};
 ghost use Rattle.ged_line.specs.Views.{viewed_value};
 ghost use Rattle.ged_line.specs.Reading.{TellsSpelled};
 ghost use Rattle.ged_line.specs.Faults.{StandsAt, IsFaultOf, number_after, AfterXref, BeginsWith, word, IsPointer, is_level as tests_level};
@@ -19,7 +22,7 @@ use crate::line::names::{
 use crate::line::view::{LineView, ValueView};
 
 fn are_digits(bytes: &[u8]) -> bool
-    ensures { result ≡ list_all is_digit bytes.now }
+    ensures { result ≡ list_all is_ascii_digit bytes.now }
 {
     bytes.iter().all(|byte| byte.is_ascii_digit())
 }

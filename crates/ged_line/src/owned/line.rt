@@ -1,7 +1,8 @@
 // A line that owns its parts.
 ghost use Rattle.std.specs.Prelude.{◌≡◌, ◌≤◌, true, false, IfOk, IfErr, MatchOption, option_map};
 ghost use Rattle.std.specs.Option.{option_copied};
-ghost use Rattle.ged_line.specs.Lines.{LineText, line_parts, is_line, may_be_xref, is_value as tests_value};
+ghost use Rattle.ged_line.specs.Lines.{line_parts, is_line, may_be_xref, is_value as tests_value};
+ghost use Rattle.ged_line.specs.Spelling.{LineText};
 ghost use Rattle.ged_line.specs.Views.{viewed_value, held_value};
 ghost use Rattle.ged_line.specs.Reading.{TellsParse};
 

@@ -8,8 +8,8 @@ use Rattle.ged_line.specs.Files.{FileText}
 use Rattle.ged_line.specs.Spelling.{file_of}
 use Rattle.ged_line.proofs.CallerLemmas.{written_is_read}
 use Rattle.ged_tree.specs.Trees.{Trees}
-use Rattle.ged_tree.specs.Documents.{is_document}
-use Rattle.ged_tree.specs.DocumentLines.{document_lines, HasLines}
+use Rattle.ged_tree.specs.Documents.{is_document, HasLines}
+use Rattle.ged_tree.specs.DocumentLines.{document_lines}
 use Rattle.ged_tree.specs.Building.{HasFile}
 use Rattle.ged_tree.proofs.CallerLemmas.{are_lines}
 use Rattle.ged_schema.specs.declared.profile.Profile.{Profile}
@@ -35,7 +35,7 @@ pub has_file : (d : Trees) (bytes : Bytes) → is_document d ≡ true → CanonT
 has_file d bytes allowed spelled =
     let has : HasLines d (document_lines d) = record { allowed = allowed; told = refl } in
     let text = written_is_read (document_lines d) (each_line (document_lines d) (are_lines d (document_lines d) has).0) in
-    (document_lines d, subst (FileText (document_lines d)) (sym spelled) text, has)
+    (allowed, subst (FileText (document_lines d)) (sym spelled) text)
 
 -- steps keep what a profile asks
 pub checked_on : (profile : Profile) (edition : Edition) (d e : Trees) → Equivalent edition d e → CheckedAs profile d → CheckedAs profile e

@@ -1,7 +1,8 @@
 -- A file has one document or one fault.
-use Rattle.std.proofs.Common.{◌≡◌, ℕ, true, ap, sym, ◌∙◌, inl, inr}
+use Rattle.std.proofs.Common.{◌≡◌, ℕ, true, ap, sym, ◌∙◌, inl, inr, refl}
 use Rattle.ged_line.specs.Bytes.{Bytes}
 use Rattle.ged_line.proofs.CallerLemmas.{one_reading}
+use Rattle.ged_tree.specs.DocumentLines.{document_lines}
 use Rattle.ged_tree.specs.Trees.{Trees}
 use Rattle.ged_tree.specs.Documents.{is_document}
 use Rattle.ged_tree.specs.Building.{HasFile}
@@ -18,12 +19,12 @@ use Rattle.ged_tool.specs.Laws.{OneAccepted, AcceptedIsFaultless, OneFileFault}
 
 -- a file has one document
 pub one_of_file : (file : Bytes) (d e : Trees) → HasFile d file → HasFile e file → d ≡ e
-one_of_file file d e (lines, text, has) (others, other_text, other_has) =
-    let same = one_reading file lines others text other_text in
-    none_shared d e others (rw same at has) other_has
+one_of_file file d e (allowed, text) (other_allowed, other_text) =
+    let same = one_reading file (document_lines d) (document_lines e) text other_text in
+    none_shared d e (document_lines d) (record { allowed = allowed; told = refl }) (record { allowed = other_allowed; told = same })
 
 pub of_document : (file : Bytes) (d : Trees) → HasFile d file → is_document d ≡ true
-of_document file d (lines, text, has) = has.allowed
+of_document file d has = has.0
 
 -- resolved cross-references have no fault
 resolved_faultless : (d : Trees) (line : ℕ) (kind : FileFault) → is_document d ≡ true → Resolved d → XrefFaultAt d line kind → ⊥

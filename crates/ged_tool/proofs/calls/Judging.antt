@@ -1,7 +1,8 @@
 -- The whole lines of a file that is fed piece by piece, judged as they come.
 use Rattle.std.proofs.Common.{◌≡◌, ◌≢◌, ℕ, ◌+◌, ◌≤◌, List, [], ◌∷◌, ◌++◌, inr, length, Some, None, refl, sym, ◌∙◌, ap, subst, arith, append_assoc, append-nil, length-append}
 use Rattle.ged_line.specs.Bytes.{Bytes}
-use Rattle.ged_line.specs.Lines.{LineParts, LineText}
+use Rattle.ged_line.specs.Lines.{LineParts}
+use Rattle.ged_line.specs.Spelling.{LineText}
 use Rattle.ged_line.specs.Faults.{IsFaultOf}
 use Rattle.ged_line.specs.Pieces.{ArePiecesOf}
 use Rattle.ged_line.specs.Files.{AreTexts}

@@ -21,7 +21,7 @@ link_fault profile file d read (Memory error) h = absurd h
 
 pub accepted_or_faulty : (profile : Profile) (file : Bytes) → HasDocumentOrFault file → IsAcceptedOrFaulty profile file
 accepted_or_faulty profile file (inr (line, fault, first)) = inr (line, file_fault_of_tree fault, inl (fault, first, refl))
-accepted_or_faulty profile file (inl (d, read)) = elim (resolved_or_fault d read.2.allowed) [
+accepted_or_faulty profile file (inl (d, read)) = elim (resolved_or_fault d read.0) [
   | inr (fault, h) ↦ link_fault profile file d read fault h
   | inl resolved ↦ elim (checked_or_fault profile d) [
     | inl checked ↦ inl (d, record { read = read; resolved = resolved; checked = checked })

@@ -5,6 +5,7 @@ use Rattle.ged_line.specs.Bytes.{Bytes}
 use Rattle.ged_line.specs.Lines.{LineParts, is_line}
 use Rattle.ged_line.specs.Files.{SpellLines, FileText, IsRespelling}
 use Rattle.ged_line.proofs.CallerLemmas.{one_reading, written_is_read}
+use Rattle.ged_tree.specs.DocumentLines.{document_lines}
 use Rattle.ged_tree.specs.Trees.{Trees}
 use Rattle.ged_tree.specs.Building.{HasFile}
 use Rattle.ged_tree.specs.FileFaults.{FirstFaultIn}
@@ -23,9 +24,8 @@ text_of file text (lines, (bytes, m, s), e) = subst (FileText lines) (sym e) (wr
 
 -- two files that spell the same lines have the same document
 has_other : (file text : Bytes) (lines : List LineParts) (d : Trees) → FileText lines file → FileText lines text → HasFile d file → HasFile d text
-has_other file text lines d own other (read, t, has) =
-    let same = one_reading file lines read own t in
-    (read, subst (λ (ls : List LineParts). FileText ls text) same other, has)
+has_other file text lines d own other (allowed, t) =
+    (allowed, subst (λ (ls : List LineParts). FileText ls text) (one_reading file lines (document_lines d) own t) other)
 
 fault_other : (file text : Bytes) (lines : List LineParts) (line : ℕ) (fault : TreeFault) → FileText lines file → FileText lines text → FirstFaultIn file line fault → FirstFaultIn text line fault
 fault_other file text lines line fault own other first =

@@ -7,7 +7,7 @@ use Rattle.ged_line.specs.Lines.{LineParts, is_line}
 use Rattle.ged_line.specs.Pieces.{IsEnd, IsBehindMark, AreCutInto, ArePiecesOf}
 use Rattle.ged_line.specs.Files.{AreTexts, FileText}
 use Rattle.ged_tree.specs.Trees.{Trees}
-use Rattle.ged_tree.specs.DocumentLines.{HasLines}
+use Rattle.ged_tree.specs.Documents.{HasLines}
 use Rattle.ged_tree.specs.TreeFaults.{Pass, has_trailer}
 use Rattle.ged_tree.proofs.theory.OneDocument.{made}
 use Rattle.ged_line.proofs.CallerLemmas.{texts_of_file}

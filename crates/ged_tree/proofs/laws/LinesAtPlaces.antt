@@ -1,13 +1,13 @@
 -- The lines on which structures begin.
-use Rattle.std.proofs.Common.{◌≡◌, ℕ, suc, ◌+◌, ◌-◌, ◌<◌, ◌≤◌, List, [], ◌∷◌, ◌++◌, Some, length, slice_get, ◌∙◌, ap, refl, arith, inl, inr, length-append, append_assoc}
+use Rattle.std.proofs.Common.{◌≡◌, ℕ, suc, ◌+◌, ◌-◌, ◌<◌, ◌≤◌, List, [], ◌∷◌, ◌++◌, Some, length, slice_get, ◌∙◌, ap, refl, arith, inl, inr, append_assoc}
 use Rattle.std.proofs.lemmas.Bool.{cases_lt}
-use Rattle.ged_line.specs.Bytes.{Bytes}
 use Rattle.ged_line.specs.Lines.{LineParts}
-use Rattle.ged_tree.specs.Trees.{Structure, Trees, none, tree, trees_count, line_count, lines_count, further_lines}
+use Rattle.ged_tree.specs.Trees.{Structure, Trees, none, tree, trees_count, line_count, lines_count}
 use Rattle.ged_tree.specs.Places.{structure_at, level_at, line_at}
-use Rattle.ged_tree.specs.DocumentLines.{continued, structure_lines, lines_of, document_lines}
+use Rattle.ged_tree.specs.DocumentLines.{structure_lines, lines_of, document_lines}
 use Rattle.ged_tree.specs.inner.Trailers.{trailer_line}
 use Rattle.ged_tree.specs.Laws.{own_line}
+use Rattle.ged_tree.proofs.theory.LineCounts.{length-structure_lines, length_lines}
 use Rattle.ged_tree.proofs.theory.Places.{from_first, from_below, from_next}
 use Rattle.ged_tree.proofs.theory.Walks.{level_first, level_below, level_next, line_first, line_below, line_next}
 
@@ -74,21 +74,6 @@ line_from i (tree s b n) p =
       ]
     ]
 
-length-continued : (l : ℕ) (lines : List Bytes) → length (continued l lines) ≡ length lines
-length-continued l [] = refl
-length-continued l (line ∷ lines) = ap suc (length-continued l lines)
-
-length-structure_lines : (l : ℕ) (s : Structure) → length (structure_lines l s) ≡ line_count s.payload
-length-structure_lines l s = omega (arith, length-continued (l + 1) (further_lines s.payload))
-
-length-lines_of : (l : ℕ) (w : Trees) → length (lines_of l w) ≡ lines_count w
-length-lines_of l none = refl
-length-lines_of l (tree s b n) =
-    omega (arith, length-append (structure_lines l s ++ lines_of (l + 1) b) (lines_of l n), length-append (structure_lines l s) (lines_of (l + 1) b), length-structure_lines l s, length-lines_of (l + 1) b, length-lines_of l n)
-
-pub counted : (w : Trees) → length (document_lines w) ≡ lines_count w + 1
-counted w = omega (arith, length-append (lines_of 0 w) (trailer_line ∷ []), length-lines_of 0 w)
-
 get_past : {A : Type 0} (xs ys : List A) (k : ℕ) → slice_get (xs ++ ys) (length xs + k) ≡ slice_get ys k
 get_past [] ys k = ap (slice_get ys) (let e : 0 + k ≡ k = omega arith in e)
 get_past (x ∷ xs) ys k = let e : length (x ∷ xs) + k ≡ suc (length xs + k) = omega arith in rw e (get_past xs ys k)
@@ -116,7 +101,7 @@ line_stands l i (tree s b n) p zs h =
       | inl later ↦ elim (cases_lt (trees_count b) p) [
         | inl past ↦
             (let q = p - 1 - trees_count b in
-            let m : line_at k n q - i ≡ length own + (length below + (line_at k n q - k)) = omega (arith, line_from k n q, length-structure_lines l s, length-lines_of (l + 1) b) in
+            let m : line_at k n q - i ≡ length own + (length below + (line_at k n q - k)) = omega (arith, line_from k n q, length-structure_lines l s, length_lines (l + 1) b) in
             rw (line_next i s b n p past, level_next l s b n p past, from_next s b n p past, lines_split l s b n zs, m, get_past own (below ++ after) (length below + (line_at k n q - k)), get_past below after (line_at k n q - k))
             (line_stands l k n q zs (omega arith)))
         | inr within ↦

@@ -1,5 +1,5 @@
 -- What a document has as its lines are lines.
-use Rattle.std.proofs.Common.{◌≡◌, ℕ, ◌+◌, ◌<◌, ◌^◌, true, ◌==◌, not, List, [], ◌∷◌, ◌++◌, length, Option, Some, None, refl, sym, subst, arith, length-append, codes}
+use Rattle.std.proofs.Common.{◌≡◌, ℕ, ◌+◌, ◌<◌, ◌^◌, true, ◌==◌, not, List, [], ◌∷◌, ◌++◌, length, Option, Some, None, refl, sym, subst, arith, codes}
 use Rattle.std.specs.Prelude.{nat_lt, nat_le}
 use Rattle.std.specs.List.{list_all}
 use Rattle.std.proofs.lemmas.Bool.{true≢false, le-leb, ltb-true, and_parts, and_from}
@@ -8,13 +8,13 @@ use Rattle.ged_line.specs.Bytes.{Bytes}
 use Rattle.ged_line.specs.Characters.{is_plain}
 use Rattle.ged_line.specs.Names.{is_tag, is_xref}
 use Rattle.ged_line.specs.Lines.{LineParts, line_parts, is_line, is_value, may_be_xref, Value}
-use Rattle.ged_tree.specs.Trees.{Trees, none, tree, further_lines, lines_count}
-use Rattle.ged_tree.specs.Documents.{is_payload_at, is_xref_at, are_at, is_document}
+use Rattle.ged_tree.specs.Trees.{Trees, none, tree, further_lines}
+use Rattle.ged_tree.specs.Documents.{is_payload_at, are_at, is_document, HasLines}
+use Rattle.ged_tree.specs.inner.DocumentParts.{is_xref_at, continued}
 use Rattle.ged_tree.specs.declared.owned.payload.Payload.{Payload}
 use Rattle.ged_tree.specs.declared.owned.payload.Payload.TheVariants.{Void, Pointer, Text}
-use Rattle.ged_tree.specs.DocumentLines.{line_value, first_value, continued, structure_lines, lines_of, document_lines, HasLines}
+use Rattle.ged_tree.specs.DocumentLines.{line_value, first_value, structure_lines, lines_of, document_lines}
 use Rattle.ged_tree.specs.inner.Trailers.{trailer_line}
-use Rattle.ged_tree.proofs.theory.Grown.{length_lines}
 use Rattle.ged_tree.proofs.theory.LinesAgain.{tree_is, document_is}
 
 text_shown : (text : Bytes) → is_plain text ≡ true → is_value (line_value text) ≡ true
@@ -76,8 +76,8 @@ document_shown none h = absurd (true≢false (sym h))
 document_shown (tree s b n) h =
     let d = document_is s b n h in
     let w = tree s b n in
-    let few = ltb-true (lines_count w + 1) (2 ^ 63) d.few in
-    (all_append (lines_of 0 w) (trailer_line ∷ []) (trees_shown 0 w d.placed) refl, omega (arith, few, length_lines 0 w, length-append (lines_of 0 w) (trailer_line ∷ [])))
+    let few = ltb-true (length (document_lines w)) (2 ^ 63) d.few in
+    (all_append (lines_of 0 w) (trailer_line ∷ []) (trees_shown 0 w d.placed) refl, few)
 
 pub shown : (w : Trees) (lines : List LineParts) → HasLines w lines → (list_all is_line lines ≡ true) × (length lines < 2 ^ 63)
 shown w lines h = subst (λ (ls : List LineParts). (list_all is_line ls ≡ true) × (length ls < 2 ^ 63)) (sym h.told) (document_shown w h.allowed)

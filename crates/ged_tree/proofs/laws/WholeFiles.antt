@@ -11,7 +11,7 @@ use Rattle.ged_tree.specs.declared.fault.TreeFault.{TreeFault}
 use Rattle.ged_tree.specs.declared.fault.TreeFault.TheVariants.{Line}
 use Rattle.ged_tree.proofs.laws.FileLines.{file_lines}
 use Rattle.ged_tree.proofs.theory.FirstFaults.{either}
-use Rattle.ged_tree.proofs.theory.Building.{file_fault}
+use Rattle.ged_tree.proofs.theory.Building.{file_fault, file_of_lines}
 
 -- a first fault stands at one of the lines
 abbrev HasFaultAmong : List LineParts → Type 0
@@ -36,7 +36,7 @@ of_lines file lines t small =
     let f = file_lines lines file t in
     let count = f.1 in
     elim (either lines f.0 (omega (arith, count, small))) [
-      | inl one ↦ inl (one.0, (lines, t, one.1))
+      | inl one ↦ inl (one.0, file_of_lines one.0 lines file t one.1)
       | inr (line, fault, first) ↦ inr (line, fault, (file_fault file lines None t line fault).1 first)
     ]
 

@@ -9,7 +9,8 @@ use Rattle.ged_line.specs.Lines.{may_be_xref}
 use Rattle.ged_line.specs.Names.{is_tag, is_xref}
 use Rattle.std.specs.Prelude.{is_none}
 use Rattle.ged_tree.specs.Trees.{Structure, Trees, none, tree, Tree, trees_of, structure_of}
-use Rattle.ged_tree.specs.Documents.{are_at, is_xref_at, is_payload_at, is_document}
+use Rattle.ged_tree.specs.Documents.{are_at, is_payload_at, is_document}
+use Rattle.ged_tree.specs.inner.DocumentParts.{is_xref_at}
 use Rattle.ged_tree.specs.Records.{record_trees, document_trees}
 use Rattle.ged_tree.specs.declared.owned.node.RecordNode.{RecordNode}
 use Rattle.ged_tree.specs.Places.{structure_at}

@@ -9,9 +9,10 @@ use Rattle.ged_line.specs.Characters.{is_plain}
 use Rattle.ged_line.specs.Lines.{is_value, may_be_xref}
 use Rattle.ged_line.specs.Names.{is_tag, is_xref}
 use Rattle.ged_tree.proofs.theory.LineParts.{and_left, and_right, and_true}
-use Rattle.ged_tree.specs.Trees.{Structure, Trees, none, tree, further_lines, lines_count}
-use Rattle.ged_tree.specs.Documents.{is_document, is_structure_at, is_head, are_records, is_xref_at, is_payload_at, are_at}
-use Rattle.ged_tree.specs.DocumentLines.{first_value, line_value}
+use Rattle.ged_tree.specs.Trees.{Structure, Trees, none, tree, further_lines}
+use Rattle.ged_tree.specs.Documents.{is_document, is_structure_at, are_records, is_payload_at, are_at}
+use Rattle.ged_tree.specs.inner.DocumentParts.{is_head, is_xref_at}
+use Rattle.ged_tree.specs.DocumentLines.{first_value, line_value, document_lines}
 use Rattle.ged_tree.specs.inner.Walks.{are_levels, HasLinesAt, HaveLinesAt}
 use Rattle.ged_tree.specs.declared.owned.payload.Payload.{Payload}
 use Rattle.ged_tree.specs.declared.owned.payload.Payload.TheVariants.{Void, Pointer, Text}
@@ -53,7 +54,7 @@ levels_of l (tree s b n) h =
 pub at_of_document : (w : Trees) → is_document w ≡ true → are_at 0 w ≡ true
 at_of_document none h = absurd cc
 at_of_document (tree s b n) h =
-    let few : Bool = nat_lt (lines_count (tree s b n) + 1) (2 ^ 63) in
+    let few : Bool = nat_lt (length (document_lines (tree s b n))) (2 ^ 63) in
     and_left (are_at 0 (tree s b n)) few (and_right (is_head s && are_records n) (are_at 0 (tree s b n) && few) h)
 
 pub levels_of_document : (w : Trees) → is_document w ≡ true → are_levels 0 w ≡ true

@@ -6,8 +6,9 @@ use Rattle.std.proofs.lemmas.List.{length-map, get_or_default, length-take, leng
 use Rattle.std.proofs.lemmas.Option.{slice_get-get_or, slice_get-map}
 use Rattle.std.proofs.Math.Nat.{min-le_left, min-le_right}
 use Rattle.ged_line.specs.Bytes.{Bytes}
-use Rattle.ged_line.specs.Lines.{LineParts, LineText, xref_part, is_value, Value, Empty, Void, Pointer, Text}
-use Rattle.ged_line.specs.Spelling.{value_part}
+use Rattle.ged_line.specs.Lines.{LineParts, xref_part, is_value, Value, Empty, Void, Pointer, Text}
+use Rattle.ged_line.specs.Spelling.{LineText, value_part}
+use Rattle.ged_line.proofs.CallerLemmas.{in_parts}
 use Rattle.ged_tree.proofs.theory.LineParts.{line_is, bool_cases}
 use Rattle.std.proofs.lemmas.Bool.Decides.{nat_tests}
 use Rattle.std.specs.Prelude.{nat_lt, nat_le}
@@ -206,7 +207,8 @@ module _ (structures : List Shown) (further : List Further) (flat : IsListed str
 
 -- a line has a text
 some_text : (line : LineParts) (text : Bytes) → LineText line text → ¬ (text ≡ [])
-some_text line text t e =
+some_text line text whole e =
+    let t = in_parts line text whole in
     let size = ap (λ (bs : Bytes). length bs) (sym e ∙ t.spelled) in
     omega (arith, size, length-append (decimal line.level) (32 ∷ (xref_part line.xref ++ (line.tag ++ t.value_part))))
 

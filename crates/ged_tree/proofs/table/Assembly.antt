@@ -8,7 +8,8 @@ use Rattle.ged_line.specs.Bytes.{Bytes}
 use Rattle.ged_line.specs.Lines.{LineParts, line_parts}
 use Rattle.ged_tree.specs.Trees.{Structure, Trees, none, tree, trees_count, further_lines, line_count, lines_count}
 use Rattle.ged_tree.specs.Documents.{is_document, are_at}
-use Rattle.ged_tree.specs.DocumentLines.{line_value, first_value, continued, lines_of}
+use Rattle.ged_tree.specs.DocumentLines.{line_value, first_value, lines_of}
+use Rattle.ged_tree.specs.inner.DocumentParts.{continued}
 use Rattle.ged_tree.specs.Rows.{Row, rows_of, rows_from, further_before, places_of, texts_of, trees_of_rows, flat_rows, flat_trees, IsListed, IsSpelled, Further, Shown, deeper, levels_of}
 use Rattle.ged_tree.specs.inner.Tables.{OwnLine, own_line, own_lines, begins_cont, further_places, further_texts, line_text}
 use Rattle.ged_tree.specs.Spelled.{payload_from}

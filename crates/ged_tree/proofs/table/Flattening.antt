@@ -4,7 +4,8 @@ use Rattle.std.specs.Str.{IsUtf8, IsCharBoundary}
 use Rattle.std.proofs.lemmas.List.{take_at, drop_at}
 use Rattle.std.proofs.lemmas.Str.{IsCharBoundary-at_seam, IsCharBoundary-from_take, IsCharBoundary-from_rest}
 use Rattle.ged_line.specs.Bytes.{Bytes}
-use Rattle.ged_line.specs.Lines.{LineParts, LineText}
+use Rattle.ged_line.specs.Lines.{LineParts}
+use Rattle.ged_line.specs.Spelling.{LineText}
 use Rattle.ged_line.specs.Faults.{IsFaultOf}
 use Rattle.ged_line.specs.Pieces.{AreCutInto, ArePiecesOf, IsEnd, IsBehindMark, IsFirstPiece, pieces_of}
 use Rattle.ged_tree.proofs.theory.LineParts.{plain_is_utf8}

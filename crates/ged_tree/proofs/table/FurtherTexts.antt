@@ -6,7 +6,10 @@ use Rattle.std.proofs.lemmas.Bool.{cases_lt}
 use Rattle.std.proofs.lemmas.List.{drop-drop, drop-take, drop_at, get_or-drop, get_or-take}
 use Rattle.std.proofs.lemmas.Str.{IsCharBoundary-at_seam}
 use Rattle.ged_line.specs.Bytes.{Bytes}
-use Rattle.ged_line.specs.Lines.{LineParts, LineText, IsValuePart, xref_part, Value, Empty, Void, Pointer, Text}
+use Rattle.ged_line.specs.Lines.{LineParts, xref_part, Value, Empty, Void, Pointer, Text}
+use Rattle.ged_line.specs.inner.LineTexts.{IsValuePart}
+use Rattle.ged_line.specs.Spelling.{LineText}
+use Rattle.ged_line.proofs.CallerLemmas.{in_parts}
 use Rattle.ged_tree.specs.inner.Tables.{line_text, IsSliceAt}
 use Rattle.ged_tree.proofs.theory.LineParts.{bool_cases}
 
@@ -21,7 +24,8 @@ value_ends (Text (c ∷ cs)) part e = elim (bool_cases (c == 64)) [
 ]
 
 pub text_ends : (line : LineParts) (bytes : Bytes) → LineText line bytes → (front : Bytes) × (bytes ≡ front ++ line_text line.value)
-text_ends line bytes t =
+text_ends line bytes whole =
+    let t = in_parts line bytes whole in
     let last = value_ends line.value t.value_part t.value in
     let front = last.0 in
     let text = line_text line.value in

@@ -9,9 +9,11 @@ use Rattle.std.proofs.lemmas.Bool.Decides.{nat_tests}
 use Rattle.ged_line.specs.Bytes.{Bytes}
 use Rattle.ged_line.specs.Faults.{word}
 use Rattle.ged_line.specs.Names.{is_tag, is_xref}
-use Rattle.ged_line.specs.Lines.{LineParts, line_parts, LineText, IsValuePart, is_value, may_be_xref, xref_part, Value, Empty, Void, Pointer, Text}
+use Rattle.ged_line.specs.Lines.{LineParts, line_parts, is_value, may_be_xref, xref_part, Value, Empty, Void, Pointer, Text}
+use Rattle.ged_line.specs.inner.LineTexts.{IsValuePart}
+use Rattle.ged_line.specs.Spelling.{LineText}
 use Rattle.ged_tree.proofs.theory.LineParts.{AreTagCharacters, tag_character_not_at, tag_some, xref_apart, bool_cases, line_is}
-use Rattle.ged_line.proofs.CallerLemmas.{tag_each, xref_each, part_ends, word_tag}
+use Rattle.ged_line.proofs.CallerLemmas.{tag_each, xref_each, part_ends, word_tag, in_parts}
 use Rattle.ged_tree.specs.Spelled.{before_sign, shown_xref, from_tag, shown_pointer, shown_value, shown_rest, shown_line}
 
 no_sign : (c : ℕ) → c ≢ 64 → (c == 64) ≡ false
@@ -79,7 +81,8 @@ rest_shown level xref tag part v x t i p =
 
 -- a line's text shows the line
 pub line_is_shown : (line : LineParts) (text : Bytes) → LineText line text → shown_line line.level text ≡ line
-line_is_shown line text t =
+line_is_shown line text whole =
+    let t = in_parts line text whole in
     let is = line_is line t.is_line in
     let rest = xref_part line.xref ++ (line.tag ++ t.value_part) in
     let behind : drop (length (decimal line.level) + 1) text ≡ rest = ap (λ (xs : Bytes). drop (length (decimal line.level) + 1) xs) t.spelled ∙ drop-append-add (decimal line.level) (32 ∷ rest) 1 in

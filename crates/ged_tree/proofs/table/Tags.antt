@@ -8,10 +8,11 @@ use Rattle.std.proofs.lemmas.Str.{IsCharBoundary-end, IsCharBoundary-before_asci
 use Rattle.std.specs.Str.{IsCharBoundary}
 use Rattle.ged_line.specs.Bytes.{Bytes}
 use Rattle.ged_line.specs.Characters.{is_tag_character}
-use Rattle.ged_line.specs.Lines.{LineParts, LineText, IsValuePart, may_be_xref, xref_part, is_value, Value, Empty, Void, Pointer, Text}
-use Rattle.ged_line.specs.Spelling.{value_part}
+use Rattle.ged_line.specs.Lines.{LineParts, may_be_xref, xref_part, is_value, Value, Empty, Void, Pointer, Text}
+use Rattle.ged_line.specs.inner.LineTexts.{IsValuePart, LineInParts}
+use Rattle.ged_line.specs.Spelling.{LineText, value_part}
 use Rattle.ged_tree.proofs.theory.LineParts.{line_is, AreTagCharacters, bool_cases}
-use Rattle.ged_line.proofs.CallerLemmas.{part_ends, tag_each, xref_each}
+use Rattle.ged_line.proofs.CallerLemmas.{part_ends, tag_each, xref_each, in_parts}
 use Rattle.ged_tree.specs.Spelled.{shown_value}
 use Rattle.ged_tree.proofs.table.SpelledTexts.{value_shown}
 
@@ -110,8 +111,11 @@ part_spelled (Pointer name) part e other = e
 part_spelled (Text text) part e other = e
 
 -- a line's text, whose tag begins at a place and has a length
-module _ (line : LineParts) (text : Bytes) (t : LineText line text) (start size : ℕ)
+module _ (line : LineParts) (text : Bytes) (spelled : LineText line text) (start size : ℕ)
     (at : start ≡ length (decimal line.level) + 1 + length (xref_part line.xref)) (long : size ≡ length line.tag) where
+  abbrev t : LineInParts line text
+  t = in_parts line text spelled
+
   abbrev front : Bytes
   front = decimal line.level ++ (32 ∷ xref_part line.xref)
 

@@ -8,7 +8,8 @@ use Rattle.std.proofs.lemmas.List.{length-map, append_cancel_right}
 use Rattle.std.proofs.lemmas.List.Elements.{filter-append}
 use Rattle.ged_line.specs.Lines.{LineParts, is_line}
 use Rattle.ged_tree.specs.Trees.{Trees}
-use Rattle.ged_tree.specs.DocumentLines.{lines_of, HasLines}
+use Rattle.ged_tree.specs.DocumentLines.{lines_of}
+use Rattle.ged_tree.specs.Documents.{HasLines}
 use Rattle.ged_tree.specs.inner.Trailers.{trailer_line}
 use Rattle.ged_tree.specs.TreeFaults.{is_cont, is_trailer, is_empty, has_trailer, fault_after, Pass, more, FirstFault, no_lines, past_last}
 use Rattle.ged_tree.specs.Judging.{StandsFor}

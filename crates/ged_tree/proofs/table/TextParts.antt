@@ -4,7 +4,8 @@ use Rattle.std.proofs.lemmas.Bool.{true≢false}
 use Rattle.std.proofs.lemmas.Bool.Decides.{nat_tests}
 use Rattle.std.specs.Str.{IsCharBoundary, bytes_eq}
 use Rattle.ged_line.specs.Bytes.{Bytes}
-use Rattle.ged_line.specs.Lines.{IsValuePart, is_value, Value, Empty, Void, Pointer, Text}
+use Rattle.ged_line.specs.Lines.{is_value, Value, Empty, Void, Pointer, Text}
+use Rattle.ged_line.specs.inner.LineTexts.{IsValuePart}
 use Rattle.ged_line.proofs.CallerLemmas.{part_ends, xref_each}
 use Rattle.ged_tree.proofs.theory.LineParts.{bool_cases}
 use Rattle.ged_tree.specs.Spelled.{shown_value, shown_pointer}

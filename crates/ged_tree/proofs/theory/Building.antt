@@ -2,7 +2,8 @@
 use Rattle.std.proofs.Common.{◌≡◌, ℕ, ◌+◌, ◌<◌, ◌≤◌, List, [], ◌∷◌, ◌++◌, length, drop, cond, ◌==◌, Option, Some, None, inl, inr, refl, sym, subst, ◌∙◌, ap, arith, length-append, append_assoc, append-nil}
 use Rattle.std.proofs.lemmas.Bool.{cases_lt}
 use Rattle.ged_line.specs.Bytes.{Bytes}
-use Rattle.ged_line.specs.Lines.{LineParts, LineText}
+use Rattle.ged_line.specs.Lines.{LineParts}
+use Rattle.ged_line.specs.Spelling.{LineText}
 use Rattle.ged_line.specs.Faults.{IsFaultOf, line_fault_number}
 use Rattle.ged_line.specs.declared.fault.LineFault.TheVariants.{NotUtf8, BannedCharacter, EmptyLine, BadLevel, LevelTooLarge, BadXref, BadTag, BadValue}
 use Rattle.ged_line.specs.Pieces.{ArePiecesOf}
@@ -11,7 +12,8 @@ use Rattle.ged_line.specs.declared.fault.LineAt.{LineAt}
 use Rattle.ged_line.specs.declared.fault.LineFault.{LineFault}
 use Rattle.ged_line.proofs.CallerLemmas.{one_line, no_fault, one_cut, one_reading, no_stop, texts_of_file}
 use Rattle.ged_tree.proofs.theory.ReadLines.{AreTexts-more, length-AreTexts}
-use Rattle.ged_tree.specs.DocumentLines.{HasLines}
+use Rattle.ged_tree.specs.Documents.{HasLines}
+use Rattle.ged_tree.specs.DocumentLines.{document_lines}
 use Rattle.ged_tree.specs.TreeFaults.{Pass, start, FirstFault, no_lines, past_last}
 use Rattle.ged_tree.specs.TreeFaults.{at_line as at_line_of}
 use Rattle.ged_tree.specs.Trees.{Trees}
@@ -186,8 +188,15 @@ line_told file _ _ _ before after cut texts (at_line_of front behind line fault 
 line_told file _ _ _ before after cut texts no_lines h = absurd (omega (arith, h))
 line_told file _ _ _ before after cut texts (past_last lines p n t) h = absurd (omega (arith, h))
 
+-- a file that has a document spells its lines, and one that spells a document's lines has it
+pub lines_of_file : (document : Trees) (file : Bytes) → HasFile document file → (lines : List LineParts) × FileText lines file × HasLines document lines
+lines_of_file document file has = (document_lines document, has.1, record { allowed = has.0; told = refl })
+
+pub file_of_lines : (document : Trees) (lines : List LineParts) (file : Bytes) → FileText lines file → HasLines document lines → HasFile document file
+file_of_lines document lines file text has = (has.allowed, subst (λ (ls : List LineParts). FileText ls file) has.told text)
+
 pub none_of_file : FaultyFileHasNone
-none_of_file file line fault f document (all, text, has) = go file line fault (told_of file line fault f) all text has
+none_of_file file line fault f document has = let own = lines_of_file document file has in go file line fault (told_of file line fault f) own.0 own.1 own.2
   where
     go : (file : Bytes) (line : ℕ) (fault : TreeFault) → IsFileFault file line fault → (all : List LineParts) → FileText all file → HasLines document all → ⊥
     go _ _ _ (at_line file front line fault (before, after, cut, texts) f h) all text has =
@@ -254,7 +263,7 @@ module _ (lines : List LineParts) (file : Bytes) (text : FileText lines file) wh
   written_fault at f = (file_fault file lines None text at.line at.fault).0 f
 
   pub written_has : (document : Trees) → HasFile document file → HasLines document lines
-  written_has document (others, own, has) = subst (λ (ls : List LineParts). HasLines document ls) (one_reading file others lines own text) has
+  written_has document has = let own = lines_of_file document file has in subst (λ (ls : List LineParts). HasLines document ls) (one_reading file own.0 lines own.1 text) own.2
 
   pub written_stop : (document : Trees) (stop : LineAt) (n : ℕ) (f : TreeFault) → HasFile document file → n ≡ stop.line → f ≡ Line stop.fault → IsBuildFault lines (Some stop) n f
   written_stop document stop n f has e g = inr ((passes document lines (written_has document has)).0, e, g)

@@ -12,7 +12,8 @@ use Rattle.ged_line.specs.Lines as value
 use Rattle.ged_tree.proofs.theory.LineParts.{line_is}
 use Rattle.ged_tree.specs.Trees.{Structure, Trees, none, tree, further_lines}
 use Rattle.ged_tree.specs.Spelled.{payload_from}
-use Rattle.ged_tree.specs.DocumentLines.{line_value, first_value, continued, lines_of}
+use Rattle.ged_tree.specs.DocumentLines.{line_value, first_value, lines_of}
+use Rattle.ged_tree.specs.inner.DocumentParts.{continued}
 use Rattle.ged_tree.specs.TreeFaults.{is_cont, is_header, is_trailer, is_reference, line_before, jumps, has_forbidden_xref, continues, is_misplaced_cont, is_below_cont, fault_after, Pass, start, more}
 
 -- none of the faults that the line before decides stands at a line

@@ -1,5 +1,5 @@
 -- Lines without a fault make a document.
-use Rattle.std.proofs.Common.{◌≡◌, ℕ, ◌+◌, ◌<◌, ◌≤◌, ◌^◌, Bool, true, false, ◌||◌, ◌&&◌, ◌==◌, not, List, [], ◌∷◌, ◌++◌, ◌⊎◌, length, Option, Some, None, refl, sym, ap, arith, inl, inr, length-append, codes}
+use Rattle.std.proofs.Common.{◌≡◌, ℕ, ◌+◌, ◌<◌, ◌≤◌, ◌^◌, Bool, true, false, ◌||◌, ◌&&◌, ◌==◌, not, List, [], ◌∷◌, ◌⊎◌, length, Option, Some, None, refl, sym, ap, arith, inl, inr, length-append, codes}
 use Rattle.std.specs.Prelude.{nat_lt, nat_le, is_some, is_none}
 use Rattle.std.specs.List.{list_any, list_all}
 use Rattle.std.specs.Str.{bytes_eq}
@@ -12,10 +12,11 @@ use Rattle.ged_line.specs.Lines.{LineParts, is_line, may_be_xref, Value, is_valu
 use Rattle.ged_line.specs.Lines as value
 use Rattle.ged_line.proofs.CallerLemmas.{nothing_plain}
 use Rattle.ged_tree.proofs.theory.LineParts.{line_is}
-use Rattle.ged_tree.specs.Trees.{Trees, none, tree, further_lines, lines_count}
-use Rattle.ged_tree.specs.Documents.{is_payload_at, is_xref_at, is_structure_at, are_at, is_record_tag, are_records, is_head, is_document}
+use Rattle.ged_tree.specs.Documents.{is_payload_at, is_structure_at, are_at, are_records, is_document}
+use Rattle.ged_tree.specs.inner.DocumentParts.{is_xref_at, is_record_tag, is_head}
 use Rattle.ged_tree.specs.declared.owned.payload.Payload.TheVariants.{Text}
-use Rattle.ged_tree.specs.DocumentLines.{continued, structure_lines, lines_of}
+use Rattle.ged_tree.specs.DocumentLines.{lines_of, document_lines}
+use Rattle.ged_tree.specs.inner.Trailers.{trailer_line}
 use Rattle.ged_tree.specs.TreeFaults.{is_cont, is_header, is_trailer, has_trailer, has_forbidden_xref}
 use Rattle.ged_tree.specs.Spelled.{payload_from}
 use Rattle.ged_tree.proofs.theory.Growing.{Chain, forest, forest_cont, forest_here, forest_below, forest_above, text_of, further_of, structure_from, continued_by, none_is, header_own, inner, whole}
@@ -127,22 +128,6 @@ records_grown before (line ∷ rest) c t =
       ]
     ]
 
-length_continued : (level : ℕ) (texts : List Bytes) → length (continued level texts) ≡ length texts
-length_continued level [] = refl
-length_continued level (text ∷ texts) = rw (length_continued level texts) refl
-
-pub length_lines : (k : ℕ) (w : Trees) → length (lines_of k w) ≡ lines_count w
-length_lines k none = refl
-length_lines k (tree s b n) =
-    omega (
-      arith,
-      length_lines (k + 1) b,
-      length_lines k n,
-      length_continued (k + 1) (further_lines s.payload),
-      length-append (structure_lines k s ++ lines_of (k + 1) b) (lines_of k n),
-      length-append (structure_lines k s) (lines_of (k + 1) b),
-    )
-
 unnamed_head : (line : LineParts) → is_header line ≡ true → has_forbidden_xref line ≡ false → line.xref ≡ None
 unnamed_head line h e = none_is line.xref (at (is_some line.xref) (nat_lt 0 line.level) (is_header line) (is_trailer line) h e)
   where
@@ -163,7 +148,7 @@ document_grown line rest c a t small =
     let e = forest_here 0 line rest h.1 h.0 in
     let placed : are_at 0 (forest 0 (line ∷ rest)) ≡ true = at_grown None (line ∷ rest) 0 c a in
     let lined : length (line ∷ rest) ≡ length (lines_of 0 (forest 0 (line ∷ rest))) = ap (λ (ls : List LineParts). length ls) (whole (line ∷ rest) c a) in
-    let counted = length_lines 0 (forest 0 (line ∷ rest)) in
-    let few : nat_lt (lines_count (forest 0 (line ∷ rest)) + 1) (2 ^ 63) ≡ true = lt-ltb _ _ (omega (arith, lined, counted, small)) in
+    let all = length-append (lines_of 0 (forest 0 (line ∷ rest))) (trailer_line ∷ []) in
+    let few : nat_lt (length (document_lines (forest 0 (line ∷ rest)))) (2 ^ 63) ≡ true = lt-ltb _ _ (omega (arith, lined, all, small)) in
     let top : (is_head (structure_from line rest) && are_records (forest 0 rest)) ≡ true = and_from _ _ (and_from _ _ tagged unnamed) (records_grown line rest c.1 u.1) in
     rw e (and_from _ _ top (and_from _ _ (rw e at placed) (rw e at few)))

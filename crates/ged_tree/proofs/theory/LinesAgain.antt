@@ -1,16 +1,17 @@
 -- The trees of a document's lines are the document's.
 use Rattle.std.proofs.Common.{◌≡◌, ℕ, ◌+◌, ◌^◌, ◌<◌, Bool, true, false, ◌&&◌, not, List, [], ◌∷◌, ◌++◌, refl, sym, ◌∙◌, ap, arith, append_assoc, append-nil, codes}
-use Rattle.std.specs.Prelude.{nat_lt, nat_le, is_none}
+use Rattle.std.specs.Prelude.{nat_lt, nat_le, is_none, length}
 use Rattle.std.specs.Str.{bytes_eq}
 use Rattle.std.proofs.lemmas.Bool.{true≢false, not-true, leb-true, le-leb, and_parts, and_from}
 use Rattle.ged_line.specs.Bytes.{Bytes}
 use Rattle.ged_line.specs.Names.{is_tag}
 use Rattle.ged_line.specs.Lines.{LineParts, line_parts}
-use Rattle.ged_tree.specs.Trees.{Structure, Trees, none, tree, further_lines, lines_count}
-use Rattle.ged_tree.specs.Documents.{is_payload_at, is_xref_at, is_structure_at, are_at, are_records, is_head, is_document}
+use Rattle.ged_tree.specs.Trees.{Structure, Trees, none, tree, further_lines}
+use Rattle.ged_tree.specs.Documents.{is_payload_at, is_structure_at, are_at, are_records, is_document}
+use Rattle.ged_tree.specs.inner.DocumentParts.{is_xref_at, is_head, continued}
 use Rattle.ged_tree.specs.declared.owned.payload.Payload.{Payload}
 use Rattle.ged_tree.specs.declared.owned.payload.Payload.TheVariants.{Void, Pointer, Text}
-use Rattle.ged_tree.specs.DocumentLines.{line_value, first_value, continued, structure_lines, lines_of}
+use Rattle.ged_tree.specs.DocumentLines.{line_value, first_value, structure_lines, lines_of, document_lines}
 use Rattle.ged_tree.specs.TreeFaults.{is_cont}
 use Rattle.ged_tree.specs.Spelled.{payload_from}
 use Rattle.ged_tree.proofs.theory.Growing.{forest, forest_here, forest_below, forest_above, further_of, text_of}
@@ -53,14 +54,14 @@ pub record DocumentIs (s : Structure) (below next : Trees) : Type 0 where
   pub unnamed : is_none s.xref ≡ true
   pub records : are_records next ≡ true
   pub placed : are_at 0 (tree s below next) ≡ true
-  pub few : nat_lt (lines_count (tree s below next) + 1) (2 ^ 63) ≡ true
+  pub few : nat_lt (length (document_lines (tree s below next))) (2 ^ 63) ≡ true
 
 pub document_is : (s : Structure) (below next : Trees) → is_document (tree s below next) ≡ true → DocumentIs s below next
 document_is s below next h =
-    let a = and_parts (is_head s && are_records next) (are_at 0 (tree s below next) && nat_lt (lines_count (tree s below next) + 1) (2 ^ 63)) h in
+    let a = and_parts (is_head s && are_records next) (are_at 0 (tree s below next) && nat_lt (length (document_lines (tree s below next))) (2 ^ 63)) h in
     let b = and_parts (is_head s) (are_records next) a.0 in
     let c = and_parts (bytes_eq s.tag (codes "HEAD")) (is_none s.xref) b.0 in
-    let d = and_parts (are_at 0 (tree s below next)) (nat_lt (lines_count (tree s below next) + 1) (2 ^ 63)) a.1 in
+    let d = and_parts (are_at 0 (tree s below next)) (nat_lt (length (document_lines (tree s below next))) (2 ^ 63)) a.1 in
     record { header = c.0; unnamed = c.1; records = b.1; placed = d.0; few = d.1 }
 
 -- what follows trees of a level: nothing, or a line of at most that level that is no CONT

@@ -10,8 +10,8 @@ use Rattle.std.proofs.lemmas.Bool.Decides.{nat_tests}
 use Rattle.ged_line.specs.Lines.{LineParts, is_line, Value}
 use Rattle.ged_line.specs.Lines as value
 use Rattle.ged_tree.specs.Trees.{Trees}
-use Rattle.ged_tree.specs.Documents.{is_document}
-use Rattle.ged_tree.specs.DocumentLines.{lines_of, HasLines}
+use Rattle.ged_tree.specs.Documents.{is_document, HasLines}
+use Rattle.ged_tree.specs.DocumentLines.{lines_of}
 use Rattle.ged_tree.specs.inner.Trailers.{trailer_line}
 use Rattle.ged_tree.specs.TreeFaults.{is_header, is_trailer, is_empty, has_trailer, line_before, has_forbidden_xref, fault_after, Pass, start, more}
 use Rattle.ged_tree.specs.TreeLaws.{PassIsDocument}

@@ -1,7 +1,8 @@
 -- What is read so far of a file, and what is left of it.
 use Rattle.std.proofs.Common.{◌≡◌, ℕ, ◌+◌, List, [], ◌∷◌, ◌++◌, length, refl, sym, ◌∙◌, ap, subst, arith, append_assoc, append-nil}
 use Rattle.ged_line.specs.Bytes.{Bytes}
-use Rattle.ged_line.specs.Lines.{LineParts, LineText}
+use Rattle.ged_line.specs.Lines.{LineParts}
+use Rattle.ged_line.specs.Spelling.{LineText}
 use Rattle.ged_line.specs.Faults.{IsFaultOf}
 use Rattle.ged_line.specs.Pieces.{AreCutInto, ArePiecesOf, IsBehindMark}
 use Rattle.ged_line.specs.Files.{FileText, AreTexts, StopsAt}

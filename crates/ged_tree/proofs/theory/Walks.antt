@@ -1,10 +1,13 @@
 -- Looking for the structure at a place, and how many structures and lines a document has.
-use Rattle.std.proofs.Common.{◌≡◌, ℕ, ◌+◌, ◌-◌, ◌<◌, ◌≤◌, arith, true, false, Bool, ◌&&◌, ◌^◌, nat_lt}
+use Rattle.std.proofs.Common.{◌≡◌, ℕ, ◌+◌, ◌-◌, ◌<◌, ◌≤◌, arith, true, false, Bool, ◌&&◌, ◌^◌, nat_lt, length}
 use Rattle.std.proofs.lemmas.Bool.{ltb-true}
 use Rattle.std.proofs.lemmas.Bool.Decides.{nat_tests}
 use Rattle.ged_tree.specs.Trees.{Structure, Trees, none, tree, trees_count, line_count, lines_count}
-use Rattle.ged_tree.specs.Documents.{is_document, is_head, are_records, are_at}
+use Rattle.ged_tree.specs.Documents.{is_document, are_records, are_at}
+use Rattle.ged_tree.specs.inner.DocumentParts.{is_head}
 use Rattle.ged_tree.specs.Places.{level_at, line_at}
+use Rattle.ged_tree.specs.DocumentLines.{document_lines}
+use Rattle.ged_tree.proofs.theory.LineCounts.{counted}
 use Rattle.ged_tree.proofs.theory.Places.{from_first, from_below, from_next}
 
 pub level_first : (l : ℕ) (s : Structure) (b n : Trees) (p : ℕ) → p ≡ 0 → level_at l (tree s b n) p ≡ l
@@ -44,5 +47,6 @@ few_lines false b c k h = absurd cc
 pub few_of_document : (w : Trees) → is_document w ≡ true → (trees_count w < 2 ^ 63) × (lines_count w + 1 < 2 ^ 63)
 few_of_document none h = absurd cc
 few_of_document (tree s b n) h =
-    let few = few_lines (is_head s) (are_records n) (are_at 0 (tree s b n)) (lines_count (tree s b n) + 1) h in
-    (omega (arith, few, count_most (tree s b n)), few)
+    let few = few_lines (is_head s) (are_records n) (are_at 0 (tree s b n)) (length (document_lines (tree s b n))) h in
+    let all = counted (tree s b n) in
+    (omega (arith, few, all, count_most (tree s b n)), omega (arith, few, all))

@@ -1,8 +1,8 @@
 -- Nothing here need be believed: only private contracts and proofs cite it.
 use Rattle.std.specs.Prelude.{◌≡◌, ℕ, ◌+◌, ◌++◌, length, decimal}
 use Rattle.ged_line.specs.Bytes.{Bytes}
-use Rattle.ged_line.specs.Lines.{LineParts, LineText, xref_part}
-use Rattle.ged_line.specs.Spelling.{value_part}
+use Rattle.ged_line.specs.Lines.{LineParts, xref_part}
+use Rattle.ged_line.specs.Spelling.{LineText, value_part}
 use Rattle.ged_tree.specs.declared.table.structure.FlatStructure.{FlatStructure}
 use Rattle.ged_tree.specs.Rows.{Shown, shown_with}
 

@@ -1,7 +1,7 @@
 // The document of lines.
 ghost use Rattle.std.specs.Prelude.{◌≡◌, None, IfOk, IfErr};
 ghost use Rattle.ged_line.specs.Files.{FileText};
-ghost use Rattle.ged_tree.specs.DocumentLines.{HasLines};
+ghost use Rattle.ged_tree.specs.Documents.{HasLines};
 ghost use Rattle.ged_tree.specs.TreeFaults.{FirstFault};
 ghost use Rattle.ged_tree.specs.declared.fault.TreeFault.TheVariants.{Line};
 ghost use Rattle.ged_tree.specs.Building.{TellsBuild, IsBuildFault};

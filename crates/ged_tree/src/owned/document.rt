@@ -1,7 +1,8 @@
 // A document: HEAD and the records.
-ghost use Rattle.std.specs.Prelude.{◌≡◌, ◌+◌, ◌^◌, ◌<◌, IfOk, MatchOption, SomeIff, None, true, false};
+ghost use Rattle.std.specs.Prelude.{◌≡◌, ◌+◌, ◌^◌, ◌<◌, IfOk, MatchOption, SomeIff, None, nat_lt, length, true, false};
 ghost use Rattle.ged_tree.specs.Trees.{tree, trees_count, structure_of, lines_count, head_of, records_of};
 ghost use Rattle.ged_tree.specs.Documents.{is_document, are_at, are_records};
+ghost use Rattle.ged_tree.specs.DocumentLines.{document_lines};
 ghost use Rattle.ged_tree.specs.Records.{record_trees, document_trees};
 ghost use Rattle.ged_tree.specs.inner.Walks.{are_levels, HaveLinesAt};
 
@@ -53,7 +54,7 @@ impl Document {
             && may_stand_at(None, &head, 0)
             && may_stand_below(head.children.as_slice(), 1)
             && may_stand_as_records(records.as_slice())
-            && lines_of_parts(&head, records.as_slice()).is_some();
+            && have_few_lines(&head, records.as_slice());
         if !is_document {
             return None;
         }
@@ -126,6 +127,13 @@ fn may_stand_as_records(records: &[RecordNode]) -> bool
         }
     }
     true
+}
+
+/// Whether the lines, TRLR's included, are few enough for a document.
+fn have_few_lines(head: &Node, records: &[RecordNode]) -> bool
+    ensures { result ≡ nat_lt (length (document_lines (document_trees head.now records.now))) (2 ^ 63) }
+{
+    lines_of_parts(head, records).is_some()
 }
 
 /// How many lines there are, TRLR's included, where they are few enough for a document.

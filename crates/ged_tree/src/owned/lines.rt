@@ -8,7 +8,8 @@ ghost use Rattle.ged_line.specs.Names.{is_tag};
 ghost use Rattle.ged_line.specs.Views.{held_value};
 ghost use Rattle.ged_tree.specs.Trees.{trees_of, structure_of};
 ghost use Rattle.ged_tree.specs.inner.Walks.{HasLinesAt, HaveLinesAt};
-ghost use Rattle.ged_tree.specs.DocumentLines.{line_value, first_value, continued, structure_lines, lines_of, document_lines};
+ghost use Rattle.ged_tree.specs.DocumentLines.{line_value, first_value, structure_lines, lines_of, document_lines};
+ghost use Rattle.ged_tree.specs.inner.DocumentParts.{continued};
 ghost use Rattle.ged_tree.specs.Records.{record_trees};
 
 use crate::owned::document::Document;

@@ -2,7 +2,8 @@
 ghost use Rattle.std.specs.Prelude.{◌≡◌, ◌≤◌, IfOk, SomeIff};
 ghost use Rattle.std.specs.Option.{option_copied};
 ghost use Rattle.ged_tree.specs.Trees.{trees_of, structure_of, lines_count};
-ghost use Rattle.ged_tree.specs.Documents.{is_structure_at, is_xref_at, are_at};
+ghost use Rattle.ged_tree.specs.Documents.{is_structure_at, are_at};
+ghost use Rattle.ged_tree.specs.inner.DocumentParts.{is_xref_at};
 
 use crate::owned::payload::Payload;
 use ged_line::{Tag, Xref};

@@ -1,7 +1,8 @@
 // The table of a document's structures, made line by line.
 ghost use Rattle.std.specs.Prelude.{◌≡◌, ◌<◌, ◌+◌, ◌%◌, ◌^◌, ◌++◌, ◌∷◌, [], List, MatchResult, IfOk, IfSome, None, Some, length, nat_lt};
-ghost use Rattle.ged_line.specs.Lines.{LineParts, LineText};
-ghost use Rattle.ged_tree.specs.DocumentLines.{HasLines};
+ghost use Rattle.ged_line.specs.Lines.{LineParts};
+ghost use Rattle.ged_line.specs.Spelling.{LineText};
+ghost use Rattle.ged_tree.specs.Documents.{HasLines};
 ghost use Rattle.ged_tree.specs.Rows.{names_record};
 ghost use Rattle.ged_tree.specs.inner.Tables.{line_text, HoldsLines, HasStructure, IsPut, IsSliceAt, Shows, TellsEnd, TellsFurther, TellsLine};
 

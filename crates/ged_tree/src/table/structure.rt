@@ -1,6 +1,7 @@
 // A structure of a table with its text at hand, and what its line shows.
 ghost use Rattle.std.specs.Prelude.{◌≡◌, ◌≤◌, ◌<◌, ◌+◌, true, length, decimal, option_map, slice_index};
-ghost use Rattle.ged_line.specs.Lines.{LineParts, Value, IsValuePart, is_value, xref_part};
+ghost use Rattle.ged_line.specs.Lines.{LineParts, Value, is_value, xref_part};
+ghost use Rattle.ged_line.specs.inner.LineTexts.{IsValuePart};
 ghost use Rattle.ged_tree.specs.Rows.{IsSpelled, line_shown};
 ghost use Rattle.ged_tree.specs.inner.Rows.{HasTagAt, rest_of, shown_of};
 ghost use Rattle.ged_tree.specs.Spelled.{shown_value};

@@ -1,6 +1,7 @@
 use Rattle.std.proofs.Common.{◌-◌, ◌↔◌, ◌∷◌}
 use Rattle.ged_tree.specs.Runs.{trees_between, IsRun}
-use Rattle.ged_canon.specs.Normal.{InOrder, tags}
+use Rattle.ged_canon.specs.Normal.{InOrder}
+use Rattle.ged_canon.specs.inner.Orders.{TagsInOrder, tags}
 use denote.Shadow.{shadow}
 use denote.Text.{Utf8}
 use Rattle.ged_canon.proofs.writer.order.are_in_order.Given as goal
@@ -12,7 +13,7 @@ invariant-loop-after g l =
     record {
       run : IsRun trees l.place l.end;
       utf8 : shadow (Utf8 l.before);
-      same : InOrder (l.before ∷ tags (trees_between trees l.place l.end)) ↔ InOrder (tags (trees_between trees l.start l.end));
+      same : TagsInOrder (l.before ∷ tags (trees_between trees l.place l.end)) ↔ InOrder (trees_between trees l.start l.end);
     }
 
 abbrev pub decreases-loop-after : goal.decreases-loop-after

@@ -1,6 +1,6 @@
 use Rattle.std.proofs.Common.{◌≡◌, ◌++◌, ◌+◌, ◌<◌, drop, true, length}
 use Rattle.std.specs.List.{list_all}
-use Rattle.ged_tree.specs.DocumentLines.{continued}
+use Rattle.ged_tree.specs.inner.DocumentParts.{continued}
 use Rattle.ged_line.specs.Characters.{is_plain}
 use Rattle.ged_tree.proofs.owned.lines.push_continued.Given as goal
 

@@ -1,6 +1,7 @@
 use Rattle.std.proofs.Common.{◌≡◌, ◌+◌, ◌%◌, ◌∙◌, ℕ, ap, sym, subst, length, decimal}
 use Rattle.ged_line.specs.Bytes.{Bytes}
-use Rattle.ged_line.specs.Lines.{LineParts, LineText, xref_part}
+use Rattle.ged_line.specs.Lines.{LineParts, xref_part}
+use Rattle.ged_line.specs.Spelling.{LineText}
 use Rattle.ged_tree.specs.Rows.{names_record}
 use Rattle.ged_tree.specs.Spelled.{shown_line}
 use Rattle.ged_tree.proofs.table.SpelledTexts.{line_is_shown}

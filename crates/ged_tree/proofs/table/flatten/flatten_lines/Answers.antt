@@ -1,4 +1,5 @@
 use Rattle.std.proofs.Common.{rules, ◌<◌, ◌^◌, length, arith}
+use Rattle.ged_tree.proofs.theory.Building.{file_of_lines}
 use Rattle.ged_tree.proofs.table.Flattening.{taken_more, count_fits, fault_told, lines_few, read_all, stopped, unended}
 use Rattle.ged_tree.proofs.table.flatten.flatten_lines.Goals as goal
 
@@ -53,7 +54,7 @@ returns-in-Ok-finish-clause-document c =
     let taken = c.loop-line.invariant in
     let small : length c.args.bytes.now < 2 ^ 63 = search rules in
     let few : length taken.lines < 2 ^ 63 = omega (arith, lines_few c.args.bytes.now c.loop-line.table c.loop-line.line-iterator taken, small) in
-    (taken.lines, read_all c.args.bytes.now c.loop-line.table c.loop-line.line-iterator taken c.in-None.ensures.steps.0, c.in-Ok-finish.ensures taken.lines taken.holds few)
+    file_of_lines _ taken.lines c.args.bytes.now (read_all c.args.bytes.now c.loop-line.table c.loop-line.line-iterator taken c.in-None.ensures.steps.0) (c.in-Ok-finish.ensures taken.lines taken.holds few)
 
 pub returns-in-Err-finish-clause-fault : goal.returns-in-Err-finish-clause-fault
 returns-in-Err-finish-clause-fault c =

@@ -1,7 +1,8 @@
 use Rattle.std.proofs.Common.{rules, ◌<◌, ◌^◌, ap, length, arith}
-use Rattle.ged_line.specs.Lines.{LineText}
+use Rattle.ged_line.specs.Spelling.{LineText}
 use Rattle.ged_line.specs.Pieces.{IsFirstPiece, pieces_of}
 use Rattle.ged_line.proofs.CallerLemmas.{first_of_pieces}
+use Rattle.ged_tree.proofs.theory.Building.{file_of_lines}
 use Rattle.ged_tree.proofs.table.Flattening.{taken_in, begun_in, count_fits_in, lines_few_in, slice_of_rest, taken_more_in, fault_told, stopped, read_all, unended}
 use Rattle.ged_tree.proofs.table.flatten.flatten_text.Goals as goal
 
@@ -69,7 +70,7 @@ returns-in-Ok-finish-clause-document c = λ file mark.
     let taken = taken_in c.args.text.now c.loop-line.table c.loop-line.rest.now all file mark in
     let small : length c.args.text.now < 2 ^ 63 = search rules in
     let few : length all.lines < 2 ^ 63 = omega (arith, lines_few_in c.args.text.now c.loop-line.table c.loop-line.rest.now all, small) in
-    (all.lines, read_all file c.loop-line.table (pieces_of c.loop-line.rest.now) taken (ap pieces_of c.in_default.ensures.line), c.in-Ok-finish.ensures all.lines all.holds few)
+    file_of_lines _ all.lines file (read_all file c.loop-line.table (pieces_of c.loop-line.rest.now) taken (ap pieces_of c.in_default.ensures.line)) (c.in-Ok-finish.ensures all.lines all.holds few)
 
 pub returns-in-Err-finish-clause-fault : goal.returns-in-Err-finish-clause-fault
 returns-in-Err-finish-clause-fault c = λ file mark.

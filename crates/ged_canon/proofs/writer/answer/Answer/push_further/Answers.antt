@@ -1,7 +1,7 @@
 use Rattle.std.proofs.Common.{◌<◌, ◌≤◌, ◌+◌, ◌++◌, length, refl, sym, ap, ◌∙◌, append-nil, arith}
 use Rattle.std.proofs.lemmas.List.{take_all}
 use Rattle.ged_line.specs.Spelling.{spelled_lines}
-use Rattle.ged_tree.specs.DocumentLines.{continued}
+use Rattle.ged_tree.specs.inner.DocumentParts.{continued}
 use Rattle.ged_canon.proofs.writer.OwnLines.{cont_line, plain_at, further_more}
 use Rattle.ged_canon.proofs.writer.answer.Answer.push_further.Goals as goal
 

@@ -1,6 +1,6 @@
 use Rattle.std.proofs.Common.{◌≡◌, ◌+◌, ◌++◌, take}
 use Rattle.ged_line.specs.Spelling.{spelled_lines}
-use Rattle.ged_tree.specs.DocumentLines.{continued}
+use Rattle.ged_tree.specs.inner.DocumentParts.{continued}
 use Rattle.ged_canon.proofs.writer.answer.Answer.push_further.Given as goal
 
 -- the CONT lines so far are written

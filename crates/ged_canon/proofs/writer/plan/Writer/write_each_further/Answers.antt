@@ -4,7 +4,7 @@ use Rattle.ged_line.specs.Lines.{is_line, line_parts}
 use Rattle.ged_line.specs.Spelling.{spelled_lines}
 use Rattle.ged_tree.specs.Trees.{further_lines}
 use Rattle.ged_tree.specs.Places.{structure_at}
-use Rattle.ged_tree.specs.DocumentLines.{continued}
+use Rattle.ged_tree.specs.inner.DocumentParts.{continued}
 use Rattle.std.specs.Prelude.{None}
 use Rattle.ged_canon.proofs.writer.OwnLines.{cont_line, plain_at, further_more}
 use Rattle.ged_canon.proofs.writer.plan.Writer.write_each_further.Goals as goal

@@ -2,7 +2,7 @@ use Rattle.std.proofs.Common.{◌≡◌, ◌+◌, ◌++◌, take}
 use Rattle.ged_line.specs.Spelling.{spelled_lines}
 use Rattle.ged_tree.specs.Trees.{further_lines}
 use Rattle.ged_tree.specs.Places.{structure_at}
-use Rattle.ged_tree.specs.DocumentLines.{continued}
+use Rattle.ged_tree.specs.inner.DocumentParts.{continued}
 use Rattle.ged_canon.proofs.writer.plan.Writer.write_each_further.Given as goal
 
 -- the CONT lines so far are written

@@ -1,6 +1,7 @@
 use Rattle.std.proofs.Common.{◌<◌, ◌∙◌, ap, sym, subst, arith}
 use Rattle.ged_line.specs.Bytes.{Bytes}
-use Rattle.ged_line.specs.Lines.{IsValuePart}
+use Rattle.ged_line.specs.inner.LineTexts.{IsValuePart}
+use Rattle.ged_line.proofs.CallerLemmas.{in_parts}
 use Rattle.ged_tree.proofs.theory.LineParts.{line_is}
 use Rattle.ged_tree.specs.Rows.{line_shown, IsSpelled}
 use Rattle.ged_tree.specs.inner.Rows.{shown_of}
@@ -25,7 +26,7 @@ payload_behind_tag-requires c =
     let some : 0 < s.tag_length = omega (arith, told) in
     let kept = (spelled.1 some).0 in
     let cut = (rw told at c.range_from.ensures.value) ∙ part_is (line_shown s) s.text spelled.0 s.tag_start s.tag_length kept.0 kept.1 in
-    ((line_shown s).value, (line_is (line_shown s) spelled.0.is_line).value, subst (λ (bs : Bytes). IsValuePart (line_shown s).value bs) (sym cut) spelled.0.value)
+    ((line_shown s).value, (line_is (line_shown s) spelled.0.is_line).value, subst (λ (bs : Bytes). IsValuePart (line_shown s).value bs) (sym cut) (in_parts (line_shown s) s.text spelled.0).value)
 
 pub returns : goal.returns
 returns c =
