@@ -274,7 +274,6 @@ fn call_canonicalise(
     }
 }
 
-/// Compares a file with itself.
 /// Another spelling of a file: without the end of its last line. A copy of the file would not be judged.
 fn respelt(file: &[u8]) -> &[u8] {
     match file {
@@ -283,6 +282,7 @@ fn respelt(file: &[u8]) -> &[u8] {
     }
 }
 
+/// Compares a file with itself.
 fn call_same(
     alloc: Global,
     settings: Settings,

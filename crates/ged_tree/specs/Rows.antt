@@ -1,4 +1,4 @@
--- The rows of a flat table, one for each structure; only the table's own functions cite this.
+-- The rows of a flat table, one for each structure; only functions of the table and of its further lines cite this.
 use Rattle.std.specs.Prelude.{◌≡◌, ℕ, ◌+◌, ◌-◌, ◌%◌, ◌≤◌, ◌<◌, ◌==◌, slice_index_or, nat_lt, nat_le, if◌then◌else◌, Bool, true, false, List, [], ◌∷◌, ◌++◌, length, map, take, drop, decimal}
 use Rattle.std.specs.List.{AllByRecursion}
 use Rattle.std.specs.List.Sorted.{IsNonDecreasingBy}
