@@ -35,9 +35,10 @@ fn say_structure<F: Forest>(forest: &F, place: usize, answer: &mut Answer)
         answer.say(" xref=");
         answer.say(name);
     }
+    let (tag, payload) = forest.tag_and_payload(place);
     answer.say(" tag=");
-    answer.say(forest.tag(place));
-    say_payload(answer, forest.payload(place));
+    answer.say(tag);
+    say_payload(answer, payload);
     for number in 0..forest.further(place) {
         answer.say(" further=");
         answer.say(forest.further_line(place, number));
