@@ -7,9 +7,8 @@ use Rattle.std.specs.List.{AllByRecursion}
 use Rattle.std.specs.declared.alloc.AllocError.{AllocError}
 use Rattle.ged_line.specs.Bytes.{Bytes}
 use Rattle.ged_line.specs.Characters.{is_banned}
-use Rattle.ged_line.specs.Lines.{LineParts, Value, Empty, Void, Pointer, Text, is_line}
-use Rattle.ged_line.specs.inner.LineTexts.{IsValuePart}
-use Rattle.ged_line.specs.Spelling.{LineText, spelling, value_part, spelled_lines, file_of}
+use Rattle.ged_line.specs.Lines.{LineParts, is_line}
+use Rattle.ged_line.specs.Spelling.{LineText, spelling, spelled_lines, file_of}
 use Rattle.ged_line.specs.Faults.{IsFaultOf}
 use Rattle.ged_line.specs.Pieces.{HasNoEnd, AreCutInto, ArePiecesOf, IsBehindMark, pieces_of}
 use Rattle.ged_line.specs.Files.{SpellLines, FileText, AreTexts, StopsIn, StopsAt}

@@ -1,10 +1,9 @@
 -- The text of a line and its canonical spelling, and the lines respelled so far.
-use Rattle.std.proofs.Common.{◌≡◌, ◌≢◌, ℕ, ◌+◌, ◌-◌, ◌<◌, ◌≤◌, List, [], ◌∷◌, ◌++◌, ◌⊎◌, inl, inr, true, length, take, drop, refl, sym, ◌∙◌, ap, subst, arith, decimal, length-append}
+use Rattle.std.proofs.Common.{◌≡◌, ◌≢◌, ℕ, ◌+◌, ◌-◌, ◌<◌, ◌≤◌, List, [], ◌∷◌, ◌++◌, inl, inr, true, length, take, drop, refl, sym, ◌∙◌, ap, subst, arith, length-append}
 use Rattle.std.proofs.lemmas.List.{append-nil, append_assoc, append_cancel_right}
 use Rattle.ged_line.specs.Bytes.{Bytes}
-use Rattle.ged_line.specs.Lines.{LineParts, Value, Empty, Void, Pointer, Text, xref_part}
-use Rattle.ged_line.specs.inner.LineTexts.{IsValuePart}
-use Rattle.ged_line.specs.Spelling.{LineText, spelling, value_part, spelled_lines}
+use Rattle.ged_line.specs.Lines.{LineParts, Value, Empty, Void, Pointer, Text}
+use Rattle.ged_line.specs.Spelling.{LineText, spelling, spelled_lines}
 use Rattle.ged_line.specs.Views.{viewed_value}
 use Rattle.ged_line.specs.Faults.{IsFaultOf}
 use Rattle.ged_line.specs.Pieces.{AreCutInto, pieces_of}
