@@ -1,6 +1,8 @@
 // On ged_canon.
-ghost use Rattle.std.specs.Prelude.{◌≡◌, IfOk, IfSome};
+ghost use Rattle.std.specs.Prelude.{IfOk, MatchOption};
 ghost use Rattle.ged_tree.specs.Trees.{Trees};
+ghost use Rattle.ged_schema.specs.declared.fault.SchemaAt.{SchemaAt};
+ghost use Rattle.ged_schema.specs.Faults.{IsFirstFault};
 ghost use Rattle.ged_canon.specs.Normal.{IsNormalForm};
 ghost use Rattle.ged_canon.specs.CanonText.{CanonText};
 ghost use Rattle.ged_canon.specs.declared.edition.Edition.TheVariants.{First};
@@ -16,10 +18,12 @@ pub fn canonical_if_checked<F: Forest>(
     alloc: Global,
     forest: &F,
 ) -> Result<Option<Vec<u8>>, LinkFault>
-    ensures { IfOk result (λ made. IfSome made (λ text. (normal : Trees) × IsNormalForm First (F.trees forest.now) normal × CanonText normal text.items)) }
+    ensures { IfOk result (λ made. MatchOption made
+        ((at : SchemaAt) × IsFirstFault (F.trees forest.now) at)
+        (λ text. (normal : Trees) × IsNormalForm First (F.trees forest.now) normal × CanonText normal text.items)) }
 {
     let index = resolve(alloc, forest)?;
-    if check(forest, &index).is_err() {
+    if let Err(_) = check(forest, &index) {
         return Ok(None);
     }
     match canonical_bytes(alloc, forest, &index) {
