@@ -90,6 +90,9 @@ impl Judge {
         if self.is_plain(line) {
             return None;
         }
+        if self.goes_on(line) {
+            return None;
+        }
         self.any_fault(line)
     }
 
@@ -110,6 +113,20 @@ impl Judge {
                     && !is_cont(line)
             }
         }
+    }
+
+    // Whether the line is a CONT of a text that stands where the payload of the line before goes on, as nearly all CONT do: then it
+    // has no fault.
+    #[inline(always)]
+    fn goes_on(&self, line: &LineView<'_>) -> bool
+        ensures { (lines : List LineParts) → StandsFor self.now lines → OnTrue result (fault_after lines line.now ≡ None) }
+    {
+        is_cont(line)
+            && line.level() > 0
+            && self.continues(line)
+            && !is_reference(line)
+            && !self.has_ended
+            && line.xref().is_none()
     }
 
     // The same for any line.
