@@ -282,7 +282,7 @@ fn respelt(file: &[u8]) -> &[u8] {
     }
 }
 
-/// Compares a file with itself.
+/// Compares a file with another spelling of itself.
 fn call_same(
     alloc: Global,
     settings: Settings,
@@ -338,7 +338,7 @@ fn call_run(
     say_run(answer, outcome, room.get(..length).unwrap_or(b""));
 }
 
-/// Compares a file with itself by a run.
+/// Compares a file with another spelling of itself by a run.
 fn call_run_same(
     alloc: Global,
     settings: Settings,
