@@ -1,16 +1,19 @@
 -- Nothing here need be believed: only private contracts and proofs cite it.
 -- The structures of a document as the canonical form spells them, and what it is to write them; only private functions cite this.
-use Rattle.std.specs.Prelude.{◌≡◌, ℕ, ◌+◌, ◌<◌, ◌++◌, true, List, Option, option_map, Result, OnOk}
+use Rattle.std.specs.Prelude.{◌≡◌, ℕ, ◌+◌, ◌<◌, ◌≤◌, ◌++◌, true, List, length, Option, option_map, Result, OnOk}
 use Rattle.std.specs.Option.{option_copied}
+use Rattle.std.specs.List.{list_all}
 use denote.Ref.{Bor}
 use Rattle.ged_line.specs.Bytes.{Bytes}
+use Rattle.ged_line.specs.Characters.{is_plain}
 use Rattle.ged_line.specs.Lines.{LineParts}
 use Rattle.ged_line.specs.Spelling.{spelled_lines}
-use Rattle.ged_tree.specs.Trees.{Structure, Trees}
+use Rattle.ged_tree.specs.Trees.{Structure, Trees, trees_count, further_lines}
 use Rattle.ged_tree.specs.Documents.{is_document, are_at}
 use Rattle.ged_tree.specs.DocumentLines.{structure_lines, lines_of}
 use Rattle.ged_tree.specs.Places.{structure_at, below_at}
 use Rattle.ged_tree.specs.Runs.{IsRun, trees_between}
+use Rattle.ged_tree.specs.inner.DocumentParts.{continued}
 use Rattle.ged_tree.specs.inner.Walks.{HasLinesAt}
 use Rattle.ged_schema.specs.declared.context.Context.{Context}
 use Rattle.ged_schema.specs.declared.rule.Rule.{Rule}
@@ -61,6 +64,17 @@ pub record CanWriteRun (edition : Edition) (context : Context) (level : ℕ) (d 
   pub run : IsRun d start end
   pub deep : 0 < level
   pub stand : are_at level (sorted edition context (trees_between d start end)) ≡ true
+
+-- the further lines of the payload at a place can be written, where its structure stands at a level
+pub record CanWriteFurther (d : Trees) (place level : ℕ) : Type 0 where
+  pub within : place < trees_count d
+  pub shallow : level ≤ 99
+  pub room : 0 < length (further_lines (structure_at d place).payload) → level < 99
+  pub plain : list_all is_plain (further_lines (structure_at d place).payload) ≡ true
+
+-- their CONT lines
+abbrev pub further_at : Trees → ℕ → ℕ → List LineParts
+further_at d place level = continued (level + 1) (further_lines (structure_at d place).payload)
 
 -- lines with new names are appended to an answer, whatever the names are to which the plan's numbers belong
 abbrev pub Writes : {T E : Type 0} → Trees → Plan → Result T E → Bytes → Bytes → ((Bytes → Bytes) → List LineParts) → Type 0

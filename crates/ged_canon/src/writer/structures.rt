@@ -1,16 +1,11 @@
 // The canonical spelling of a document's structures, written from the document itself.
-ghost use Rattle.std.specs.Prelude.{◌≡◌, ◌<◌, ◌≤◌, ◌+◌, ◌++◌, OnOk, true, length};
+ghost use Rattle.std.specs.Prelude.{◌≡◌, ◌++◌, OnOk};
 ghost use Rattle.std.specs.Option.{option_copied};
-ghost use Rattle.std.specs.List.{list_all};
-ghost use Rattle.ged_line.specs.Characters.{is_plain};
 ghost use Rattle.ged_line.specs.Spelling.{spelled_lines};
-ghost use Rattle.ged_tree.specs.Trees.{trees_count, further_lines};
 ghost use Rattle.ged_tree.specs.DocumentLines.{structure_lines};
-ghost use Rattle.ged_tree.specs.inner.DocumentParts.{continued};
-ghost use Rattle.ged_tree.specs.Places.{structure_at};
 ghost use Rattle.ged_tree.specs.inner.Walks.{HasLinesAt};
 ghost use Rattle.ged_canon.specs.inner.Siblings.{StandsIn};
-ghost use Rattle.ged_canon.specs.inner.Writing.{row_of, brief_sibling, renamed_sibling, sibling_lines, run_lines, CanWriteTree, CanWriteRun, Writes};
+ghost use Rattle.ged_canon.specs.inner.Writing.{row_of, brief_sibling, renamed_sibling, sibling_lines, run_lines, further_at, CanWriteFurther, CanWriteTree, CanWriteRun, Writes};
 
 use crate::writer::answer::{Answer, text_value};
 use crate::writer::order::are_in_order;
@@ -30,11 +25,8 @@ impl<'a, F: Forest> Writer<'a, '_, F> {
         level: u8,
         answer: &mut Answer<'_>,
     ) -> Result<(), AllocError>
-        requires within { place < trees_count (F.trees self.now.forest.now) }
-        requires shallow { level ≤ 99 }
-        requires room { 0 < length (further_lines (structure_at (F.trees self.now.forest.now) place).payload) → level < 99 }
-        requires plain { list_all is_plain (further_lines (structure_at (F.trees self.now.forest.now) place).payload) ≡ true }
-        ensures { OnOk result (answer.new ≡ answer.old ++ spelled_lines (continued (level + 1) (further_lines (structure_at (F.trees self.now.forest.now) place).payload))) }
+        requires { CanWriteFurther (F.trees self.now.forest.now) place level }
+        ensures { OnOk result (answer.new ≡ answer.old ++ spelled_lines (further_at (F.trees self.now.forest.now) place level)) }
     {
         for number in 0..self.forest.further(place) {
             let value = text_value(self.forest.further_line(place, number));
@@ -52,11 +44,8 @@ impl<'a, F: Forest> Writer<'a, '_, F> {
         level: u8,
         answer: &mut Answer<'_>,
     ) -> Result<(), AllocError>
-        requires within { place < trees_count (F.trees self.now.forest.now) }
-        requires shallow { level ≤ 99 }
-        requires room { 0 < length (further_lines (structure_at (F.trees self.now.forest.now) place).payload) → level < 99 }
-        requires plain { list_all is_plain (further_lines (structure_at (F.trees self.now.forest.now) place).payload) ≡ true }
-        ensures { OnOk result (answer.new ≡ answer.old ++ spelled_lines (continued (level + 1) (further_lines (structure_at (F.trees self.now.forest.now) place).payload))) }
+        requires { CanWriteFurther (F.trees self.now.forest.now) place level }
+        ensures { OnOk result (answer.new ≡ answer.old ++ spelled_lines (further_at (F.trees self.now.forest.now) place level)) }
     {
         match self.forest.further_lines(place) {
             Some(further) => answer.push_further(level, &further),
