@@ -90,7 +90,7 @@ impl Judge {
         if self.is_plain(line) {
             return None;
         }
-        if self.goes_on(line) {
+        if self.is_plain_cont(line) {
             return None;
         }
         self.any_fault(line)
@@ -115,10 +115,9 @@ impl Judge {
         }
     }
 
-    // Whether the line is a CONT of a text that stands where the payload of the line before goes on, as nearly all CONT do: then it
-    // has no fault.
+    // The same for a CONT: whether it is no pointer, and stands where the payload of the line before goes on, as nearly all do.
     #[inline(always)]
-    fn goes_on(&self, line: &LineView<'_>) -> bool
+    fn is_plain_cont(&self, line: &LineView<'_>) -> bool
         ensures { (lines : List LineParts) → StandsFor self.now lines → OnTrue result (fault_after lines line.now ≡ None) }
     {
         is_cont(line)

@@ -5,7 +5,7 @@ ghost use Rattle.ged_schema.specs.Checked.{count_of};
 
 use ged_tree::{Forest, end_of_all, next_in_run};
 
-/// How many records have a tag.
+/// How many records have a tag. HEAD is none. Takes no memory.
 pub fn count_records<F: Forest>(forest: &F, tag: &str) -> usize
     ensures { result ≡ count_of tag.now (records_of (F.trees forest.now)) }
 {

@@ -6,7 +6,7 @@ ghost use Rattle.ged_uses.specs.Years.{year_in};
 
 use ged_value::{DateValue, read_date};
 
-/// The year of a date that is certain or about right, as the text spells it.
+/// The year of a date without a keyword or behind `ABT`, as the text spells it; `None` for any other text. Takes no memory.
 pub fn year_of(text: &str) -> Option<&str>
     ensures { (((parts : ValueParts) → ¬ DateValueText parts text.now) × (result ≡ None))
         ⊎ ((parts : ValueParts) × DateValueText parts text.now × (option_copied result ≡ year_in parts)) }

@@ -41,7 +41,7 @@ pub(crate) struct FurtherTable<'a> {
 }
 
 /// A line as a slice of the file, or `None` where no place in the file is told, or one of the numbers is too large.
-// Three comparisons cost half of what three conversions do that may fail.
+// Comparing the numbers is cheaper than three conversions that may fail.
 #[inline(always)]
 fn further_slice(after: usize, start: Option<usize>, length: usize) -> Option<FurtherSlice>
     ensures { IfSome result (λ slice. (after ≡ slice.after) × (start ≡ Some slice.start) × (length ≡ slice.length)) }

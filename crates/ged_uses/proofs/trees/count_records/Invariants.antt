@@ -4,6 +4,7 @@ use Rattle.ged_tree.specs.Runs.{trees_between, IsRun}
 use Rattle.ged_schema.specs.Checked.{count_of}
 use Rattle.ged_uses.proofs.trees.count_records.Given as goal
 
+-- those counted so far, and those among the records that are left, are all
 abbrev pub invariant-loop-after : goal.invariant-loop-after
 invariant-loop-after g l =
     let trees = g.F.Forest.trees l.forest in

@@ -6,6 +6,7 @@ use Rattle.ged_value.specs.declared.value.DateValue.TheVariants.{Span, Plain, Be
 use Rattle.ged_uses.specs.Years.{year_in}
 use Rattle.ged_uses.proofs.values.year_of.Goals as goal
 
+-- a date value of another form has no year
 no_year : (v : DateValue) → ((d : Date) → v ≡ Plain d → ⊥) → ((d : Date) → v ≡ About d → ⊥) → None ≡ year_in (value_parts v)
 no_year (Span p) h k = refl
 no_year (Plain d) h k = absurd (h d refl)
