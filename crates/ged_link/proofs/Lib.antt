@@ -3,6 +3,7 @@ pub mod PairLemmas
 pub mod PlaceCases
 pub mod LinkLemmas
 pub mod NameLemmas
+pub mod ListingLemmas
 pub mod TypeLemmas
 pub mod LawLemmas
 pub mod RecordLemmas

@@ -1,5 +1,5 @@
 -- No two short names have one number, so a record that is added by its number is added by its name.
-use Rattle.std.proofs.Common.{◌≡◌, ◌⊎◌, inl, inr, ℕ, zero, suc, ◌+◌, ◌*◌, ◌^◌, ◌<◌, ◌≤◌, Bool, true, false, cond, nat_eq, nat_le, nat_lt, ◌&&◌, [], ◌∷◌, Option, Some, None, refl, sym, ap, ◌∙◌, arith, rules, List, length}
+use Rattle.std.proofs.Common.{◌≡◌, is_none, subst, ◌⊎◌, inl, inr, ℕ, zero, suc, ◌+◌, ◌*◌, ◌^◌, ◌%◌, ◌<◌, ◌≤◌, Bool, true, false, cond, nat_eq, nat_le, nat_lt, ◌&&◌, [], ◌∷◌, Option, Some, None, refl, sym, ap, ◌∙◌, arith, rules, List, length}
 use Rattle.std.specs.Bool.{if◌then◌else◌, Decides}
 use Rattle.std.specs.List.{list_all}
 use Rattle.std.specs.Str.{bytes_eq}
@@ -14,8 +14,8 @@ use Rattle.ged_link.specs.declared.slots.Slots.{Slots}
 use Rattle.ged_link.specs.Indexes.{found_in, found_by, found_short, first_of}
 use Rattle.ged_link.specs.inner.Indexes.{HasNoOthers}
 use Rattle.ged_link.specs.Slots.{kept_in, slot_in}
-use Rattle.ged_link.specs.inner.Slots.{KeepsIn}
-use Rattle.ged_link.specs.inner.Resolving.{AddsName}
+use Rattle.ged_link.specs.inner.Slots.{KeepsIn, kept_at}
+use Rattle.ged_link.specs.inner.Resolving.{AddsName, AddsRecord}
 use Rattle.ged_link.proofs.LinkLemmas.{both}
 
 abbrev are_bytes : Bytes → Bool
@@ -125,6 +125,17 @@ above name number e = go (numbered name number e)
     go (inl x) = let p = positive name in omega (arith, p, x.is)
     go (inr x) = omega (arith, x.least)
 
+-- its lowest byte is the name's first
+pub first_byte : (b : ℕ) (bs : Bytes) (number : ℕ) → short_number (b ∷ bs) ≡ Some number → b ≡ number % 256
+first_byte b bs number e = go (numbered (b ∷ bs) number e)
+  where
+    lowest : (rest : ℕ) → are_bytes (b ∷ bs) ≡ true → number ≡ b + 256 * rest → b ≡ number % 256
+    lowest rest h is = let digit = below b (both _ _ h).0 in omega (arith, digit, is)
+
+    go : IsShorter (b ∷ bs) number ⊎ IsFull (b ∷ bs) number → b ≡ number % 256
+    go (inl x) = lowest (name_number bs) x.bytes x.is
+    go (inr x) = lowest (digits_number bs) x.bytes x.is
+
 equal_numbers : (m n : ℕ) → nat_eq m n ≡ true → m ≡ n
 equal_numbers m n e = grind (arith, nat_tests)
 
@@ -202,7 +213,7 @@ module _ (old new : Names) (name : Bytes) (found : RecordPlace) where
 
   module _ (number : ℕ) (is : short_number name ≡ Some number) where
     -- in its slot
-    pub kept_short : KeepsIn old.slots new.slots name number found → new.short ≡ old.short → (other : Bytes) (n : ℕ) → short_number other ≡ Some n → found_short new other n ≡ cond (nat_eq number n) (Some found) (found_short old other n)
+    pub kept_short : KeepsIn old.slots new.slots (slot_in old.slots.regions.items name) number found → new.short ≡ old.short → (other : Bytes) (n : ℕ) → short_number other ≡ Some n → found_short new other n ≡ cond (nat_eq number n) (Some found) (found_short old other n)
     kept_short keeps kept other n other_is =
         ap (λ o. first_of o (get nat_eq new.short n)) (keeps other n (above other n other_is))
         ∙ ap (λ records. first_of (cond (nat_eq number n && nat_eq (slot_in old.slots.regions.items name) (slot_in old.slots.regions.items other)) (Some found) (kept_in old.slots other n)) (get nat_eq records n)) kept
@@ -232,3 +243,19 @@ module _ (old new : Names) (name : Bytes) (found : RecordPlace) where
         go : (b : Bool) → nat_eq number n ≡ b → first_of (kept_in old.slots other n) (cond b (Some found) (get nat_eq old.short n)) ≡ cond b (Some found) (found_short old other n)
         go true e = ap (λ o. first_of o (Some found)) (none_there e)
         go false e = refl
+
+    module _ (slot : ℕ) (at : slot_in old.slots.regions.items name ≡ slot) where
+      found_at : found_in old name ≡ first_of (kept_at old.slots slot number) (get nat_eq old.short number)
+      found_at = ap (found_by old name) is ∙ ap (λ s. first_of (kept_at old.slots s number) (get nat_eq old.short number)) at
+
+      -- in its slot, where that was free
+      pub adds_kept : is_none (kept_at old.slots slot number) ≡ true → KeepsIn old.slots new.slots slot number found → new.short ≡ old.short → new.long ≡ old.long
+          → AddsRecord old new (Some name) found (is_none (get nat_eq old.short number))
+      adds_kept free keeps kept kept_long = (
+        free_first (kept_at old.slots slot number) free ∙ ap is_none (sym found_at),
+        λ _. added_short number is (kept_short (subst (λ s. KeepsIn old.slots new.slots s number found) (sym at) keeps) kept) kept_long,
+      )
+        where
+          free_first : (o : Option RecordPlace) → is_none o ≡ true → is_none (get nat_eq old.short number) ≡ is_none (first_of o (get nat_eq old.short number))
+          free_first None e = refl
+          free_first (Some other) e = cc

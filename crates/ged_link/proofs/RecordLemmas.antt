@@ -1,10 +1,8 @@
 -- The records of a document, as the walk over them finds their identifiers.
-use Rattle.std.proofs.Common.{◌≡◌, ℕ, ◌+◌, ◌-◌, ◌<◌, ◌≤◌, true, false, Bool, sym, ◌∙◌, ap, refl, arith, rules, List, [], ◌∷◌, ◌++◌, drop, length, get_or, Option, Some, None, option_map, slice_get, slice_index_or, is_some, is_none, ◌⊎◌, inl, inr, subst, ◌↔◌}
+use Rattle.std.proofs.Common.{◌≡◌, ℕ, ◌+◌, ◌-◌, ◌<◌, ◌≤◌, true, false, Bool, sym, ◌∙◌, ap, refl, arith, rules, List, [], ◌∷◌, drop, length, get_or, Option, Some, None, option_map, slice_get, slice_index_or, is_some, is_none, ◌⊎◌, inl, inr, subst, ◌↔◌}
 use Rattle.std.specs.Bool.{if◌then◌else◌, Decides}
 use Rattle.std.specs.Str.{bytes_eq}
 use Rattle.std.proofs.lemmas.Slice.Eq.{bytes_eq-Decides}
-use Rattle.std.proofs.Math.ListN.{get_or-append}
-use Rattle.std.proofs.Math.Seq.{get_or-append_seam}
 use Rattle.std.proofs.lemmas.Bool.{cases_lt}
 use Rattle.std.proofs.lemmas.List.{drop_all, drop_more}
 use Rattle.std.proofs.lemmas.Option.{slice_get_within, slice_get-get_or}
@@ -21,7 +19,7 @@ use Rattle.ged_link.specs.RecordTypes.{IsTypeOf}
 use Rattle.ged_link.specs.LinkFaults.{HasXref, IsRepeated, IsLowest}
 use Rattle.ged_link.specs.declared.names.Names.{Names}
 use Rattle.ged_link.specs.Indexes.{found_in, AreRecords, AreTyped}
-use Rattle.ged_link.specs.inner.Resolving.{AddsName, AreRecordsBefore}
+use Rattle.ged_link.specs.inner.Resolving.{AddsName, AddsRecord, AreRecordsBefore}
 use Rattle.ged_link.proofs.LinkLemmas.{both, document_level, level_parts, unnamed, unnamed_run}
 use Rattle.ged_link.proofs.PlaceCases.{place_cases, at_first, at_below}
 
@@ -50,23 +48,23 @@ run_over d p e run ends = let f : p + 0 ≡ e = rw ends at run.fills in omega ar
 
 -- ---- the identifiers of the records that are left
 
-left_within : (xs : List (Option Bytes)) (k : ℕ) (x : Option Bytes) (rest : List (Option Bytes)) → drop k xs ≡ x ∷ rest → k < length xs
-left_within xs k x rest e = elim (cases_lt k (length xs)) [
-  | inl within ↦ within
-  | inr past ↦ (let f = drop_all k xs past in cc)
-]
+module _ {X : Type 0} where
+  pub left_within : (xs : List X) (k : ℕ) (x : X) (rest : List X) → drop k xs ≡ x ∷ rest → k < length xs
+  left_within xs k x rest e = elim (cases_lt k (length xs)) [
+    | inl within ↦ within
+    | inr past ↦ (let f = drop_all k xs past in cc)
+  ]
 
-pub left_here : (xs : List (Option Bytes)) (k : ℕ) (x : Option Bytes) (rest : List (Option Bytes)) → drop k xs ≡ x ∷ rest → slice_get xs k ≡ Some x
-left_here xs k x rest e =
-    let within = left_within xs k x rest e in
-    let f = drop_more xs k x within in
-    let g : get_or xs k x ≡ x = cc in
-    slice_get-get_or xs k x within ∙ ap Some g
+  pub left_first : (xs : List X) (k : ℕ) (x : X) (rest : List X) → drop k xs ≡ x ∷ rest → (other : X) → get_or xs k other ≡ x
+  left_first xs k x rest e other = let f = drop_more xs k other (left_within xs k x rest e) in cc
 
-pub left_next : (xs : List (Option Bytes)) (k : ℕ) (x : Option Bytes) (rest : List (Option Bytes)) → drop k xs ≡ x ∷ rest → drop (k + 1) xs ≡ rest
-left_next xs k x rest e = let f = drop_more xs k x (left_within xs k x rest e) in cc
+  left_here : (xs : List X) (k : ℕ) (x : X) (rest : List X) → drop k xs ≡ x ∷ rest → slice_get xs k ≡ Some x
+  left_here xs k x rest e = slice_get-get_or xs k x (left_within xs k x rest e) ∙ ap Some (left_first xs k x rest e x)
 
-pub left_none : (xs : List (Option Bytes)) (k : ℕ) → drop k xs ≡ [] → length xs ≤ k
+  pub left_next : (xs : List X) (k : ℕ) (x : X) (rest : List X) → drop k xs ≡ x ∷ rest → drop (k + 1) xs ≡ rest
+  left_next xs k x rest e = let f = drop_more xs k x (left_within xs k x rest e) in cc
+
+left_none : (xs : List (Option Bytes)) (k : ℕ) → drop k xs ≡ [] → length xs ≤ k
 left_none xs k e = elim (cases_lt k (length xs)) [
   | inr past ↦ past
   | inl within ↦ (let f = drop_more xs k None within in cc)
@@ -99,14 +97,12 @@ new_or_old : (P : RecordPlace → Type 0) (found : RecordPlace) (old : Option Re
 new_or_old P found old true kept new before is = let f : found ≡ kept = cc in subst P f new
 new_or_old P found old false kept new before is = before kept is
 
+none_of_new : (o : Option RecordPlace) → is_none o ≡ true → o ≡ None
+none_of_new None e = refl
+none_of_new (Some found) e = cc
+
 -- the walk is at a record
-module _ (d : Trees) (p e a k : ℕ) (step : IsStep d p e a) (level : are_at 0 (trees_between d p e) ≡ true) (left : drop k (identifiers (records_of d)) ≡ identifiers (trees_between d p e)) where
-  level_here : (are_at 1 (trees_between d (p + 1) a) ≡ true) × (are_at 0 (trees_between d a e) ≡ true)
-  level_here = let h = level_parts 0 (structure_at d p) (trees_between d (p + 1) a) (trees_between d a e) (rw step.first at level) in (h.1, h.2)
-
-  pub level_next : are_at 0 (trees_between d a e) ≡ true
-  level_next = level_here.1
-
+module _ (d : Trees) (p e a k : ℕ) (step : IsStep d p e a) (left : drop k (identifiers (records_of d)) ≡ identifiers (trees_between d p e)) where
   left_is : drop k (identifiers (records_of d)) ≡ (structure_at d p).xref ∷ identifiers (trees_between d a e)
   left_is = left ∙ ap identifiers step.first
 
@@ -122,74 +118,87 @@ module _ (d : Trees) (p e a k : ℕ) (step : IsStep d p e a) (level : are_at 0 (
   pub numbered_here : (name : Bytes) → HasXref d p name → IsRecordNumber d k name
   numbered_here name has = named_here ∙ ap Some has.1
 
-  -- an identifier before the next record stands before this one, or is this one's
-  place_before : (name : Bytes) (other : ℕ) → (other < a) × HasXref d other name → ((other < p) × HasXref d other name) ⊎ ((other ≡ p) × ((structure_at d p).xref ≡ Some name))
-  place_before name other h = elim (cases_lt other p) [
-    | inl before ↦ inl (before, h.1)
-    | inr past ↦ elim (cases_lt p other) [
-      | inr same ↦ (let f : other ≡ p = omega arith in inr (f, rw f at h.1.1))
-      | inl later ↦ (let none_is = unnamed_run d 0 (p + 1) a other step.below level_here.0 (other - (p + 1)) (omega arith) h.0 in let some_is = h.1.1 in cc)
-    ]
-  ]
-
   number_before : (name : Bytes) (other : ℕ) → (other < k + 1) × IsRecordNumber d other name → ((other < k) × IsRecordNumber d other name) ⊎ ((other ≡ k) × ((structure_at d p).xref ≡ Some name))
   number_before name other h = elim (cases_lt other k) [
     | inl before ↦ inl (before, h.1)
     | inr past ↦ (let f : other ≡ k = omega (arith, h.0) in let here = named_here in let there = rw f at h.1 in inr (f, cc))
   ]
 
-  place_grows : (name : Bytes) (other : ℕ) → (other < p) × HasXref d other name → (other < a) × HasXref d other name
-  place_grows name other h = (omega (arith, h.0, step.forth), h.1)
-
   number_grows : (name : Bytes) (other : ℕ) → (other < k) × IsRecordNumber d other name → (other < k + 1) × IsRecordNumber d other name
   number_grows name other h = (omega (arith, h.0), h.1)
 
-  pub records_kept : (records : Names) → (structure_at d p).xref ≡ None → AreRecordsBefore d p k records → AreRecordsBefore d a (k + 1) records
-  records_kept records unnamed_here are = record {
-    placed = λ name other. (
-      λ s. place_grows name other ((are.placed name other).0 s),
-      λ h. elim (place_before name other h) [ inl old ↦ (are.placed name other).1 old | inr new ↦ (let some_is = new.1 in cc) ],
-    );
-    numbered = λ name other. (
-      λ s. number_grows name other ((are.numbered name other).0 s),
-      λ h. elim (number_before name other h) [ inl old ↦ (are.numbered name other).1 old | inr new ↦ (let some_is = new.1 in cc) ],
-    );
-  }
+  module _ (level : are_at 0 (trees_between d p e) ≡ true) where
+    level_here : (are_at 1 (trees_between d (p + 1) a) ≡ true) × (are_at 0 (trees_between d a e) ≡ true)
+    level_here = let h = level_parts 0 (structure_at d p) (trees_between d (p + 1) a) (trees_between d a e) (rw step.first at level) in (h.1, h.2)
 
-  pub records_more : (old new : Names) (name : Bytes) (found : RecordPlace) → found.place ≡ p → found.number ≡ k → (structure_at d p).xref ≡ Some name → found_in old name ≡ None
-      → AddsName old new name found → AreRecordsBefore d p k old → AreRecordsBefore d a (k + 1) new
-  records_more old new name found at_place at_number here fresh adds are = record {
-    placed = λ n other.
-        subst (λ (x : Option RecordPlace). (option_map (λ (r : RecordPlace). r.place) x ≡ Some other) ↔ ((other < a) × HasXref d other n)) (sym (adds n))
-        (point (λ r. r.place) name n found (found_in old n) (bytes_eq name n) other ((other < p) × HasXref d other n) ((other < a) × HasXref d other n) (bytes_eq-Decides name n)
-        (λ same. ap (found_in old) (sym same) ∙ fresh)
-        (are.placed n other)
-        (λ h. elim (place_before n other h) [ inl before ↦ inl before | inr new ↦ inr (let some_is = new.1 in cc, at_place ∙ sym new.0) ])
-        (place_grows n other)
-        (λ same is. let f : other ≡ p = sym is ∙ at_place in (omega (arith, f, step.forth), (omega (arith, f, step.within), rw (f, ← same) here))));
-    numbered = λ n other.
-        subst (λ (x : Option RecordPlace). (option_map (λ (r : RecordPlace). r.number) x ≡ Some other) ↔ ((other < k + 1) × IsRecordNumber d other n)) (sym (adds n))
-        (point (λ r. r.number) name n found (found_in old n) (bytes_eq name n) other ((other < k) × IsRecordNumber d other n) ((other < k + 1) × IsRecordNumber d other n) (bytes_eq-Decides name n)
-        (λ same. ap (found_in old) (sym same) ∙ fresh)
-        (are.numbered n other)
-        (λ h. elim (number_before n other h) [ inl before ↦ inl before | inr new ↦ inr (let some_is = new.1 in cc, at_number ∙ sym new.0) ])
-        (number_grows n other)
-        (λ same is. let f : other ≡ k = sym is ∙ at_number in (omega (arith, f), rw (f, ← same) (named_here ∙ ap Some here))));
-  }
+    pub level_next : are_at 0 (trees_between d a e) ≡ true
+    level_next = level_here.1
 
-  -- one more type changes nothing for the records before
-  pub typed_kept : (records : Names) (types : List (Option RecordType)) (more : Option RecordType) → length types ≡ k → AreRecordsBefore d p k records → AreTyped d records types → AreTyped d records (types ++ more ∷ [])
-  typed_kept records types more long are typed name found is =
-      let before : found.number < length types = omega (arith, long, ((are.numbered name found.number).0 (ap (option_map (λ (r : RecordPlace). r.number)) is)).0) in
-      subst (λ (known : Option RecordType). IsTypeOf known (structure_at d found.place).tag) (sym (get_or-append types (more ∷ []) None found.number before)) (typed name found is)
+    -- an identifier before the next record stands before this one, or is this one's
+    place_before : (name : Bytes) (other : ℕ) → (other < a) × HasXref d other name → ((other < p) × HasXref d other name) ⊎ ((other ≡ p) × ((structure_at d p).xref ≡ Some name))
+    place_before name other h = elim (cases_lt other p) [
+      | inl before ↦ inl (before, h.1)
+      | inr past ↦ elim (cases_lt p other) [
+        | inr same ↦ (let f : other ≡ p = omega arith in inr (f, rw f at h.1.1))
+        | inl later ↦ (let none_is = unnamed_run d 0 (p + 1) a other step.below level_here.0 (other - (p + 1)) (omega arith) h.0 in let some_is = h.1.1 in cc)
+      ]
+    ]
 
-  -- and is that of one more record
-  pub typed_more : (old new : Names) (types : List (Option RecordType)) (more : Option RecordType) (name : Bytes) (found : RecordPlace) → length types ≡ k → found.place ≡ p → found.number ≡ k
-      → IsTypeOf more (structure_at d p).tag → AddsName old new name found → AreRecordsBefore d p k old → AreTyped d old types → AreTyped d new (types ++ more ∷ [])
-  typed_more old new types more name found long at_place at_number of_type adds are typed n kept is =
-      let there : slice_index_or (types ++ more ∷ []) found.number None ≡ more = rw (at_number, ← long) (get_or-append_seam types more [] None) in
-      new_or_old (λ r. IsTypeOf (slice_index_or (types ++ more ∷ []) r.number None) (structure_at d r.place).tag) found (found_in old n) (bytes_eq name n) kept (rw (there, at_place) of_type)
-      (typed_kept old types more long are typed n) (sym (adds n) ∙ is)
+    place_grows : (name : Bytes) (other : ℕ) → (other < p) × HasXref d other name → (other < a) × HasXref d other name
+    place_grows name other h = (omega (arith, h.0, step.forth), h.1)
+
+    records_kept : (records : Names) → (structure_at d p).xref ≡ None → AreRecordsBefore d p k records → AreRecordsBefore d a (k + 1) records
+    records_kept records unnamed_here are = record {
+      placed = λ name other. (
+        λ s. place_grows name other ((are.placed name other).0 s),
+        λ h. elim (place_before name other h) [ inl old ↦ (are.placed name other).1 old | inr new ↦ (let some_is = new.1 in cc) ],
+      );
+      numbered = λ name other. (
+        λ s. number_grows name other ((are.numbered name other).0 s),
+        λ h. elim (number_before name other h) [ inl old ↦ (are.numbered name other).1 old | inr new ↦ (let some_is = new.1 in cc) ],
+      );
+    }
+
+    records_more : (old new : Names) (name : Bytes) (found : RecordPlace) → found.place ≡ p → found.number ≡ k → (structure_at d p).xref ≡ Some name → found_in old name ≡ None
+        → AddsName old new name found → AreRecordsBefore d p k old → AreRecordsBefore d a (k + 1) new
+    records_more old new name found at_place at_number here fresh adds are = record {
+      placed = λ n other.
+          subst (λ (x : Option RecordPlace). (option_map (λ (r : RecordPlace). r.place) x ≡ Some other) ↔ ((other < a) × HasXref d other n)) (sym (adds n))
+          (point (λ r. r.place) name n found (found_in old n) (bytes_eq name n) other ((other < p) × HasXref d other n) ((other < a) × HasXref d other n) (bytes_eq-Decides name n)
+          (λ same. ap (found_in old) (sym same) ∙ fresh)
+          (are.placed n other)
+          (λ h. elim (place_before n other h) [ inl before ↦ inl before | inr new ↦ inr (let some_is = new.1 in cc, at_place ∙ sym new.0) ])
+          (place_grows n other)
+          (λ same is. let f : other ≡ p = sym is ∙ at_place in (omega (arith, f, step.forth), (omega (arith, f, step.within), rw (f, ← same) here))));
+      numbered = λ n other.
+          subst (λ (x : Option RecordPlace). (option_map (λ (r : RecordPlace). r.number) x ≡ Some other) ↔ ((other < k + 1) × IsRecordNumber d other n)) (sym (adds n))
+          (point (λ r. r.number) name n found (found_in old n) (bytes_eq name n) other ((other < k) × IsRecordNumber d other n) ((other < k + 1) × IsRecordNumber d other n) (bytes_eq-Decides name n)
+          (λ same. ap (found_in old) (sym same) ∙ fresh)
+          (are.numbered n other)
+          (λ h. elim (number_before n other h) [ inl before ↦ inl before | inr new ↦ inr (let some_is = new.1 in cc, at_number ∙ sym new.0) ])
+          (number_grows n other)
+          (λ same is. let f : other ≡ k = sym is ∙ at_number in (omega (arith, f), rw (f, ← same) (named_here ∙ ap Some here))));
+    }
+
+    -- one more record, which may have no identifier
+    pub records_next : (old new : Names) (found : RecordPlace) → found.place ≡ p → found.number ≡ k → AddsRecord old new (structure_at d p).xref found true
+        → AreRecordsBefore d p k old → AreRecordsBefore d a (k + 1) new
+    records_next old new found at_place at_number adds are = go (structure_at d p).xref refl adds
+      where
+        go : (xref : Option Bytes) → (structure_at d p).xref ≡ xref → AddsRecord old new xref found true → AreRecordsBefore d a (k + 1) new
+        go None here h = subst (AreRecordsBefore d a (k + 1)) (sym h.1) (records_kept old here are)
+        go (Some name) here h = records_more old new name found at_place at_number here (none_of_new (found_in old name) (sym h.0)) (h.1 refl) are
+
+    -- whose type stands by its number
+    pub typed_next : (old new : Names) (types : List (Option RecordType)) (found : RecordPlace) → found.place ≡ p → found.number ≡ k
+        → IsTypeOf (slice_index_or types k None) (structure_at d p).tag → AddsRecord old new (structure_at d p).xref found true → AreTyped d old types → AreTyped d new types
+    typed_next old new types found at_place at_number of_type adds typed = go (structure_at d p).xref adds
+      where
+        go : (xref : Option Bytes) → AddsRecord old new xref found true → AreTyped d new types
+        go None h = subst (λ (records : Names). AreTyped d records types) (sym h.1) typed
+        go (Some name) h = λ n kept is.
+            new_or_old (λ r. IsTypeOf (slice_index_or types r.number None) (structure_at d r.place).tag) found (found_in old n) (bytes_eq name n) kept (rw (at_number, at_place) of_type)
+            (typed n) (sym (h.1 refl n) ∙ is)
 
 -- ---- the records before the first one
 
@@ -255,7 +264,7 @@ found_of : (o : Option RecordPlace) → is_some o ≡ true → (found : RecordPl
 found_of None e = cc
 found_of (Some found) e = (found, refl)
 
-pub first_repeated : (d : Trees) (p k : ℕ) (records : Names) (name : Bytes) → AreRecordsBefore d p k records → is_some (found_in records name) ≡ true → HasXref d p name → IsLowest (IsRepeated d) p
+first_repeated : (d : Trees) (p k : ℕ) (records : Names) (name : Bytes) → AreRecordsBefore d p k records → is_some (found_in records name) ≡ true → HasXref d p name → IsLowest (IsRepeated d) p
 first_repeated d p k records name are some_is here =
     let found = found_of (found_in records name) some_is in
     let there = (are.placed name found.0.place).0 (ap (option_map (λ (r : RecordPlace). r.place)) found.1) in (
@@ -263,15 +272,18 @@ first_repeated d p k records name are some_is here =
       λ other h. elim (cases_lt other p) [ inl before ↦ absurd (none_repeated d p k records are other before h) | inr past ↦ past ],
     )
 
+some_of_old : (o : Option RecordPlace) → is_none o ≡ false → is_some o ≡ true
+some_of_old None e = cc
+some_of_old (Some found) e = refl
+
+pub repeated_here : (d : Trees) (p k : ℕ) (old new : Names) (found : RecordPlace) → AddsRecord old new (structure_at d p).xref found false → p < trees_count d → AreRecordsBefore d p k old → IsLowest (IsRepeated d) p
+repeated_here d p k old new found adds within are = go (structure_at d p).xref refl adds
+  where
+    go : (xref : Option Bytes) → (structure_at d p).xref ≡ xref → AddsRecord old new xref found false → IsLowest (IsRepeated d) p
+    go None here h = let e : false ≡ true = h.0 in absurd (cc)
+    go (Some name) here h = first_repeated d p k old name are (some_of_old (found_in old name) (sym h.0)) (within, here)
+
 pub none_repeated_all : (d : Trees) (p k e : ℕ) (records : Names) → e ≡ trees_count d → IsRun d p e → trees_between d p e ≡ none → AreRecordsBefore d p k records → (place : ℕ) → IsRepeated d place → ⊥
 none_repeated_all d p k e records whole run ends are place h =
     let at_end : p ≡ trees_count d = let f : p + 0 ≡ e = rw ends at run.fills in omega arith in
     none_repeated d p k records are place (omega (arith, at_end, h.2.0)) h
-
-pub none_of_new : (o : Option RecordPlace) → is_none o ≡ true → o ≡ None
-none_of_new None e = refl
-none_of_new (Some found) e = cc
-
-pub some_of_old : (o : Option RecordPlace) → is_none o ≡ false → is_some o ≡ true
-some_of_old None e = cc
-some_of_old (Some found) e = refl

@@ -3,6 +3,7 @@ pub mod Indexes
 pub mod Keys
 pub mod Layout
 pub mod LinkWalks
+pub mod Listing
 pub mod PairSets
 pub mod Resolving
 pub mod Slots

@@ -1,17 +1,14 @@
 // How many slots the names of a document are given, and which of them those of each first byte are given.
 ghost use Rattle.std.specs.Prelude.{◌≡◌, ◌<◌, ℕ, [], IfOk, None, fold, replicate};
-ghost use Rattle.ged_tree.specs.Runs.{trees_between, IsRun};
-ghost use Rattle.ged_link.specs.Links.{identifiers};
 ghost use Rattle.ged_link.specs.Slots.{kept_in};
-ghost use Rattle.ged_link.specs.inner.Layout.{counted, counted_name, no_names, room, begun};
+ghost use Rattle.ged_link.specs.inner.Layout.{counted_at, no_names, room, begun};
 
-use crate::slots::{Region, Slots, read_number};
-use ged_tree::{Forest, next_in_run};
+use crate::slots::{Region, Slots};
 use std::alloc::{AllocError, Global};
 
 /// What is told of the names that begin with one byte.
 #[derive(Clone, Copy)]
-struct Tally {
+pub(crate) struct Tally {
     count: u32,
     /// The greatest of the numbers behind it, by which they ask for their slots.
     greatest: u32,
@@ -23,41 +20,26 @@ const NO_NAMES: Tally = Tally {
     greatest: 0,
 };
 
-/// Counts a name by its first byte.
-fn count_name(tallies: &mut Vec<Tally>, name: &str)
-    ensures { tallies.new.items ≡ counted_name tallies.old.items name.now }
+/// The tallies of no names, one for each first byte.
+pub(crate) fn no_tallies(alloc: Global) -> Result<Vec<Tally>, AllocError>
+    ensures { IfOk result (λ tallies. tallies.items ≡ replicate 256 no_names) }
 {
-    if let [first, digits @ ..] = name.as_bytes() {
-        let first = usize::from(*first);
-        if first < tallies.len() {
-            let before = tallies[first];
-            tallies[first] = Tally {
-                count: before.count.saturating_add(1),
-                greatest: before.greatest.max(read_number(0, digits)),
-            };
-        }
-    }
+    vec![in alloc; NO_NAMES; 256]
 }
 
-/// The tally of each first byte, over the names of the records from a place up to an end.
-fn count_names<F: Forest>(
-    alloc: Global,
-    forest: &F,
-    start: usize,
-    end: usize,
-) -> Result<Vec<Tally>, AllocError>
-    requires { IsRun (F.trees forest.now) start end }
-    ensures { IfOk result (λ tallies. tallies.items ≡ fold counted (replicate 256 no_names) (identifiers (trees_between (F.trees forest.now) start end))) }
+/// Counts a name by its first byte, with the number behind that.
+#[inline(always)]
+pub(crate) fn count_name(tallies: &mut Vec<Tally>, first: u8, number: u32)
+    ensures { tallies.new.items ≡ counted_at tallies.old.items first number }
 {
-    let mut tallies = vec![in alloc; NO_NAMES; 256]?;
-    let mut place = start;
-    while let Some(after) = next_in_run(forest, place, end) {
-        if let Some(name) = forest.xref(place) {
-            count_name(&mut tallies, name);
-        }
-        place = after;
+    let first = usize::from(first);
+    if first < tallies.len() {
+        let before = tallies[first];
+        tallies[first] = Tally {
+            count: before.count.saturating_add(1),
+            greatest: before.greatest.max(number),
+        };
     }
-    Ok(tallies)
 }
 
 /// How many slots the names of a first byte are given: one for each number up to the greatest, as long as these are few for so
@@ -87,18 +69,11 @@ fn regions_of(alloc: Global, tallies: &[Tally]) -> Result<(Vec<Region>, u32), Al
     Ok((regions, size))
 }
 
-/// Free slots for the names of the records from a place up to an end. Takes memory for at most two slots for each name, and
-/// eight for each first byte that occurs, and for fewer where the numbers of the names are small.
-pub(crate) fn slots_for<F: Forest>(
-    alloc: Global,
-    forest: &F,
-    start: usize,
-    end: usize,
-) -> Result<Slots, AllocError>
-    requires { IsRun (F.trees forest.now) start end }
+/// Free slots for the names that were counted. Takes memory for at most two slots for each name, and eight for each first byte that
+/// occurs, and for fewer where the numbers of the names are small.
+pub(crate) fn slots_for(alloc: Global, tallies: &[Tally]) -> Result<Slots, AllocError>
     ensures { IfOk result (λ slots. (name : _) → (number : ℕ) → 0 < number → kept_in slots name number ≡ None) }
 {
-    let tallies = count_names(alloc, forest, start, end)?;
-    let (regions, size) = regions_of(alloc, &tallies)?;
+    let (regions, size) = regions_of(alloc, tallies)?;
     Slots::new(alloc, regions, size as usize)
 }

@@ -9,6 +9,7 @@ mod laws;
 mod layout;
 mod link_lists;
 mod links;
+mod listing;
 mod names;
 mod notices;
 mod pairs;

@@ -51,6 +51,22 @@ impl Links {
         }
     }
 
+    /// No links, in the memory of two vectors, whose elements are dropped.
+    fn over(alloc: Global, pairs: Vec<(u32, u32)>, numbers: Vec<u32>) -> Links
+        ensures { (pair : ℕ × ℕ) → is_linked result pair ≡ false }
+    {
+        let mut pairs = pairs;
+        let mut numbers = numbers;
+        pairs.clear();
+        numbers.clear();
+        Links {
+            pairs,
+            wide: Vec::new(alloc),
+            numbers,
+            starts: Vec::new(alloc),
+        }
+    }
+
     /// Notes that the links of the next record begin. Grows.
     fn begin_record(&mut self) -> Result<(), AllocError>
         ensures pairs { OnOk result (self.new.pairs ≡ self.old.pairs) }
@@ -120,11 +136,12 @@ pub(crate) struct LinkLists {
 }
 
 impl LinkLists {
-    pub(crate) fn new(alloc: Global) -> LinkLists
+    /// No links, in the memory of two vectors, whose elements are dropped.
+    pub(crate) fn over(alloc: Global, pairs: Vec<(u32, u32)>, numbers: Vec<u32>) -> LinkLists
         ensures { (role : _) (pair : ℕ × ℕ) → lists_have result role pair ≡ false }
     {
         LinkLists {
-            partners: Links::new(alloc),
+            partners: Links::over(alloc, pairs, numbers),
             children: Links::new(alloc),
         }
     }

@@ -1,15 +1,18 @@
 // Records by the names of their cross-reference identifiers.
-ghost use Rattle.std.specs.Prelude.{◌≡◌, ◌<◌, ◌↔◌, ℕ, true, IsTrue, IfOk, IfSome, OnOk, Some, None, is_none, nat_eq};
+ghost use Rattle.std.specs.Prelude.{◌≡◌, ◌<◌, ◌↔◌, ℕ, IsTrue, IfOk, IfSome, OnOk, Option, Some, None, is_none, nat_eq};
 ghost use Rattle.std.specs.HashMap.{get, get_by_text};
+ghost use Rattle.ged_line.specs.Bytes.{Bytes};
 ghost use Rattle.ged_link.specs.Indexes.{found_in, found_short};
 ghost use Rattle.ged_link.specs.inner.Indexes.{HasKey, HasNoOthers};
-ghost use Rattle.ged_link.specs.Slots.{kept_in};
+ghost use Rattle.ged_link.specs.Slots.{slot_in, kept_in};
 ghost use Rattle.ged_link.specs.NameNumbers.{number_up_to, number_within, short_number};
-ghost use Rattle.ged_link.specs.inner.Resolving.{AddsName};
-ghost use Rattle.ged_link.specs.inner.Slots.{HasNoSlot};
+ghost use Rattle.ged_link.specs.inner.Listing.{listed_name};
+ghost use Rattle.ged_link.specs.inner.Resolving.{AddsName, AddsRecord};
+ghost use Rattle.ged_link.specs.inner.Slots.{kept_at, HasNoSlot};
 
 use crate::index::RecordPlace;
 use crate::keys::{Keyed, KeyedNumbers};
+use crate::listing::ListedName;
 use crate::slots::Slots;
 use indexmap::IndexMap;
 use std::alloc::{AllocError, Global};
@@ -145,12 +148,27 @@ impl Names {
         self.long.get(name).copied()
     }
 
+    /// Keeps a record under a number in a slot. The answer is whether no record had the name that spells the number and asks for
+    /// the slot, or `None` where the slot is not the name's: then nothing is kept. Takes no memory.
+    #[inline(always)]
+    fn keep_in(&mut self, slot: usize, number: u64, found: RecordPlace) -> Option<bool>
+        requires { 0 < number }
+        ensures added { (name : Bytes) → short_number name ≡ Some number → slot_in self.old.slots.regions.items name ≡ slot
+            → IfSome result (AddsRecord self.old self.new (Some name) found) }
+        ensures same { result ≡ None → self.new ≡ self.old }
+        ensures missed { result ≡ None → kept_at self.old.slots slot number ≡ None }
+        ensures others { (self.new.short ≡ self.old.short) × (self.new.long ≡ self.old.long) }
+    {
+        match self.slots.keep(slot, number, found) {
+            Some(true) => Some(self.find_short(number).is_none()),
+            other => other,
+        }
+    }
+
     /// Keeps a record in the slot that its name asks for. The answer is whether no record had the name, or `None` where the name
     /// has no slot: then nothing is kept. Takes no memory.
-    #[inline(always)]
     pub(crate) fn keep(&mut self, name: &str, found: RecordPlace) -> Option<bool>
-        ensures is_new { IfSome result (λ is_new. is_new ≡ is_none (found_in self.old name.now)) }
-        ensures added { result ≡ Some true → AddsName self.old self.new name.now found }
+        ensures added { IfSome result (AddsRecord self.old self.new (Some name.now) found) }
         ensures same { result ≡ None → self.new ≡ self.old }
         ensures missed { result ≡ None → HasNoSlot self.old name.now }
         ensures others { (self.new.short ≡ self.old.short) × (self.new.long ≡ self.old.long) }
@@ -158,10 +176,24 @@ impl Names {
         let Some(number) = number_of(name) else {
             return None;
         };
-        match self.slots.keep(name, number, found) {
-            Some(true) => Some(self.find_short(number).is_none()),
-            other => other,
+        let slot = self.slots.slot(name);
+        self.keep_in(slot, number, found)
+    }
+
+    /// The same by what is listed of a record's name, without its text; `None` also where a name has no number. Of a record without
+    /// a name nothing is kept, and none had it.
+    #[inline(always)]
+    pub(crate) fn keep_listed(&mut self, listed: ListedName, found: RecordPlace) -> Option<bool>
+        ensures added { (xref : Option Bytes) → listed ≡ listed_name xref → IfSome result (AddsRecord self.old self.new xref found) }
+        ensures same { result ≡ None → self.new ≡ self.old }
+        ensures others { (self.new.short ≡ self.old.short) × (self.new.long ≡ self.old.long) }
+    {
+        if listed.number == 0 {
+            return if listed.digits == 0 { Some(true) } else { None };
         }
+        let first = (listed.number % 256) as u8;
+        let slot = self.slots.slot_behind(first, listed.digits);
+        self.keep_in(slot, listed.number, found)
     }
 
     /// Adds a record by its name, which has no slot, in the place of one with the same name. The answer is whether there was none.

@@ -1,5 +1,5 @@
 // Where the pointers of a document lead: the records that they name, and the links between records.
-ghost use Rattle.std.specs.Prelude.{◌≡◌, ◌<◌, ◌≤◌, ◌+◌, ◌⊎◌, ℕ, IfOk, IfErr, OnOk, length, nat_eq, ◌&&◌, ◌||◌, option_map, alloc_error};
+ghost use Rattle.std.specs.Prelude.{◌≡◌, ◌<◌, ◌≤◌, ◌+◌, ◌⊎◌, ℕ, false, IfOk, IfErr, OnOk, length, nat_eq, ◌&&◌, ◌||◌, option_map, alloc_error};
 ghost use Rattle.ged_tree.specs.Trees.{records_of, trees_count};
 ghost use Rattle.ged_tree.specs.Places.{structure_at};
 ghost use Rattle.ged_tree.specs.Runs.{trees_between, IsRun};
@@ -171,7 +171,7 @@ fn follow_record<F: Forest>(
     Ok(())
 }
 
-/// Which records some pointer names, and the links of all records; or the fault of the first pointer that names
+/// Which records some pointer names, and the links of all records, added to a list of none; or the fault of the first pointer that names
 /// no record.
 #[tactic(auto, using(crate::proofs::WalkLemmas::pairs))]
 pub(crate) fn follow_pointers<F: Forest>(
@@ -179,9 +179,11 @@ pub(crate) fn follow_pointers<F: Forest>(
     forest: &F,
     records: &Names,
     count: usize,
+    none: LinkLists,
 ) -> Result<(Followed, LinkLists), LinkFault>
     requires records { AreRecords (F.trees forest.now) records.now }
     requires count { count ≡ length (identifiers (records_of (F.trees forest.now))) }
+    requires none { (role : Role) (pair : ℕ × ℕ) → lists_have none role pair ≡ false }
     requires distinct { (place : ℕ) → IsRepeated (F.trees forest.now) place → ⊥ }
     ensures used { IfOk result (λ followed. AreUsed (F.trees forest.now) followed.0.used.items) }
     ensures targets { IfOk result (λ followed. AreTargets (F.trees forest.now) followed.0.targets.items) }
@@ -194,7 +196,7 @@ pub(crate) fn follow_pointers<F: Forest>(
     };
     let targets = Vec::new(alloc);
     let mut followed = Followed { used, targets };
-    let mut lists = LinkLists::new(alloc);
+    let mut lists = none;
     let end = end_of_all(forest);
     let mut place = 0;
     while let Some(after) = next_in_run(forest, place, end) {

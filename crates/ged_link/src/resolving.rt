@@ -1,26 +1,31 @@
 // Whether each pointer names one record, and the index of the records.
-ghost use Rattle.std.specs.Prelude.{◌≡◌, ◌⊎◌, ℕ, true, IfOk, IfErr, OnOk, length, alloc_error, is_none};
+ghost use Rattle.std.specs.Prelude.{◌≡◌, ◌<◌, ◌⊎◌, ℕ, true, false, IfOk, IfErr, OnOk, List, Option, None, map, length, alloc_error, is_none};
 ghost use Rattle.ged_tree.specs.Trees.{records_of, trees_count};
 ghost use Rattle.ged_tree.specs.Documents.{is_document};
+ghost use Rattle.ged_tree.specs.Places.{structure_at};
 ghost use Rattle.ged_tree.specs.Runs.{trees_between, IsRun};
 ghost use Rattle.ged_link.specs.Links.{Resolved, identifiers};
 ghost use Rattle.ged_link.specs.LinkFaults.{HasLinkFault, IsRepeated};
 ghost use Rattle.ged_link.specs.Places.{ArePlaces};
 ghost use Rattle.ged_link.specs.Indexes.{IsIndexOf, AreRecords, AreTyped, found_in};
-ghost use Rattle.ged_link.specs.inner.Indexes.{IsKeyed};
-ghost use Rattle.ged_link.specs.inner.Resolving.{AddsName};
+ghost use Rattle.ged_link.specs.inner.Indexes.{HasNoOthers, IsKeyed};
+ghost use Rattle.ged_link.specs.inner.Listing.{listed_name, listed_halves, listed_digits, AreTypesOf};
+ghost use Rattle.ged_link.specs.inner.PairSets.{lists_have};
+ghost use Rattle.ged_link.specs.inner.Resolving.{AddsName, AddsRecord};
 ghost use Rattle.ged_link.specs.inner.Slots.{HasNoSlot};
+ghost use Rattle.ged_link.specs.declared.pairs.Role.{Role};
 ghost use Rattle.ged_link.specs.declared.fault.LinkFault.TheVariants.{Memory};
 
 use crate::fault::LinkFault;
 use crate::index::{Index, RecordPlace};
 use crate::keys::names_key;
 use crate::layout::slots_for;
+use crate::link_lists::LinkLists;
 use crate::links::find_one_way;
+use crate::listing::{ListedName, RecordList, joined, list_records};
 use crate::names::Names;
-use crate::places::kept_place;
 use crate::pointers::follow_pointers;
-use crate::record_type::{RecordType, type_of};
+use crate::record_type::RecordType;
 use ged_tree::{Forest, end_of_all, next_in_run};
 use std::alloc::{AllocError, Global};
 
@@ -31,8 +36,8 @@ pub fn resolve<F: Forest>(alloc: Global, forest: &F) -> Result<Index, LinkFault>
     ensures index { IfOk result (λ index. IsIndexOf (F.trees forest.now) index) }
     ensures fault { IfErr result (λ fault. (fault ≡ Memory alloc_error) ⊎ HasLinkFault (F.trees forest.now) fault) }
 {
-    let (records, types, places) = find_records(alloc, forest)?;
-    let (followed, lists) = follow_pointers(alloc, forest, &records, types.len())?;
+    let (records, types, places, none) = find_records(alloc, forest)?;
+    let (followed, lists) = follow_pointers(alloc, forest, &records, types.len(), none)?;
     let Ok(one_way) = find_one_way(alloc, forest, &records, lists) else {
         return Err(LinkFault::Memory(AllocError));
     };
@@ -80,69 +85,124 @@ fn add_other<F: Forest>(
     records.insert(alloc, name, found)
 }
 
-/// Adds a record by its name, in the name's slot or else in a map. The answer is whether no record had the name. Grows.
-#[inline(always)]
-fn add_record<F: Forest>(
+/// Adds a record by its identifier, if it has one, which is read again.
+#[cold]
+#[inline(never)]
+fn add_by_xref<F: Forest>(
     alloc: Global,
     forest: &F,
     end: usize,
     records: &mut Names,
-    name: &str,
     found: RecordPlace,
 ) -> Result<bool, AllocError>
-    requires { IsRun (F.trees forest.now) found.place end }
-    ensures is_new { IfOk result (λ is_new. is_new ≡ is_none (found_in records.old name.now)) }
-    ensures added { IfOk result (λ is_new. is_new ≡ true → AddsName records.old records.new name.now found) }
+    requires within { found.place < trees_count (F.trees forest.now) }
+    requires run { IsRun (F.trees forest.now) found.place end }
+    ensures added { IfOk result (AddsRecord records.old records.new (structure_at (F.trees forest.now) found.place).xref found) }
     ensures keyed { IsKeyed (F.trees forest.now) end records.old → OnOk result (IsKeyed (F.trees forest.now) end records.new) }
 {
+    let Some(name) = forest.xref(found.place) else {
+        return Ok(true);
+    };
     if let Some(is_new) = records.keep(name, found) {
         return Ok(is_new);
     }
     add_other(alloc, forest, end, records, name, found)
 }
 
-/// The records by their identifiers, and the type and the place of each record; or the fault of the first record whose
-/// identifier an earlier one has.
+/// Adds a record by what is listed of its identifier, in the slot of that or else in a map. The answer is whether no record had
+/// it. Grows.
+#[inline(always)]
+fn add_record<F: Forest>(
+    alloc: Global,
+    forest: &F,
+    end: usize,
+    records: &mut Names,
+    listed: ListedName,
+    found: RecordPlace,
+) -> Result<bool, AllocError>
+    requires within { found.place < trees_count (F.trees forest.now) }
+    requires run { IsRun (F.trees forest.now) found.place end }
+    requires listed { listed ≡ listed_name (structure_at (F.trees forest.now) found.place).xref }
+    ensures added { IfOk result (AddsRecord records.old records.new (structure_at (F.trees forest.now) found.place).xref found) }
+    ensures keyed { IsKeyed (F.trees forest.now) end records.old → OnOk result (IsKeyed (F.trees forest.now) end records.new) }
+{
+    if let Some(is_new) = records.keep_listed(listed, found) {
+        return Ok(is_new);
+    }
+    add_by_xref(alloc, forest, end, records, found)
+}
+
+/// Adds all records, which are from a place up to the end, by what is listed of their identifiers; or the fault of the first record
+/// whose identifier an earlier one has. Only a record whose identifier finds no slot is looked at again.
+fn add_records<F: Forest>(
+    alloc: Global,
+    forest: &F,
+    start: usize,
+    end: usize,
+    list: &RecordList,
+    records: &mut Names,
+) -> Result<(), LinkFault>
+    requires run { IsRun (F.trees forest.now) start end }
+    requires all { trees_between (F.trees forest.now) start end ≡ records_of (F.trees forest.now) }
+    requires end { end ≡ trees_count (F.trees forest.now) }
+    requires document { is_document (F.trees forest.now) ≡ true }
+    requires names { list.now.names.items ≡ map listed_halves (identifiers (records_of (F.trees forest.now))) }
+    requires digits { list.now.digits.items ≡ map listed_digits (identifiers (records_of (F.trees forest.now))) }
+    requires none { (name : _) → found_in records.old name ≡ None }
+    requires others { HasNoOthers records.old }
+    ensures records { OnOk result (AreRecords (F.trees forest.now) records.new) }
+    ensures keyed { OnOk result (IsKeyed (F.trees forest.now) end records.new) }
+    ensures types { (types : List (Option RecordType)) → AreTypesOf types (records_of (F.trees forest.now)) → OnOk result (AreTyped (F.trees forest.now) records.new types) }
+    ensures distinct { OnOk result ((place : ℕ) → IsRepeated (F.trees forest.now) place → ⊥) }
+    ensures fault { IfErr result (λ fault. (fault ≡ Memory alloc_error) ⊎ HasLinkFault (F.trees forest.now) fault) }
+{
+    let mut place = start;
+    let mut number: usize = 0;
+    while let Some(after) = next_in_run(forest, place, end) {
+        let found = RecordPlace { number, place };
+        let listed = ListedName {
+            number: joined(list.names[number]),
+            digits: list.digits[number],
+        };
+        match add_record(alloc, forest, end, records, listed, found) {
+            Ok(true) => {}
+            Ok(false) => return Err(LinkFault::Duplicate(forest.line(place))),
+            Err(_) => return Err(LinkFault::Memory(AllocError)),
+        }
+        place = after;
+        number += 1;
+    }
+    Ok(())
+}
+
+/// The records by their identifiers, the type and the place of each record, and lists of no links, in the memory that the search took;
+/// or the fault of the first record whose identifier an earlier one has.
 fn find_records<F: Forest>(
     alloc: Global,
     forest: &F,
-) -> Result<(Names, Vec<Option<RecordType>>, Vec<u32>), LinkFault>
+) -> Result<(Names, Vec<Option<RecordType>>, Vec<u32>, LinkLists), LinkFault>
     ensures records { IfOk result (λ found. AreRecords (F.trees forest.now) found.0) }
     ensures keyed { IfOk result (λ found. IsKeyed (F.trees forest.now) (trees_count (F.trees forest.now)) found.0) }
     ensures types { IfOk result (λ found. AreTyped (F.trees forest.now) found.0 found.1.items) }
     ensures places { IfOk result (λ found. ArePlaces (F.trees forest.now) found.2.items) }
+    ensures none { IfOk result (λ found. (role : Role) (pair : ℕ × ℕ) → lists_have found.3 role pair ≡ false) }
     ensures count { IfOk result (λ found. length found.1.items ≡ length (identifiers (records_of (F.trees forest.now)))) }
     ensures document { is_document (F.trees forest.now) ≡ true }
     ensures distinct { IfOk result (λ _. (place : ℕ) → IsRepeated (F.trees forest.now) place → ⊥) }
     ensures fault { IfErr result (λ fault. (fault ≡ Memory alloc_error) ⊎ HasLinkFault (F.trees forest.now) fault) }
 {
     let end = end_of_all(forest);
-    let mut place = first_record(forest, end);
-    let Ok(slots) = slots_for(alloc, forest, place, end) else {
+    let start = first_record(forest, end);
+    let Ok(list) = list_records(alloc, forest, start, end) else {
+        return Err(LinkFault::Memory(AllocError));
+    };
+    let Ok(slots) = slots_for(alloc, &list.tallies) else {
         return Err(LinkFault::Memory(AllocError));
     };
     let mut records = Names::new(alloc, slots);
-    let mut types = Vec::new(alloc);
-    let mut places = Vec::new(alloc);
-    while let Some(after) = next_in_run(forest, place, end) {
-        if let Some(name) = forest.xref(place) {
-            let found = RecordPlace {
-                number: types.len(),
-                place,
-            };
-            match add_record(alloc, forest, end, &mut records, name, found) {
-                Ok(true) => {}
-                Ok(false) => return Err(LinkFault::Duplicate(forest.line(place))),
-                Err(_) => return Err(LinkFault::Memory(AllocError)),
-            }
-        }
-        let Ok(()) = places.push(kept_place(place)) else {
-            return Err(LinkFault::Memory(AllocError));
-        };
-        let Ok(()) = types.push(type_of(forest.tag(place))) else {
-            return Err(LinkFault::Memory(AllocError));
-        };
-        place = after;
+    if let Err(fault) = add_records(alloc, forest, start, end, &list, &mut records) {
+        return Err(fault);
     }
-    Ok((records, types, places))
+    let none = LinkLists::over(alloc, list.names, list.digits);
+    Ok((records, list.types, list.places, none))
 }

@@ -1,7 +1,7 @@
 // A table in which a record is found by the slot that its name asks for.
-ghost use Rattle.std.specs.Prelude.{◌≡◌, ◌<◌, ℕ, true, IfOk, IfSome, Some, None, is_none};
-ghost use Rattle.ged_link.specs.Slots.{number_read, brought_into, slot_in, kept_in};
-ghost use Rattle.ged_link.specs.inner.Slots.{KeepsIn};
+ghost use Rattle.std.specs.Prelude.{◌≡◌, ◌<◌, ℕ, true, IfOk, IfSome, Some, None, is_none, slice_index_or};
+ghost use Rattle.ged_link.specs.Slots.{number_read, brought_into, no_region, slot_within, slot_in, kept_in};
+ghost use Rattle.ged_link.specs.inner.Slots.{kept_at, KeepsIn};
 
 use crate::index::RecordPlace;
 use std::alloc::{AllocError, Global};
@@ -83,20 +83,26 @@ impl Slots {
         Ok(Slots { regions, entries })
     }
 
+    /// The slot that a name asks for, by its first byte and the number behind that.
+    #[inline(always)]
+    pub(crate) fn slot_behind(&self, first: u8, number: u32) -> usize
+        ensures { result ≡ slot_within (slice_index_or self.now.regions.items first no_region) number }
+    {
+        let region = self
+            .regions
+            .get(usize::from(first))
+            .copied()
+            .unwrap_or(NO_REGION);
+        region.start as usize + bring_into(region.room, number) as usize
+    }
+
     /// The slot that a name asks for.
     #[inline(always)]
-    fn slot(&self, name: &str) -> usize
+    pub(crate) fn slot(&self, name: &str) -> usize
         ensures { result ≡ slot_in self.now.regions.items name.now }
     {
         match name.as_bytes() {
-            [first, digits @ ..] => {
-                let region = self
-                    .regions
-                    .get(usize::from(*first))
-                    .copied()
-                    .unwrap_or(NO_REGION);
-                region.start as usize + bring_into(region.room, read_number(0, digits)) as usize
-            }
+            [first, digits @ ..] => self.slot_behind(*first, read_number(0, digits)),
             [] => 0,
         }
     }
@@ -117,17 +123,16 @@ impl Slots {
         }
     }
 
-    /// Keeps a record for a name, which spells this number, if the name's slot is free. The answer is whether it was, or whether
-    /// the slot is the name's own already: true and false; `None` where neither is so, or 32 bits do not hold the record.
+    /// Keeps a record in the slot of its name, which spells this number, if the slot is free. The answer is whether it was, or
+    /// whether it is the name's own already: true and false; `None` where neither is so, or 32 bits do not hold the record.
     #[inline(always)]
-    pub(crate) fn keep(&mut self, name: &str, number: u64, found: RecordPlace) -> Option<bool>
+    pub(crate) fn keep(&mut self, slot: usize, number: u64, found: RecordPlace) -> Option<bool>
         requires { 0 < number }
-        ensures kept { result ≡ Some true → KeepsIn self.old self.new name.now number found }
-        ensures is_new { IfSome result (λ is_new. is_new ≡ is_none (kept_in self.old name.now number)) }
+        ensures kept { result ≡ Some true → KeepsIn self.old self.new slot number found }
+        ensures is_new { IfSome result (λ is_new. is_new ≡ is_none (kept_at self.old slot number)) }
         ensures same { result ≡ None → self.new ≡ self.old }
-        ensures missed { result ≡ None → kept_in self.old name.now number ≡ None }
+        ensures missed { result ≡ None → kept_at self.old slot number ≡ None }
     {
-        let slot = self.slot(name);
         if slot >= self.entries.len() {
             return None;
         }

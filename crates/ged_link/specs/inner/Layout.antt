@@ -14,9 +14,12 @@ abbrev pub tallied : Tally → ℕ → Tally
 tallied tally number = record { count = min (tally.count + 1) 4294967295; greatest = max tally.greatest number }
 
 -- a name is counted by its first byte
+abbrev pub counted_at : List Tally → ℕ → ℕ → List Tally
+counted_at tallies first number = set tallies first (tallied (slice_index_or tallies first no_names) number)
+
 abbrev pub counted_name : List Tally → Bytes → List Tally
 counted_name tallies [] = tallies
-counted_name tallies (b ∷ bs) = set tallies b (tallied (slice_index_or tallies b no_names) (number_read 0 bs))
+counted_name tallies (b ∷ bs) = counted_at tallies b (number_read 0 bs)
 
 abbrev pub counted : List Tally → Option Bytes → List Tally
 counted tallies None = tallies

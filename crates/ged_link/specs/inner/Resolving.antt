@@ -1,6 +1,6 @@
 -- Nothing here need be believed: only private contracts and proofs cite it.
 -- How far the walks of resolving have come; only private functions cite this.
-use Rattle.std.specs.Prelude.{◌≡◌, ℕ, ◌<◌, Bool, true, false, List, Some, ◌↔◌, if◌then◌else◌, slice_index_or, length}
+use Rattle.std.specs.Prelude.{◌≡◌, ℕ, ◌<◌, Bool, true, false, List, Some, ◌↔◌, Option, None, is_none, if◌then◌else◌, slice_index_or, length}
 use Rattle.std.specs.Str.{bytes_eq}
 use Rattle.ged_line.specs.Bytes.{Bytes}
 use Rattle.ged_tree.specs.Trees.{Trees, records_of}
@@ -15,6 +15,11 @@ use Rattle.ged_link.specs.Indexes.{found_in, place_in, number_in}
 -- the records gain a name, and keep all others
 abbrev pub AddsName : Names → Names → Bytes → RecordPlace → Type 0
 AddsName old new name found = (other : Bytes) → found_in new other ≡ (if bytes_eq name other then Some found else found_in old other)
+
+-- the same of a record that may have no identifier; it is new where no record had its name
+abbrev pub AddsRecord : Names → Names → Option Bytes → RecordPlace → Bool → Type 0
+AddsRecord old new None found is_new = (is_new ≡ true) × (new ≡ old)
+AddsRecord old new (Some name) found is_new = (is_new ≡ is_none (found_in old name)) × (is_new ≡ true → AddsName old new name found)
 
 -- each identifier before a place, and those of so many records, and no other, has the number and the place of its record
 pub record AreRecordsBefore (d : Trees) (place number : ℕ) (records : Names) : Type 0 where

@@ -1,16 +1,20 @@
 -- Nothing here need be believed: only private contracts and proofs cite it.
-use Rattle.std.specs.Prelude.{◌≡◌, ℕ, ◌<◌, cond, Some, None, ◌&&◌, nat_eq}
+use Rattle.std.specs.Prelude.{◌≡◌, ℕ, ◌<◌, cond, Option, Some, None, ◌&&◌, nat_eq, slice_index_or}
 use Rattle.ged_line.specs.Bytes.{Bytes}
 use Rattle.ged_link.specs.declared.index.RecordPlace.{RecordPlace}
 use Rattle.ged_link.specs.declared.slots.Slots.{Slots}
 use Rattle.ged_link.specs.declared.names.Names.{Names}
 use Rattle.ged_link.specs.NameNumbers.{short_number}
-use Rattle.ged_link.specs.Slots.{slot_in, kept_in}
+use Rattle.ged_link.specs.Slots.{empty, kept_as, slot_in, kept_in}
 
--- a record is kept for a name and its number, and all others stay
-abbrev pub KeepsIn : Slots → Slots → Bytes → ℕ → RecordPlace → Type 0
-KeepsIn old new name number found = (other : Bytes) (n : ℕ) → 0 < n
-    → kept_in new other n ≡ cond (nat_eq number n && nat_eq (slot_in old.regions.items name) (slot_in old.regions.items other)) (Some found) (kept_in old other n)
+-- what is kept in a slot for a name that spells a number
+abbrev pub kept_at : Slots → ℕ → ℕ → Option RecordPlace
+kept_at slots slot number = kept_as (slice_index_or slots.entries.items slot empty) number
+
+-- a record is kept for a number in a slot, and all others stay
+abbrev pub KeepsIn : Slots → Slots → ℕ → ℕ → RecordPlace → Type 0
+KeepsIn old new slot number found = (other : Bytes) (n : ℕ) → 0 < n
+    → kept_in new other n ≡ cond (nat_eq number n && nat_eq slot (slot_in old.regions.items other)) (Some found) (kept_in old other n)
 
 -- nothing is kept in a slot for a name
 abbrev pub HasNoSlot : Names → Bytes → Type 0

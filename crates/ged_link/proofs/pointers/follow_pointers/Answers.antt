@@ -13,7 +13,7 @@ loop-after-init g c =
       whole = whole_end w c.end_of_all-end.result c.end_of_all-end.ensures.run c.end_of_all-end.ensures.all;
       run = c.end_of_all-end.ensures.run;
       used = followed_start w c.args.count _ (c.in-Ok.ensures.items_if_clones_equal (λ y e. e)) c.new-targets.ensures.items c.requires.count;
-      told = λ role pair. pairs_start (place_in c.args.records.now) role _ w pair (lists_have c.new-lists.result role pair) c.end_of_all-end.ensures.all (c.new-lists.ensures role pair);
+      told = λ role pair. pairs_start (place_in c.args.records.now) role _ w pair (lists_have c.args.none role pair) c.end_of_all-end.ensures.all (c.requires.none role pair);
     }
 
 pub returns-clause-used : goal.returns-clause-used

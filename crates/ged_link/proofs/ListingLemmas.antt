@@ -1,0 +1,108 @@
+-- What is listed of the records. Of a name it tells the number and the slot.
+use Rattle.std.proofs.Common.{◌≡◌, ℕ, suc, ◌+◌, ◌*◌, ◌/◌, ◌%◌, arith, drop, [], ◌∷◌, ◌++◌, List, Option, Some, None, refl, sym, ap, ◌∙◌, subst, map, fold, length, append_assoc, slice_index_or}
+use Rattle.std.proofs.lemmas.List.{append-nil}
+use Rattle.ged_line.specs.Bytes.{Bytes}
+use Rattle.ged_tree.specs.Trees.{Structure, Trees, none, tree}
+use Rattle.ged_link.specs.Links.{identifiers}
+use Rattle.ged_link.specs.NameNumbers.{short_number}
+use Rattle.ged_link.specs.RecordTypes.{IsTypeOf}
+use Rattle.ged_link.specs.Slots.{number_read, no_region, slot_within, slot_in}
+use Rattle.ged_link.specs.inner.Layout.{counted}
+use Rattle.ged_link.specs.inner.Listing.{listed_with, listed_name, listed_halves, listed_digits, AreTypesOf}
+use Rattle.ged_link.specs.declared.layout.Tally.{Tally}
+use Rattle.ged_link.specs.declared.listing.ListedName.{ListedName}
+use Rattle.ged_link.specs.declared.record_type.RecordType.{RecordType}
+use Rattle.ged_link.specs.declared.slots.Region.{Region}
+use Rattle.ged_link.proofs.NameLemmas.{first_byte, above}
+use Rattle.ged_link.proofs.RecordLemmas.{left_first, left_next}
+
+-- a name of which this is listed
+pub record IsListed (listed : ListedName) (xref : Option Bytes) : Type 0 where
+  pub name : Bytes
+  pub is : xref ≡ Some name
+  pub number : short_number name ≡ Some listed.number
+  pub slot : (regions : List Region) → slot_in regions name ≡ slot_within (slice_index_or regions (listed.number % 256) no_region) listed.digits
+
+pub is_listed : (listed : ListedName) (xref : Option Bytes) → listed ≡ listed_name xref → (listed.number ≡ 0 → ⊥) → IsListed listed xref
+is_listed listed None e some = absurd (some (ap (λ (l : ListedName). l.number) e))
+is_listed listed (Some []) e some = absurd (some (ap (λ (l : ListedName). l.number) e))
+is_listed listed (Some (b ∷ bs)) e some = go (short_number (b ∷ bs)) refl e
+  where
+    go : (o : Option ℕ) → short_number (b ∷ bs) ≡ o → listed ≡ listed_with (number_read 0 bs) o → IsListed listed (Some (b ∷ bs))
+    go None k is = absurd (some (ap (λ (l : ListedName). l.number) is))
+    go (Some number) k is =
+        let number_is : number ≡ listed.number = sym (ap (λ (l : ListedName). l.number) is) in
+        let digits_are : number_read 0 bs ≡ listed.digits = sym (ap (λ (l : ListedName). l.digits) is) in
+        let first : b ≡ listed.number % 256 = first_byte b bs number k ∙ ap (λ (n : ℕ). n % 256) number_is in
+        record {
+          name = b ∷ bs;
+          is = refl;
+          number = k ∙ ap Some number_is;
+          slot = λ regions. ap (λ (byte : ℕ). slot_within (slice_index_or regions byte no_region) (number_read 0 bs)) first
+              ∙ ap (slot_within (slice_index_or regions (listed.number % 256) no_region)) digits_are;
+        }
+
+-- where zeros are listed there is no name
+pub is_unnamed : (listed : ListedName) (xref : Option Bytes) → listed ≡ listed_name xref → listed.number ≡ 0 → listed.digits ≡ 0 → xref ≡ None
+is_unnamed listed None e number digits = refl
+is_unnamed listed (Some []) e number digits = absurd (omega (arith, digits, ap (λ (l : ListedName). l.digits) e))
+is_unnamed listed (Some (b ∷ bs)) e number digits = go (short_number (b ∷ bs)) refl e
+  where
+    go : (o : Option ℕ) → short_number (b ∷ bs) ≡ o → listed ≡ listed_with (number_read 0 bs) o → Some (b ∷ bs) ≡ None
+    go None k is = absurd (omega (arith, digits, ap (λ (l : ListedName). l.digits) is))
+    go (Some n) k is = absurd (omega (arith, above (b ∷ bs) n k, number, ap (λ (l : ListedName). l.number) is))
+
+-- one more name is counted and listed; those that are left
+module _ (pushed xref : Option Bytes) (same : pushed ≡ xref) (left more : List (Option Bytes)) (is : left ≡ xref ∷ more) where
+  pub tallies_more : (old new all : List Tally) → new ≡ counted old pushed → fold counted old left ≡ all → fold counted new more ≡ all
+  tallies_more old new all counts before = ap (λ (ts : List Tally). fold counted ts more) (counts ∙ ap (counted old) same) ∙ sym (ap (fold counted old) is) ∙ before
+
+  pub listed_more : {X : Type 0} (list : Option Bytes → X) (old new all : List X) → new ≡ old ++ list pushed ∷ [] → old ++ map list left ≡ all → new ++ map list more ≡ all
+  listed_more {X} list old new all lists before =
+      ap (λ (ns : List X). ns ++ map list more) (lists ∙ ap (λ (x : Option Bytes). old ++ list x ∷ []) same)
+      ∙ append_assoc old (list xref ∷ []) (map list more)
+      ∙ sym (ap (λ (xs : List (Option Bytes)). old ++ map list xs) is)
+      ∙ before
+
+-- one more type, and those that are left
+pub types_more : (types : List (Option RecordType)) (known : Option RecordType) (tag : Bytes) (left : Trees) (s : Structure) (below next all : Trees) → left ≡ tree s below next → IsTypeOf known tag → tag ≡ s.tag
+    → ((more : List (Option RecordType)) → AreTypesOf more left → AreTypesOf (types ++ more) all) → (more : List (Option RecordType)) → AreTypesOf more next → AreTypesOf ((types ++ known ∷ []) ++ more) all
+types_more types known tag left s below next all is of_type same before more are =
+    subst (λ (ts : List (Option RecordType)). AreTypesOf ts all) (sym (append_assoc types (known ∷ []) more))
+    (before (known ∷ more) (subst (AreTypesOf (known ∷ more)) (sym is) (subst (IsTypeOf known) same of_type, are)))
+
+pub types_all : (types : List (Option RecordType)) (left all : Trees) → left ≡ none → ((more : List (Option RecordType)) → AreTypesOf more left → AreTypesOf (types ++ more) all) → AreTypesOf types all
+types_all types left all ends are = subst (λ (ts : List (Option RecordType)). AreTypesOf ts all) (append-nil types) (are [] (subst (AreTypesOf []) (sym ends) tt))
+
+pub types_long : (types : List (Option RecordType)) (all : Trees) → AreTypesOf types all → length types ≡ length (identifiers all)
+types_long [] none are = refl
+types_long [] (tree s below next) are = absurd are
+types_long (known ∷ more) none are = absurd are
+types_long (known ∷ more) (tree s below next) are = ap suc (types_long more next are.1)
+
+-- the type of the next record, and those that are left
+pub types_next : (types : List (Option RecordType)) (k : ℕ) (left : Trees) (s : Structure) (below next : Trees) → left ≡ tree s below next → AreTypesOf (drop k types) left
+    → IsTypeOf (slice_index_or types k None) s.tag × AreTypesOf (drop (k + 1) types) next
+types_next types k left s below next is are = go (drop k types) refl (subst (AreTypesOf (drop k types)) is are)
+  where
+    go : (ts : List (Option RecordType)) → drop k types ≡ ts → AreTypesOf ts (tree s below next) → IsTypeOf (slice_index_or types k None) s.tag × AreTypesOf (drop (k + 1) types) next
+    go [] e h = absurd h
+    go (known ∷ more) e h = (
+      subst (λ (t : Option RecordType). IsTypeOf t s.tag) (sym (left_first types k known more e None)) h.0,
+      subst (λ (ts : List (Option RecordType)). AreTypesOf ts next) (sym (left_next types k known more e)) h.1,
+    )
+
+-- what is listed of the next record, by the halves of its number
+pub listed_here : (names : List (ℕ × ℕ)) (digits : List ℕ) (k : ℕ) (xref : Option Bytes) (more : List (Option Bytes)) → drop k names ≡ map listed_halves (xref ∷ more) → drop k digits ≡ map listed_digits (xref ∷ more)
+    → (number read : ℕ) (at : ℕ × ℕ) → at ≡ slice_index_or names k (0, 0) → number ≡ at.0 + at.1 * 4294967296 → read ≡ slice_index_or digits k 0 → ◌≡◌ {A = ListedName} (record { number = number; digits = read }) (listed_name xref)
+listed_here names digits k xref more left left_digits number read at at_is joins read_is =
+    let whole = (listed_name xref).number in
+    let pair : at ≡ (whole % 4294967296, whole / 4294967296) = at_is ∙ left_first names k (listed_halves xref) (map listed_halves more) left (0, 0) in
+    let low : at.0 ≡ whole % 4294967296 = ap (λ (p : ℕ × ℕ). p.0) pair in
+    let high : at.1 ≡ whole / 4294967296 = ap (λ (p : ℕ × ℕ). p.1) pair in
+    let same : number ≡ whole = whole_of number whole at.0 at.1 joins low high in
+    let same_digits : read ≡ (listed_name xref).digits = read_is ∙ left_first digits k (listed_digits xref) (map listed_digits more) left_digits 0 in
+    ap (λ (n : ℕ). record { number = n; digits = read }) same ∙ ap (λ (r : ℕ). record { number = whole; digits = r }) same_digits
+  where
+    whole_of : (number whole low high : ℕ) → number ≡ low + high * 4294967296 → low ≡ whole % 4294967296 → high ≡ whole / 4294967296 → number ≡ whole
+    whole_of number whole low high a b c = omega (arith, a, b, c)

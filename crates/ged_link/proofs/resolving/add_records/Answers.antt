@@ -1,0 +1,88 @@
+use Rattle.std.proofs.Common.{◌+◌, None, true, false, inr, inl, sym, ap, ◌∙◌, refl, arith, subst, map, slice_index_or, drop}
+use Rattle.ged_tree.specs.Places.{structure_at}
+use Rattle.ged_tree.specs.Trees.{Trees}
+use Rattle.ged_tree.specs.Documents.{are_at}
+use Rattle.ged_tree.specs.Runs.{trees_between, IsStep}
+use Rattle.ged_link.specs.Links.{identifiers}
+use Rattle.ged_link.specs.declared.names.Names.{Names}
+use Rattle.ged_link.specs.declared.index.RecordPlace.{RecordPlace}
+use Rattle.ged_link.specs.RecordTypes.{IsTypeOf}
+use Rattle.ged_link.specs.inner.Listing.{listed_halves, listed_digits, AreTypesOf}
+use Rattle.ged_link.specs.inner.Resolving.{AddsRecord}
+use Rattle.ged_link.proofs.ListingLemmas.{types_next}
+use Rattle.ged_link.proofs.RecordLemmas.{left_next, left_after, level_next, number_within, records_start, records_level, records_next, records_all, repeated_here, none_repeated_all, typed_start, typed_next}
+use Rattle.ged_link.proofs.resolving.add_records.Goals as goal
+
+pub loop-after-init : goal.loop-after-init
+loop-after-init g c =
+    let w = g.F.Forest.trees c.args.forest.now in
+    let is = c.requires.all in
+    record {
+      run = c.requires.run;
+      level = ap (are_at 0) is ∙ records_level w c.requires.document;
+      left = ap identifiers (sym is);
+      names = c.requires.names ∙ ap (λ (t : Trees). map listed_halves (identifiers t)) (sym is);
+      digits = c.requires.digits ∙ ap (λ (t : Trees). map listed_digits (identifiers t)) (sym is);
+      few = omega arith;
+      fits = omega arith;
+      found = records_start w c.requires.document c.args.start c.args.end c.requires.end c.requires.run is c.args.records.now c.requires.none;
+      typed = λ types are. (subst (AreTypesOf types) (sym is) are, typed_start w c.args.records.now types c.requires.none);
+      keyed = inl c.requires.others;
+    }
+
+pub returns-in-Ok-false-clause-fault : goal.returns-in-Ok-false-clause-fault
+returns-in-Ok-false-clause-fault g c =
+    let w = g.F.Forest.trees c.args.forest.now in
+    let p = c.loop-after.place in
+    let k = c.loop-after.number in
+    let old : Names = c.loop-after.records in
+    let new : Names = c.add_record.new.records in
+    let one : RecordPlace = record { number = k; place = p } in
+    let adds : AddsRecord old new (structure_at w p).xref one false = subst (AddsRecord old new (structure_at w p).xref one) c.in-Ok-false.field-0-test c.in-Ok-false.ensures.added in
+    inr (p, repeated_here w p k old new one adds c.in-Some.ensures.within c.loop-after.invariant.found, c.line.ensures)
+
+pub loop-after-preserved : goal.loop-after-preserved
+loop-after-preserved g c =
+    let w = g.F.Forest.trees c.args.forest.now in
+    let p = c.loop-after.place in
+    let e = c.args.end in
+    let a = c.in-Some.after in
+    let k = c.loop-after.number in
+    let inv = c.loop-after.invariant in
+    let old : Names = c.loop-after.records in
+    let new : Names = c.add_record.new.records in
+    let one : RecordPlace = record { number = k; place = p } in
+    let step : IsStep w p e a = c.in-Some.ensures in
+    let here = structure_at w p in
+    let adds : AddsRecord old new here.xref one true = subst (AddsRecord old new here.xref one) c.in-Ok-true.field-0-test c.in-Ok-true.ensures.added in
+    record {
+      run = step.rest;
+      level = level_next w p e a k step inv.left inv.level;
+      left = left_after w p e a k step inv.left;
+      names = left_next c.args.list.now.names.items k (listed_halves here.xref) (map listed_halves (identifiers (trees_between w a e))) (inv.names ∙ ap (λ (t : Trees). map listed_halves (identifiers t)) step.first);
+      digits = left_next c.args.list.now.digits.items k (listed_digits here.xref) (map listed_digits (identifiers (trees_between w a e))) (inv.digits ∙ ap (λ (t : Trees). map listed_digits (identifiers t)) step.first);
+      few = number_within w p e a k step inv.left;
+      fits = omega (arith, inv.fits, step.forth);
+      found = records_next w p e a k step inv.left inv.level old new one refl refl adds inv.found;
+      typed = λ types are.
+          let before = inv.typed types are in
+          let next : IsTypeOf (slice_index_or types k None) here.tag × AreTypesOf (drop (k + 1) types) (trees_between w a e) =
+          types_next types k (trees_between w p e) here (trees_between w (p + 1) a) (trees_between w a e) step.first before.0 in
+          (next.1, typed_next w p e a k step inv.left inv.level old new types one refl refl next.0 adds before.1);
+      keyed = c.in-Ok-true.ensures.keyed inv.keyed;
+    }
+
+pub returns-clause-records : goal.returns-clause-records
+returns-clause-records g c =
+    let w = g.F.Forest.trees c.args.forest.now in
+    let inv = c.loop-after.invariant in
+    records_all w c.loop-after.place c.loop-after.number c.args.end c.loop-after.records c.requires.end inv.run c.in_default.ensures inv.left inv.found
+
+pub returns-clause-types : goal.returns-clause-types
+returns-clause-types g c types are = (c.loop-after.invariant.typed types are).1
+
+pub returns-clause-distinct : goal.returns-clause-distinct
+returns-clause-distinct g c =
+    let w = g.F.Forest.trees c.args.forest.now in
+    let inv = c.loop-after.invariant in
+    none_repeated_all w c.loop-after.place c.loop-after.number c.args.end c.loop-after.records c.requires.end inv.run c.in_default.ensures inv.found

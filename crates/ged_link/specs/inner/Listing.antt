@@ -1,0 +1,44 @@
+-- Nothing here need be believed: only private contracts and proofs cite it.
+-- What the walk over the records lists of each of them.
+use Rattle.std.specs.Prelude.{ℕ, ◌/◌, ◌%◌, List, [], ◌∷◌, Option, Some, None, ⊤}
+use Rattle.ged_line.specs.Bytes.{Bytes}
+use Rattle.ged_tree.specs.Trees.{Trees, none, tree}
+use Rattle.ged_link.specs.NameNumbers.{short_number}
+use Rattle.ged_link.specs.Slots.{number_read}
+use Rattle.ged_link.specs.RecordTypes.{IsTypeOf}
+use Rattle.ged_link.specs.declared.listing.ListedName.{ListedName}
+use Rattle.ged_link.specs.declared.record_type.RecordType.{RecordType}
+
+-- of a record without a name, and of a name that spells no number
+abbrev pub no_name : ListedName
+no_name = record { number = 0; digits = 0 }
+
+abbrev pub no_number : ListedName
+no_number = record { number = 0; digits = 1 }
+
+abbrev pub listed_with : ℕ → Option ℕ → ListedName
+listed_with digits None = no_number
+listed_with digits (Some number) = record { number = number; digits = digits }
+
+abbrev pub listed_text : Bytes → ListedName
+listed_text [] = no_number
+listed_text (b ∷ bs) = listed_with (number_read 0 bs) (short_number (b ∷ bs))
+
+-- what is listed of a record's name: its number, which is never 0, and the one behind its first byte
+abbrev pub listed_name : Option Bytes → ListedName
+listed_name None = no_name
+listed_name (Some name) = listed_text name
+
+-- the same in words of 32 bits: the low and the high half of the number
+abbrev pub listed_halves : Option Bytes → ℕ × ℕ
+listed_halves xref = ((listed_name xref).number % 4294967296, (listed_name xref).number / 4294967296)
+
+abbrev pub listed_digits : Option Bytes → ℕ
+listed_digits xref = (listed_name xref).digits
+
+-- the types of trees side by side, one for each
+abbrev pub AreTypesOf : List (Option RecordType) → Trees → Type 0
+AreTypesOf [] none = ⊤
+AreTypesOf [] (tree s below next) = ⊥
+AreTypesOf (known ∷ more) none = ⊥
+AreTypesOf (known ∷ more) (tree s below next) = IsTypeOf known s.tag × AreTypesOf more next

@@ -1,0 +1,163 @@
+// What one walk over the records tells of all of them: enough to keep each in its slot without another look at its text.
+ghost use Rattle.std.specs.Prelude.{◌≡◌, ◌+◌, ◌*◌, ◌/◌, ◌%◌, ◌++◌, ◌∷◌, [], IfOk, OnOk, fold, map, replicate};
+ghost use Rattle.std.specs.Option.{option_copied};
+ghost use Rattle.ged_tree.specs.Trees.{records_of};
+ghost use Rattle.ged_tree.specs.Runs.{trees_between, IsRun};
+ghost use Rattle.ged_link.specs.Links.{identifiers};
+ghost use Rattle.ged_link.specs.Places.{ArePlaces};
+ghost use Rattle.ged_link.specs.inner.Layout.{counted, no_names};
+ghost use Rattle.ged_link.specs.inner.Listing.{listed_name, listed_halves, listed_digits, AreTypesOf};
+
+use crate::layout::{Tally, count_name, no_tallies};
+use crate::names::number_of;
+use crate::places::kept_place;
+use crate::record_type::{RecordType, type_of};
+use crate::slots::read_number;
+use ged_tree::{Forest, next_in_run};
+use std::alloc::{AllocError, Global};
+
+/// What a name's slot is found by: the number that the name spells ([`crate::names::number_of`]), whose lowest byte is the name's
+/// first, and the number behind that byte. Both are 0 where a record has no name; of a name that spells no number they are 0 and 1.
+#[derive(Clone, Copy)]
+pub(crate) struct ListedName {
+    pub(crate) number: u64,
+    pub(crate) digits: u32,
+}
+
+/// Of a record without a name.
+const NO_NAME: ListedName = ListedName {
+    number: 0,
+    digits: 0,
+};
+
+/// Of a name that spells no number.
+const NO_NUMBER: ListedName = ListedName {
+    number: 0,
+    digits: 1,
+};
+
+/// What is told of the records, by their numbers.
+///
+/// What is listed of the names stands in two vectors whose elements are those of [`crate::link_lists::Links`], which takes over their
+/// memory: to give back so large a block and ask for others makes an allocator copy these as they grow.
+#[derive(Drop)]
+pub(crate) struct RecordList {
+    /// How many names begin with each byte.
+    pub(crate) tallies: Vec<Tally>,
+    /// The numbers of the names, each by its low and its high half.
+    pub(crate) names: Vec<(u32, u32)>,
+    /// The numbers behind their first bytes.
+    pub(crate) digits: Vec<u32>,
+    pub(crate) types: Vec<Option<RecordType>>,
+    /// As they are kept ([`kept_place`]).
+    pub(crate) places: Vec<u32>,
+}
+
+/// Counts the name of a record. The answer is what is listed of it.
+#[inline(always)]
+fn list_name(tallies: &mut Vec<Tally>, xref: Option<&str>) -> ListedName
+    ensures counted { tallies.new.items ≡ counted tallies.old.items (option_copied xref.entry) }
+    ensures listed { result ≡ listed_name (option_copied xref.entry) }
+{
+    let Some(name) = xref else {
+        return NO_NAME;
+    };
+    let [first, digits @ ..] = name.as_bytes() else {
+        return NO_NUMBER;
+    };
+    let digits = read_number(0, digits);
+    count_name(tallies, *first, digits);
+    match number_of(name) {
+        Some(number) => ListedName { number, digits },
+        None => NO_NUMBER,
+    }
+}
+
+/// The low and the high half of a number.
+#[inline(always)]
+fn halves(number: u64) -> (u32, u32)
+    ensures { result ≡ (number % 4294967296, number / 4294967296) }
+{
+    (
+        (number % 0x1_0000_0000) as u32,
+        (number / 0x1_0000_0000) as u32,
+    )
+}
+
+/// The number that has these halves.
+#[inline(always)]
+pub(crate) fn joined(halves: (u32, u32)) -> u64
+    ensures { result ≡ halves.0 + halves.1 * 4294967296 }
+{
+    let (low, high) = halves;
+    u64::from(low) + u64::from(high) * 0x1_0000_0000
+}
+
+impl RecordList {
+    /// Of no records.
+    fn new(alloc: Global) -> Result<RecordList, AllocError>
+        ensures tallies { IfOk result (λ list. list.tallies.items ≡ replicate 256 no_names) }
+        ensures names { IfOk result (λ list. list.names.items ≡ []) }
+        ensures digits { IfOk result (λ list. list.digits.items ≡ []) }
+        ensures types { IfOk result (λ list. list.types.items ≡ []) }
+        ensures places { IfOk result (λ list. list.places.items ≡ []) }
+    {
+        Ok(RecordList {
+            tallies: no_tallies(alloc)?,
+            names: Vec::new(alloc),
+            digits: Vec::new(alloc),
+            types: Vec::new(alloc),
+            places: Vec::new(alloc),
+        })
+    }
+
+    /// One more record. Grows.
+    #[inline(always)]
+    fn push(
+        &mut self,
+        xref: Option<&str>,
+        record_type: Option<RecordType>,
+        place: u32,
+    ) -> Result<(), AllocError>
+        ensures tallies { OnOk result (self.new.tallies.items ≡ counted self.old.tallies.items (option_copied xref.entry)) }
+        ensures names { OnOk result (self.new.names.items ≡ self.old.names.items ++ listed_halves (option_copied xref.entry) ∷ []) }
+        ensures digits { OnOk result (self.new.digits.items ≡ self.old.digits.items ++ listed_digits (option_copied xref.entry) ∷ []) }
+        ensures types { OnOk result (self.new.types.items ≡ self.old.types.items ++ record_type ∷ []) }
+        ensures places { OnOk result (self.new.places.items ≡ self.old.places.items ++ place ∷ []) }
+    {
+        let name = list_name(&mut self.tallies, xref);
+        self.names.push(halves(name.number))?;
+        self.digits.push(name.digits)?;
+        self.types.push(record_type)?;
+        self.places.push(place)?;
+        Ok(())
+    }
+}
+
+/// The list of the records, which are from a place up to an end. Grows.
+pub(crate) fn list_records<F: Forest>(
+    alloc: Global,
+    forest: &F,
+    start: usize,
+    end: usize,
+) -> Result<RecordList, AllocError>
+    requires run { IsRun (F.trees forest.now) start end }
+    requires records { trees_between (F.trees forest.now) start end ≡ records_of (F.trees forest.now) }
+    ensures tallies { IfOk result (λ list. list.tallies.items ≡ fold counted (replicate 256 no_names) (identifiers (records_of (F.trees forest.now)))) }
+    ensures names { IfOk result (λ list. list.names.items ≡ map listed_halves (identifiers (records_of (F.trees forest.now)))) }
+    ensures digits { IfOk result (λ list. list.digits.items ≡ map listed_digits (identifiers (records_of (F.trees forest.now)))) }
+    ensures types { IfOk result (λ list. AreTypesOf list.types.items (records_of (F.trees forest.now))) }
+    ensures places { IfOk result (λ list. ArePlaces (F.trees forest.now) list.places.items) }
+{
+    let mut list = RecordList::new(alloc)?;
+    let mut place = start;
+    while let Some(after) = next_in_run(forest, place, end) {
+        list.push(
+            forest.xref(place),
+            type_of(forest.tag(place)),
+            kept_place(place),
+        )?;
+        place = after;
+    }
+    Ok(list)
+}
