@@ -1,5 +1,6 @@
 pub mod CanonBytes
 pub mod Orders
+pub mod Ranks
 pub mod Runs
 pub mod Siblings
 pub mod StepParts

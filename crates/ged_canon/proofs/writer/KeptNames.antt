@@ -8,7 +8,7 @@ use Rattle.ged_link.specs.Indexes.{IsIndexOf}
 use Rattle.ged_schema.specs.declared.context.Context.TheVariants.{File}
 use Rattle.ged_schema.specs.Checked.{Checked}
 use Rattle.ged_canon.specs.declared.edition.Edition.{Edition}
-use Rattle.ged_canon.specs.declared.writer.siblings.Sibling.{Sibling}
+use Rattle.ged_canon.specs.declared.writer.rank.RankedSibling.{RankedSibling}
 use Rattle.ged_canon.specs.inner.StepParts.{renamed_xref}
 use Rattle.ged_canon.specs.Tidy.{IsTidyForm}
 use Rattle.ged_canon.specs.CanonText.{CanonText}
@@ -35,7 +35,7 @@ unnumbered d index h = (h, record { known = λ name k. absurd k; each = λ numbe
 pub sorted_stands : (edition : Edition) (d : Trees) → is_document d ≡ true → Checked d → is_document (sorted_document edition d) ≡ true
 sorted_stands edition d v h = ends_in_document d (sorted_document edition d) v (in_place edition d (sorted_document edition d) (sorted_is_tidy_form edition d v h).equivalent)
 
-module _ (edition : Edition) (d : Trees) (xs : List Sibling) (listed : sibling_trees each_used edition File d xs ≡ sorted_document edition (used_trees each_used d)) where
+module _ (edition : Edition) (d : Trees) (xs : List RankedSibling) (listed : sibling_trees each_used edition File d xs ≡ sorted_document edition (used_trees each_used d)) where
   pub kept_listed : sibling_trees each_used edition File d xs ≡ sorted_document edition d
   kept_listed = listed ∙ ap (sorted_document edition) (all_kept d)
 

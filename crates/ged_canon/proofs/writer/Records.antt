@@ -1,5 +1,5 @@
 -- HEAD and the records as siblings: their names, their numbers and their lines.
-use Rattle.std.proofs.Common.{◌≡◌, ℕ, ◌+◌, ◌<◌, Bool, true, false, cond, ◌&&◌, List, [], ◌∷◌, ◌++◌, Option, Some, None, length, drop, get_or, refl, sym, ap, ◌∙◌, subst, inl, inr, append_assoc, append-nil, add-one, drop-cons, arith}
+use Rattle.std.proofs.Common.{◌≡◌, ℕ, ◌+◌, ◌<◌, Bool, true, false, cond, ◌&&◌, List, [], ◌∷◌, ◌++◌, Option, Some, None, drop, refl, sym, ap, ◌∙◌, subst, inl, inr, append_assoc, append-nil, arith}
 use Rattle.std.specs.Prelude.{bytes_eq}
 use Rattle.std.proofs.lemmas.Bool.{and_parts, and_from, false≢true}
 use Rattle.ged_line.specs.Bytes.{Bytes, line_feed}
@@ -21,13 +21,13 @@ use Rattle.ged_schema.specs.declared.context.Context.TheVariants.{File}
 use Rattle.ged_schema.specs.Tables.{row, context_below}
 use Rattle.ged_schema.specs.Checked.{Checked}
 use Rattle.ged_canon.specs.declared.edition.Edition.{Edition}
-use Rattle.ged_canon.specs.declared.writer.siblings.Sibling.{Sibling}
+use Rattle.ged_canon.specs.declared.writer.rank.RankedSibling.{RankedSibling}
 use Rattle.ged_canon.specs.Steps.{renamed}
 use Rattle.ged_canon.specs.inner.StepParts.{renamed_structure, renamed_xref}
 use Rattle.ged_canon.specs.Normal.{numbered, IsNormalForm}
 use Rattle.ged_canon.specs.CanonText.{CanonText}
 use Rattle.ged_canon.specs.inner.Working.{is_named, used_xref, used_structure, used_trees, used_document, brief_structure, sorted, sorted_document, number_among, number_of, canon}
-use Rattle.ged_canon.specs.inner.Siblings.{sibling_structure, sibling_trees, sibling_names}
+use Rattle.ged_canon.specs.inner.Siblings.{unranked, sibling_structure, sibling_trees, sibling_names}
 use Rattle.ged_canon.specs.inner.Writing.{brief_sibling, renamed_sibling}
 use Rattle.ged_canon.specs.inner.CanonBytes.{AreNamed, number_at, numbered_siblings, spelled_siblings}
 use Rattle.ged_canon.proofs.theory.Texts.{same_bytes, equal_bytes}
@@ -47,7 +47,7 @@ use Rattle.ged_canon.proofs.writer.OwnLines.{spelled_append, lines_with}
 -- The siblings of a document.
 
 -- HEAD and the records behind it, in order, are the document in order
-pub document_listed : (used : Bytes → Bool) (edition : Edition) (d : Trees) (end after : ℕ) (head : Sibling) (records : List Sibling) → trees_between d 0 end ≡ d → IsRun d 0 end → IsStep d 0 end after
+pub document_listed : (used : Bytes → Bool) (edition : Edition) (d : Trees) (end after : ℕ) (head : RankedSibling) (records : List RankedSibling) → trees_between d 0 end ≡ d → IsRun d 0 end → IsStep d 0 end after
     → head.place ≡ 0 → head.tag.now ≡ (structure_at d 0).tag
     → sibling_trees used edition File d records ≡ sorted edition File (used_trees used (trees_between d after end))
     → sibling_trees used edition File d (head ∷ records) ≡ sorted_document edition (used_trees used d)
@@ -65,12 +65,12 @@ records_listed d end after all step = ap records_of (sym step.first ∙ all)
 
 -- Names.
 
-sibling_xrefs : (edition : Edition) (context : Context) (d : Trees) (xs : List Sibling) → xrefs (sibling_trees (is_named d) edition context d xs) ≡ sibling_names d xs
+sibling_xrefs : (edition : Edition) (context : Context) (d : Trees) (xs : List RankedSibling) → xrefs (sibling_trees (is_named d) edition context d xs) ≡ sibling_names d xs
 sibling_xrefs edition context d [] = refl
 sibling_xrefs edition context d (x ∷ xs) = ap (with_xref (used_xref (is_named d) (structure_at d x.place).xref)) (sibling_xrefs edition context d xs)
 
 -- the names of a document's siblings are the identifiers that it keeps, in order
-pub names_listed : (edition : Edition) (d : Trees) (xs : List Sibling) → sibling_trees (is_named d) edition File d xs ≡ sorted_document edition (used_document d)
+pub names_listed : (edition : Edition) (d : Trees) (xs : List RankedSibling) → sibling_trees (is_named d) edition File d xs ≡ sorted_document edition (used_document d)
     → sibling_names d xs ≡ xrefs (sorted_document edition (used_document d))
 names_listed edition d xs e = sym (sibling_xrefs edition File d xs) ∙ ap xrefs e
 
@@ -124,7 +124,7 @@ at_top : (x : Option Bytes) → is_xref_at 0 x ≡ true → may_be_xref x ≡ tr
 at_top None h = refl
 at_top (Some name) h = h
 
-module _ (used : Bytes → Bool) (edition : Edition) (d : Trees) (sibling : Sibling) (rest : List Sibling) (h : are_at 0 (sibling_trees used edition File d (sibling ∷ rest)) ≡ true) where
+module _ (used : Bytes → Bool) (edition : Edition) (d : Trees) (sibling : RankedSibling) (rest : List RankedSibling) (h : are_at 0 (sibling_trees used edition File d (sibling ∷ rest)) ≡ true) where
   abbrev own : Structure
   own = brief_structure edition File (used_structure used (sibling_structure d sibling))
 
@@ -135,7 +135,7 @@ module _ (used : Bytes → Bool) (edition : Edition) (d : Trees) (sibling : Sibl
   others = sibling_trees used edition File d rest
 
   -- the first of siblings has lines, with any identifier
-  pub own_stands : (xref : Option Bytes) → may_be_xref xref ≡ true → HasLinesAt 0 (brief_sibling edition (row File sibling.tag.now) xref d sibling)
+  pub own_stands : (xref : Option Bytes) → may_be_xref xref ≡ true → HasLinesAt 0 (brief_sibling edition (row File sibling.tag.now) xref d (unranked sibling))
   own_stands xref named = lines_with 0 own xref ((and_parts (is_structure_at 0 own) (are_at 1 below && are_at 0 others) h).0) named
 
   -- its own identifier, where that is used, is one
@@ -163,22 +163,22 @@ sorted_is_document edition d v r k =
     ends_in_document u (sorted_document edition u) is (reach_sorted edition u u is (kept Checked (step_checked edition) reached k))
 
 -- the siblings of a document stand at level 0
-pub siblings_stand : (used : Bytes → Bool) (edition : Edition) (d e : Trees) (xs : List Sibling) → is_document e ≡ true → sibling_trees used edition File d xs ≡ e
+pub siblings_stand : (used : Bytes → Bool) (edition : Edition) (d e : Trees) (xs : List RankedSibling) → is_document e ≡ true → sibling_trees used edition File d xs ≡ e
     → are_at 0 (sibling_trees used edition File d xs) ≡ true
 siblings_stand used edition d e xs is listed = ap (are_at 0) listed ∙ at_of_document e is
 
 -- the lines of one sibling with its new identifier
-pub record_spelled : (used : Bytes → Bool) (edition : Edition) (names : List Bytes) (d : Trees) (x : Sibling) (xref : Option Bytes) → renamed_xref (number_of 1 names) (used_xref used (structure_at d x.place).xref) ≡ xref
-    → spelled_lines (structure_lines 0 (renamed_sibling (number_of 1 names) edition (row File x.tag.now) xref d x) ++ lines_of 1 (renamed (number_of 1 names) (sorted edition (context_below File x.tag.now) (below_at d x.place))))
+pub record_spelled : (used : Bytes → Bool) (edition : Edition) (names : List Bytes) (d : Trees) (x : RankedSibling) (xref : Option Bytes) → renamed_xref (number_of 1 names) (used_xref used (structure_at d x.place).xref) ≡ xref
+    → spelled_lines (structure_lines 0 (renamed_sibling (number_of 1 names) edition (row File x.tag.now) xref d (unranked x)) ++ lines_of 1 (renamed (number_of 1 names) (sorted edition (context_below File x.tag.now) (below_at d x.place))))
     ≡ spelled_siblings used edition names d (x ∷ [])
 record_spelled used edition names d x xref e =
     let f = number_of 1 names in
     let deep = lines_of 1 (renamed f (sorted edition (context_below File x.tag.now) (below_at d x.place))) in
-    ap (λ (y : Option Bytes). spelled_lines (structure_lines 0 (renamed_sibling f edition (row File x.tag.now) y d x) ++ deep)) (sym e)
-    ∙ ap spelled_lines (sym (append-nil (structure_lines 0 (renamed_sibling f edition (row File x.tag.now) (renamed_xref f (used_xref used (structure_at d x.place).xref)) d x) ++ deep)))
+    ap (λ (y : Option Bytes). spelled_lines (structure_lines 0 (renamed_sibling f edition (row File x.tag.now) y d (unranked x)) ++ deep)) (sym e)
+    ∙ ap spelled_lines (sym (append-nil (structure_lines 0 (renamed_sibling f edition (row File x.tag.now) (renamed_xref f (used_xref used (structure_at d x.place).xref)) d (unranked x)) ++ deep)))
 
 -- one sibling and the others behind it
-pub siblings_spelled : (used : Bytes → Bool) (edition : Edition) (names : List Bytes) (d : Trees) (x : Sibling) (xs : List Sibling)
+pub siblings_spelled : (used : Bytes → Bool) (edition : Edition) (names : List Bytes) (d : Trees) (x : RankedSibling) (xs : List RankedSibling)
     → spelled_siblings used edition names d (x ∷ xs) ≡ spelled_siblings used edition names d (x ∷ []) ++ spelled_siblings used edition names d xs
 siblings_spelled used edition names d x xs =
     let f = number_of 1 names in
@@ -188,12 +188,8 @@ siblings_spelled used edition names d x xs =
     let rest = lines_of 0 (numbered_siblings used edition names d xs) in
     spelled_append (own ++ deep) rest ∙ ap (λ ls. spelled_lines ls ++ spelled_lines rest) (sym (append-nil (own ++ deep)))
 
--- the siblings from a place on are the one there and those behind it
-pub left_split : (xs : List Sibling) (at : ℕ) (other : Sibling) → at < length xs → drop at xs ≡ get_or xs at other ∷ drop (at + 1) xs
-left_split xs at other h = rw add-one (drop-cons xs at other h)
-
 -- what is written and what is left stay the whole where one more is written
-pub left_after : (used : Bytes → Bool) (edition : Edition) (names : List Bytes) (d : Trees) (xs : List Sibling) (at : ℕ) (x : Sibling) (before now after whole : Bytes) → drop at xs ≡ x ∷ drop (at + 1) xs
+pub left_after : (used : Bytes → Bool) (edition : Edition) (names : List Bytes) (d : Trees) (xs : List RankedSibling) (at : ℕ) (x : RankedSibling) (before now after whole : Bytes) → drop at xs ≡ x ∷ drop (at + 1) xs
     → now ++ spelled_siblings used edition names d (drop at xs) ≡ before ++ whole → after ≡ now ++ spelled_siblings used edition names d (x ∷ [])
     → after ++ spelled_siblings used edition names d (drop (at + 1) xs) ≡ before ++ whole
 left_after used edition names d xs at x before now after whole split told wrote =
@@ -201,19 +197,19 @@ left_after used edition names d xs at x before now after whole split told wrote 
     ap (λ bytes. bytes ++ spelled_siblings used edition names d rest) wrote
     ∙ append_assoc now (spelled_siblings used edition names d (x ∷ [])) (spelled_siblings used edition names d rest)
     ∙ ap (λ bytes. now ++ bytes) (sym (siblings_spelled used edition names d x rest))
-    ∙ ap (λ (ys : List Sibling). now ++ spelled_siblings used edition names d ys) (sym split)
+    ∙ ap (λ (ys : List RankedSibling). now ++ spelled_siblings used edition names d ys) (sym split)
     ∙ told
 
 -- The whole file.
 
-pub numbered_document_of : (edition : Edition) (d : Trees) (xs : List Sibling) → sibling_trees (is_named d) edition File d xs ≡ sorted_document edition (used_document d)
+pub numbered_document_of : (edition : Edition) (d : Trees) (xs : List RankedSibling) → sibling_trees (is_named d) edition File d xs ≡ sorted_document edition (used_document d)
     → numbered_siblings (is_named d) edition (sibling_names d xs) d xs ≡ canon edition d
 numbered_document_of edition d xs e =
     ap (λ ns. renamed (number_of 1 ns) (sibling_trees (is_named d) edition File d xs)) (names_listed edition d xs e)
     ∙ ap (renamed (number_of 1 (xrefs (sorted_document edition (used_document d))))) e
 
 -- the mark, the lines of HEAD and the records, and TRLR's
-pub file_spelled : (used : Bytes → Bool) (edition : Edition) (names : List Bytes) (d e : Trees) (xs : List Sibling) (start middle text : Bytes) → numbered_siblings used edition names d xs ≡ e
+pub file_spelled : (used : Bytes → Bool) (edition : Edition) (names : List Bytes) (d e : Trees) (xs : List RankedSibling) (start middle text : Bytes) → numbered_siblings used edition names d xs ≡ e
     → start ≡ 0xEF ∷ 0xBB ∷ 0xBF ∷ [] → middle ≡ start ++ spelled_siblings used edition names d xs → text ≡ middle ++ (spelling trailer_line ++ line_feed ∷ []) → CanonText e text
 file_spelled used edition names d e xs start middle text is began wrote told =
     told

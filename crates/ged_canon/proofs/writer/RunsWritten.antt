@@ -21,6 +21,7 @@ use Rattle.ged_schema.specs.Tables.{row, below_row, context_below}
 use Rattle.ged_canon.specs.Normal.{InOrder}
 use Rattle.ged_canon.proofs.theory.Orders.{tags_of_order}
 use Rattle.ged_canon.specs.declared.edition.Edition.{Edition}
+use Rattle.ged_canon.specs.declared.writer.rank.RankedSibling.{RankedSibling}
 use Rattle.ged_canon.specs.declared.writer.siblings.Sibling.{Sibling}
 use Rattle.ged_canon.specs.Steps.{renamed}
 use Rattle.ged_canon.specs.inner.StepParts.{with_identifier}
@@ -104,8 +105,8 @@ module _ (edition : Edition) (context : Context) (d : Trees) (level : ℕ) (sibl
 
 -- Siblings that are listed.
 
-pub next_left : (xs : List Sibling) (n : ℕ) (next : Sibling) → n < length xs → next ≡ get_or xs n next → drop n xs ≡ next ∷ drop (n + 1) xs
-next_left xs n next h is = drop_more xs n next h ∙ ap (λ (first : Sibling). first ∷ drop (n + 1) xs) (sym is)
+pub next_left : (xs : List RankedSibling) (n : ℕ) (next : RankedSibling) → n < length xs → next ≡ get_or xs n next → drop n xs ≡ next ∷ drop (n + 1) xs
+next_left xs n next h is = drop_more xs n next h ∙ ap (λ (first : RankedSibling). first ∷ drop (n + 1) xs) (sym is)
 
 -- where all identifiers are kept
 kept_xref : (x : Option Bytes) → used_xref (λ name. true) x ≡ x
@@ -116,7 +117,7 @@ kept_trees : (xs : Trees) → used_trees (λ name. true) xs ≡ xs
 kept_trees none = refl
 kept_trees (tree s below next) = λ i. tree (with_identifier s (kept_xref s.xref i)) below (kept_trees next i)
 
-pub all_listed : (edition : Edition) (context : Context) (d run : Trees) (items : List Sibling) → sibling_trees (λ name. true) edition context d items ≡ sorted edition context (used_trees (λ name. true) run) → sibling_trees (λ name. true) edition context d items ≡ sorted edition context run
+pub all_listed : (edition : Edition) (context : Context) (d run : Trees) (items : List RankedSibling) → sibling_trees (λ name. true) edition context d items ≡ sorted edition context (used_trees (λ name. true) run) → sibling_trees (λ name. true) edition context d items ≡ sorted edition context run
 all_listed edition context d run items e = e ∙ ap (sorted edition context) (kept_trees run)
 
 -- A run that is in order.

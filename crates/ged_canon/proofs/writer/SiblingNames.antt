@@ -7,7 +7,7 @@ use Rattle.ged_tree.specs.Documents.{is_document}
 use Rattle.ged_tree.specs.Places.{structure_at}
 use Rattle.ged_link.specs.Links.{IsAmong, AreDistinct, IsRecordNumber, Resolved}
 use Rattle.ged_link.specs.inner.Identifiers.{with_xref}
-use Rattle.ged_canon.specs.declared.writer.siblings.Sibling.{Sibling}
+use Rattle.ged_canon.specs.declared.writer.rank.RankedSibling.{RankedSibling}
 use Rattle.ged_canon.specs.inner.Siblings.{sibling_names}
 use Rattle.ged_canon.specs.inner.Working.{is_named, used_xref}
 use Rattle.ged_canon.proofs.writer.NewNumbers.{among_front, among_back, distinct_front, distinct_apart, numbered_among}
@@ -15,7 +15,7 @@ use Rattle.ged_canon.proofs.theory.Used.{unused}
 use Rattle.ged_canon.proofs.writer.Parts.{document_xrefs}
 
 module _ (d : Trees) where
-  siblings_append : (xs ys : List Sibling) → sibling_names d (xs ++ ys) ≡ sibling_names d xs ++ sibling_names d ys
+  siblings_append : (xs ys : List RankedSibling) → sibling_names d (xs ++ ys) ≡ sibling_names d xs ++ sibling_names d ys
   siblings_append [] ys = refl
   siblings_append (x ∷ xs) ys = ap (with_xref (used_xref (is_named d) (structure_at d x.place).xref)) (siblings_append xs ys) ∙ joined (used_xref (is_named d) (structure_at d x.place).xref)
     where
@@ -23,7 +23,7 @@ module _ (d : Trees) where
       joined None = refl
       joined (Some name) = refl
 
-  module _ (xs : List Sibling) (n : ℕ) (x other : Sibling) (inside : n < length xs) (is : get_or xs n other ≡ x) where
+  module _ (xs : List RankedSibling) (n : ℕ) (x other : RankedSibling) (inside : n < length xs) (is : get_or xs n other ≡ x) where
     pub siblings_more : sibling_names d (take (n + 1) xs) ≡ sibling_names d (take n xs) ++ with_xref (used_xref (is_named d) (structure_at d x.place).xref) []
     siblings_more = ap (sibling_names d) (take_more xs n other inside ∙ ap (λ q. take n xs ++ q ∷ []) is) ∙ siblings_append (take n xs) (x ∷ [])
 

@@ -12,7 +12,7 @@ use Rattle.ged_tree.proofs.CallerLemmas.{run_unfolds, below_run}
 use Rattle.ged_schema.specs.declared.context.Context.{Context}
 use Rattle.ged_schema.specs.Tables.{context_below}
 use Rattle.ged_canon.specs.declared.edition.Edition.{Edition}
-use Rattle.ged_canon.specs.declared.writer.siblings.Sibling.{Sibling}
+use Rattle.ged_canon.specs.declared.writer.rank.RankedSibling.{RankedSibling}
 use Rattle.ged_canon.specs.inner.Working.{used_structure, used_trees, brief_structure, sorted, each_sorted}
 use Rattle.ged_canon.specs.inner.Siblings.{sibling_structure, sibling_trees}
 use Rattle.ged_canon.proofs.writer.StableSort.{AreListed}
@@ -28,7 +28,7 @@ below_step d place end after run step =
     ∙ below_run d place step.within
 
 -- the trees of siblings, of which the first is the first of a run
-pub first_sibling : (used : Bytes → Bool) (edition : Edition) (context : Context) (d : Trees) (place end after : ℕ) (sibling : Sibling) (rest : List Sibling)
+pub first_sibling : (used : Bytes → Bool) (edition : Edition) (context : Context) (d : Trees) (place end after : ℕ) (sibling : RankedSibling) (rest : List RankedSibling)
     → IsRun d place end → IsStep d place end after → sibling.place ≡ place → sibling.tag.now ≡ (structure_at d place).tag
     → sibling_trees used edition context d rest ≡ each_sorted edition context (used_trees used (trees_between d after end))
     → sibling_trees used edition context d (sibling ∷ rest) ≡ each_sorted edition context (used_trees used (trees_between d place end))
@@ -42,12 +42,12 @@ first_sibling used edition context d place end after sibling rest run step at ta
 
 -- siblings are listed as trees
 pub siblings_listed : (used : Bytes → Bool) (edition : Edition) (context : Context) (d : Trees)
-    → AreListed (λ (x : Sibling). brief_structure edition context (used_structure used (sibling_structure d x))) (λ x. sorted edition (context_below context x.tag.now) (below_at d x.place)) (sibling_trees used edition context d)
+    → AreListed (λ (x : RankedSibling). brief_structure edition context (used_structure used (sibling_structure d x))) (λ x. sorted edition (context_below context x.tag.now) (below_at d x.place)) (sibling_trees used edition context d)
 siblings_listed used edition context d = record { nothing = refl; first = λ x xs. refl }
 
-pub all_with : (P : Sibling → Type 0) (xs : List Sibling) (x : Sibling) → AllByRecursion P xs → P x → AllByRecursion P (xs ++ x ∷ [])
+pub all_with : (P : RankedSibling → Type 0) (xs : List RankedSibling) (x : RankedSibling) → AllByRecursion P xs → P x → AllByRecursion P (xs ++ x ∷ [])
 all_with P [] x h p = (p, tt)
 all_with P (y ∷ ys) x h p = (h.0, all_with P ys x h.1 p)
 
-pub all_permuted : (P : Sibling → Type 0) (xs ys : List Sibling) → IsPermutation xs ys → AllByRecursion P xs → AllByRecursion P ys
+pub all_permuted : (P : RankedSibling → Type 0) (xs ys : List RankedSibling) → IsPermutation xs ys → AllByRecursion P xs → AllByRecursion P ys
 all_permuted P xs ys s h = recursion_from_All P ys (All-permutation P xs ys s (All-from_recursion P xs h))

@@ -11,10 +11,10 @@ use Rattle.ged_link.specs.Links.{IsAmong}
 use Rattle.ged_schema.specs.declared.context.Context.TheVariants.{File}
 use Rattle.ged_canon.specs.declared.edition.Edition.{Edition}
 use Rattle.ged_canon.specs.declared.writer.plan.Plan.{Plan}
-use Rattle.ged_canon.specs.declared.writer.siblings.Sibling.{Sibling}
+use Rattle.ged_canon.specs.declared.writer.rank.RankedSibling.{RankedSibling}
 use Rattle.ged_canon.specs.Steps.{renamed}
 use Rattle.ged_canon.specs.inner.Working.{is_named, each_used, number_among, number_of, IsNumberingOf}
-use Rattle.ged_canon.specs.inner.Siblings.{StandsIn, sibling_trees}
+use Rattle.ged_canon.specs.inner.Siblings.{StandsRanked, sibling_trees}
 
 -- the names are those that some pointer of the document has
 abbrev pub AreNamed : Trees → List Bytes → Type 0
@@ -26,25 +26,25 @@ number_at names None = 0
 number_at names (Some name) = number_among 1 names name
 
 -- HEAD and records, those whose identifiers are used with these, and with their numbers where they have some
-abbrev pub numbered_siblings : (Bytes → Bool) → Edition → List Bytes → Trees → List Sibling → Trees
+abbrev pub numbered_siblings : (Bytes → Bool) → Edition → List Bytes → Trees → List RankedSibling → Trees
 numbered_siblings used edition names d siblings = renamed (number_of 1 names) (sibling_trees used edition File d siblings)
 
 -- the lines of these
-abbrev pub spelled_siblings : (Bytes → Bool) → Edition → List Bytes → Trees → List Sibling → Bytes
+abbrev pub spelled_siblings : (Bytes → Bool) → Edition → List Bytes → Trees → List RankedSibling → Bytes
 spelled_siblings used edition names d siblings = spelled_lines (lines_of 0 (numbered_siblings used edition names d siblings))
 
 -- HEAD and records can be written, each with its identifier where that is used
-pub record CanWriteRecords (used : Bytes → Bool) (edition : Edition) (d : Trees) (siblings : List Sibling) : Type 0 where
+pub record CanWriteRecords (used : Bytes → Bool) (edition : Edition) (d : Trees) (siblings : List RankedSibling) : Type 0 where
   pub document : is_document d ≡ true
-  pub within : AllByRecursion (StandsIn d) siblings
+  pub within : AllByRecursion (StandsRanked d) siblings
   pub stand : are_at 0 (sibling_trees used edition File d siblings) ≡ true
 
 -- their lines are appended to an answer, by the names to which the plan's numbers belong
-abbrev pub WritesRecords : {T E : Type 0} → Trees → Plan → Result T E → Bytes → Bytes → List Sibling → Type 0
+abbrev pub WritesRecords : {T E : Type 0} → Trees → Plan → Result T E → Bytes → Bytes → List RankedSibling → Type 0
 WritesRecords d plan result old new siblings =
     (names : List Bytes) → IsNumberingOf d names plan.index.now plan.numbers.now → AreNamed d names → OnOk result (new ≡ old ++ spelled_siblings (is_named d) plan.edition names d siblings)
 
 -- where no record has a new number, their lines are appended with all identifiers as they are
-abbrev pub WritesKept : {T E : Type 0} → Trees → Plan → Result T E → Bytes → Bytes → List Sibling → Type 0
+abbrev pub WritesKept : {T E : Type 0} → Trees → Plan → Result T E → Bytes → Bytes → List RankedSibling → Type 0
 WritesKept d plan result old new siblings =
     IsNumberingOf d [] plan.index.now plan.numbers.now → OnOk result (new ≡ old ++ spelled_siblings each_used plan.edition [] d siblings)

@@ -7,6 +7,7 @@ use Rattle.ged_tree.specs.Places.{structure_at, below_at}
 use Rattle.ged_schema.specs.declared.context.Context.{Context}
 use Rattle.ged_schema.specs.Tables.{context_below}
 use Rattle.ged_canon.specs.declared.edition.Edition.{Edition}
+use Rattle.ged_canon.specs.declared.writer.rank.RankedSibling.{RankedSibling}
 use Rattle.ged_canon.specs.declared.writer.siblings.Sibling.{Sibling}
 use Rattle.ged_link.specs.inner.Identifiers.{with_xref}
 use Rattle.ged_canon.specs.inner.Working.{is_named, used_xref, used_structure, brief_structure, sorted}
@@ -15,12 +16,19 @@ use Rattle.ged_canon.specs.inner.Working.{is_named, used_xref, used_structure, b
 abbrev pub StandsIn : Trees → Sibling → Type 0
 StandsIn d sibling = (sibling.place < trees_count d) × (sibling.tag.now ≡ (structure_at d sibling.place).tag)
 
+-- a sibling without its rank
+abbrev pub unranked : RankedSibling → Sibling
+unranked sibling = record { tag = sibling.tag; place = sibling.place }
+
+abbrev pub StandsRanked : Trees → RankedSibling → Type 0
+StandsRanked d sibling = StandsIn d (unranked sibling)
+
 -- the structure of a document at a sibling's place, with the sibling's tag
-abbrev pub sibling_structure : Trees → Sibling → Structure
+abbrev pub sibling_structure : Trees → RankedSibling → Structure
 sibling_structure d sibling = record { xref = (structure_at d sibling.place).xref; tag = sibling.tag.now; payload = (structure_at d sibling.place).payload }
 
 -- siblings in a context, each with its identifier where that is used, its payload brief, and what stands below it in order
-abbrev pub sibling_trees : (Bytes → Bool) → Edition → Context → Trees → List Sibling → Trees
+abbrev pub sibling_trees : (Bytes → Bool) → Edition → Context → Trees → List RankedSibling → Trees
 sibling_trees used edition context d [] = none
 sibling_trees used edition context d (first ∷ rest) =
     tree (brief_structure edition context (used_structure used (sibling_structure d first)))
@@ -28,6 +36,6 @@ sibling_trees used edition context d (first ∷ rest) =
     (sibling_trees used edition context d rest)
 
 -- the identifiers of siblings that some pointer names, in order
-abbrev pub sibling_names : Trees → List Sibling → List Bytes
+abbrev pub sibling_names : Trees → List RankedSibling → List Bytes
 sibling_names d [] = []
 sibling_names d (first ∷ rest) = with_xref (used_xref (is_named d) (structure_at d first.place).xref) (sibling_names d rest)

@@ -14,7 +14,7 @@ ghost use Rattle.ged_canon.specs.declared.edition.Edition.TheVariants.{First};
 ghost use Rattle.ged_canon.specs.Normal.{IsNormalForm};
 ghost use Rattle.ged_canon.specs.CanonText.{CanonText};
 ghost use Rattle.ged_canon.specs.inner.Working.{is_named, used_trees, sorted_document, IsNumberingOf};
-ghost use Rattle.ged_canon.specs.inner.Siblings.{StandsIn, sibling_trees};
+ghost use Rattle.ged_canon.specs.inner.Siblings.{StandsRanked, sibling_trees};
 ghost use Rattle.ged_canon.specs.inner.CanonBytes.{number_at, CanWriteRecords, WritesRecords};
 
 use crate::edition::Edition;
@@ -23,6 +23,7 @@ use crate::writer::answer::Answer;
 use crate::writer::lines::put_identifier;
 use crate::writer::numbers::new_number_with;
 use crate::writer::plan::{Plan, Work, Writer};
+use crate::writer::rank::{RankedSibling, ranked_sibling};
 use crate::writer::siblings::{Sibling, numbers_in_order, push_sorted};
 use ged_line::ValueView;
 use ged_link::{Index, RecordCursor};
@@ -40,8 +41,8 @@ const FEW_RECORDS: usize = 4;
 pub(crate) fn document_siblings<F: Forest>(
     alloc: Global,
     forest: &F,
-) -> Result<Vec<Sibling<'_>>, AllocError>
-    ensures within { IfOk result (λ made. AllByRecursion (StandsIn (F.trees forest.now)) made.items) }
+) -> Result<Vec<RankedSibling<'_>>, AllocError>
+    ensures within { IfOk result (λ made. AllByRecursion (StandsRanked (F.trees forest.now)) made.items) }
     ensures count { IfOk result (λ made. length (identifiers (records_of (F.trees forest.now))) ≤ length made.items) }
     ensures trees { (used : Bytes → Bool) (edition : AnyEdition) → IfOk result (λ made. sibling_trees used edition File (F.trees forest.now) made.items
         ≡ sorted_document edition (used_trees used (F.trees forest.now))) }
@@ -53,10 +54,7 @@ pub(crate) fn document_siblings<F: Forest>(
     };
     let room = forest.size() / STRUCTURES_PER_RECORD + FEW_RECORDS;
     let mut made = Vec::with_capacity(alloc, room)?;
-    made.push(Sibling {
-        tag: forest.tag(0),
-        place: 0,
-    })?;
+    made.push(ranked_sibling(forest.tag(0), 0))?;
     push_sorted(alloc, forest, records, end, &mut made)?;
     Ok(made)
 }
@@ -78,7 +76,7 @@ impl<'a, F: Forest> Writer<'a, '_, F> {
     /// Appends the lines of HEAD or of a record, and of what stands below it. The text takes the record's new identifier.
     fn write_record(
         &self,
-        sibling: Sibling<'_>,
+        sibling: RankedSibling<'_>,
         name: &mut String,
         work: &mut Work<'a, '_>,
     ) -> Result<(), AllocError>
@@ -88,19 +86,23 @@ impl<'a, F: Forest> Writer<'a, '_, F> {
         let rows = ContextRows::of(Context::File);
         let rule = rows.row(sibling.tag);
         let end = self.forest.after(sibling.place);
+        let own = Sibling {
+            tag: sibling.tag,
+            place: sibling.place,
+        };
         let number = self.own_number(sibling.place, &mut work.records);
         if number == 0 {
-            return self.write_tree(rule, 0, None, sibling, end, work);
+            return self.write_tree(rule, 0, None, own, end, work);
         }
         put_identifier(number, name)?;
         let xref = Some(name.as_str());
-        self.write_tree(rule, 0, xref, sibling, end, work)
+        self.write_tree(rule, 0, xref, own, end, work)
     }
 
     /// Appends the lines of HEAD and the records, and of what stands below them.
     fn write_records(
         &self,
-        siblings: &[Sibling<'_>],
+        siblings: &[RankedSibling<'_>],
         work: &mut Work<'a, '_>,
     ) -> Result<(), AllocError>
         requires { CanWriteRecords (is_named (F.trees self.now.forest.now)) self.now.plan.edition (F.trees self.now.forest.now) siblings.now }

@@ -3,7 +3,7 @@ ghost use Rattle.std.specs.Prelude.{◌<◌, ◌↔◌, Some, IsTrue};
 ghost use Rattle.ged_tree.specs.Runs.{IsRun, trees_between};
 ghost use Rattle.ged_canon.specs.Normal.{InOrder};
 
-use ged_line::tag_order;
+use crate::writer::rank::{rank_of, ranked_order};
 use ged_tree::{Forest, next_in_run};
 use std::cmp::Ordering;
 
@@ -19,12 +19,15 @@ pub(crate) fn are_in_order<F: Forest>(forest: &F, start: usize, end: usize) -> b
         return true;
     }
     let mut before = forest.tag(start);
+    let mut rank = rank_of(before);
     while let Some(after) = next_in_run(forest, place, end) {
         let tag = forest.tag(place);
-        if tag_order(before, tag) == Ordering::Greater {
+        let next = rank_of(tag);
+        if ranked_order(rank, before, next, tag) == Ordering::Greater {
             return false;
         }
         before = tag;
+        rank = next;
         place = after;
     }
     true

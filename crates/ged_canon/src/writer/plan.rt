@@ -4,7 +4,7 @@ ghost use Rattle.std.specs.Prelude.{◌≡◌, IfOk};
 use crate::edition::Edition;
 use crate::spelled::SpelledForm;
 use crate::writer::answer::Answer;
-use crate::writer::siblings::Sibling;
+use crate::writer::rank::RankedSibling;
 use ged_link::{Index, PointerCursor, RecordCursor};
 use std::alloc::{AllocError, Global};
 
@@ -31,7 +31,7 @@ pub(crate) struct Work<'a, 'f> {
     pub(crate) answer: Answer<'f>,
     pub(crate) pointers: PointerCursor,
     pub(crate) records: RecordCursor,
-    pub(crate) siblings: Vec<Sibling<'a>>,
+    pub(crate) siblings: Vec<RankedSibling<'a>>,
 }
 
 impl<'f> Work<'_, 'f> {

@@ -1,19 +1,21 @@
 // The structures of a run in the order of their tags.
-ghost use Rattle.std.specs.Prelude.{◌≡◌, ◌<◌, ◌≤◌, Bool, true, IfOk, OnOk, length, take, drop};
+ghost use Rattle.std.specs.Prelude.{◌≡◌, ◌<◌, ◌++◌, ◌∷◌, [], ◌≤◌, Bool, true, IfOk, OnOk, length, take, drop};
 ghost use Rattle.std.specs.List.{AllByRecursion};
 ghost use Rattle.std.specs.List.Sorted.{IsPermutation};
 ghost use Rattle.ged_line.specs.Bytes.{Bytes};
 ghost use Rattle.ged_tree.specs.Trees.{Trees, trees_count, records_of};
 ghost use Rattle.ged_tree.specs.Documents.{is_document};
+ghost use Rattle.ged_tree.specs.Places.{structure_at};
+ghost use Rattle.ged_canon.specs.declared.writer.rank.RankedSibling.{RankedSibling as RankedSiblingData};
 ghost use Rattle.ged_tree.specs.Runs.{IsRun, trees_between};
 ghost use Rattle.ged_schema.specs.declared.context.Context.{Context as AnyContext};
 ghost use Rattle.ged_canon.specs.declared.edition.Edition.{Edition as AnyEdition};
 ghost use Rattle.ged_link.specs.Links.{identifiers, xrefs, IsAmong, AreDistinct};
 ghost use Rattle.ged_link.specs.Indexes.{IsIndexOf};
 ghost use Rattle.ged_canon.specs.inner.Working.{grouped, sorted, each_sorted, used_trees, AreNumbersOf};
-ghost use Rattle.ged_canon.specs.inner.Siblings.{StandsIn, sibling_trees, sibling_names};
+ghost use Rattle.ged_canon.specs.inner.Siblings.{StandsRanked, sibling_trees, sibling_names};
 
-use ged_line::tag_order;
+use crate::writer::rank::{RankedSibling, ranked_order, ranked_sibling};
 use ged_link::{Index, RecordCursor};
 use ged_tree::{Forest, next_in_run};
 use std::alloc::{AllocError, Global};
@@ -25,25 +27,19 @@ pub(crate) struct Sibling<'a> {
     pub(crate) place: usize,
 }
 
-/// The same tag, that of a structure at a level. Those of most records are answered from one place each, so that a sort of many
-/// records does not go through the whole file once more to compare them.
+/// Appends the structure at a place. Grows.
 #[inline(always)]
-fn shared_tag(level: u8, tag: &str) -> &str
-    ensures { result.now ≡ tag.now }
+fn push_sibling<'a, F: Forest>(
+    forest: &'a F,
+    place: usize,
+    siblings: &mut Vec<RankedSibling<'a>>,
+) -> Result<(), AllocError>
+    requires { place < trees_count (F.trees forest.now) }
+    ensures { OnOk result ((last : RankedSiblingData) × (siblings.new.items ≡ siblings.old.items ++ last ∷ [])
+        × (last.place ≡ place) × (last.tag.now ≡ (structure_at (F.trees forest.now) place).tag)) }
 {
-    if level > 0 {
-        return tag;
-    }
-    match tag {
-        "INDI" => "INDI",
-        "FAM" => "FAM",
-        "SOUR" => "SOUR",
-        "OBJE" => "OBJE",
-        "REPO" => "REPO",
-        "SNOTE" => "SNOTE",
-        "SUBM" => "SUBM",
-        _ => tag,
-    }
+    siblings.push(ranked_sibling(forest.tag(place), place))?;
+    Ok(())
 }
 
 /// Appends the structures of a run in their own order. Grows.
@@ -51,34 +47,31 @@ fn push_siblings<'a, F: Forest>(
     forest: &'a F,
     start: usize,
     end: usize,
-    siblings: &mut Vec<Sibling<'a>>,
+    siblings: &mut Vec<RankedSibling<'a>>,
 ) -> Result<(), AllocError>
     requires { IsRun (F.trees forest.now) start end }
     ensures kept { OnOk result (take (length siblings.old.items) siblings.new.items ≡ siblings.old.items) }
-    ensures within { OnOk result (AllByRecursion (StandsIn (F.trees forest.now)) (drop (length siblings.old.items) siblings.new.items)) }
+    ensures within { OnOk result (AllByRecursion (StandsRanked (F.trees forest.now)) (drop (length siblings.old.items) siblings.new.items)) }
     ensures count { OnOk result (length (drop (length siblings.old.items) siblings.new.items) ≡ length (identifiers (trees_between (F.trees forest.now) start end))) }
     ensures trees { (used : Bytes → Bool) (edition : AnyEdition) (context : AnyContext) →
         OnOk result (sibling_trees used edition context (F.trees forest.now) (drop (length siblings.old.items) siblings.new.items) ≡ each_sorted edition context (used_trees used (trees_between (F.trees forest.now) start end))) }
 {
     let mut place = start;
     while let Some(after) = next_in_run(forest, place, end) {
-        siblings.push(Sibling {
-            tag: shared_tag(forest.level(place), forest.tag(place)),
-            place,
-        })?;
+        push_sibling(forest, place, siblings)?;
         place = after;
     }
     Ok(())
 }
 
 /// Puts siblings in the order of their tags; those with one tag keep their order. Takes memory for more than 20.
-fn sort_siblings(alloc: Global, siblings: &mut [Sibling<'_>]) -> Result<(), AllocError>
+fn sort_siblings(alloc: Global, siblings: &mut [RankedSibling<'_>]) -> Result<(), AllocError>
     ensures permutation { IsPermutation siblings.old siblings.new }
     ensures trees { (d : Trees) (used : Bytes → Bool) (edition : AnyEdition) (context : AnyContext) →
         OnOk result (sibling_trees used edition context d siblings.new ≡ grouped (sibling_trees used edition context d siblings.old)) }
 {
-    siblings.sort_by(alloc, |a: &Sibling<'_>, b: &Sibling<'_>| {
-        tag_order(a.tag, b.tag)
+    siblings.sort_by(alloc, |a: &RankedSibling<'_>, b: &RankedSibling<'_>| {
+        ranked_order(a.rank, a.tag, b.rank, b.tag)
     })
 }
 
@@ -88,11 +81,11 @@ pub(crate) fn push_sorted<'a, F: Forest>(
     forest: &'a F,
     start: usize,
     end: usize,
-    siblings: &mut Vec<Sibling<'a>>,
+    siblings: &mut Vec<RankedSibling<'a>>,
 ) -> Result<(), AllocError>
     requires { IsRun (F.trees forest.now) start end }
     ensures kept { OnOk result (take (length siblings.old.items) siblings.new.items ≡ siblings.old.items) }
-    ensures within { OnOk result (AllByRecursion (StandsIn (F.trees forest.now)) (drop (length siblings.old.items) siblings.new.items)) }
+    ensures within { OnOk result (AllByRecursion (StandsRanked (F.trees forest.now)) (drop (length siblings.old.items) siblings.new.items)) }
     ensures count { OnOk result (length (drop (length siblings.old.items) siblings.new.items) ≡ length (identifiers (trees_between (F.trees forest.now) start end))) }
     ensures trees { (used : Bytes → Bool) (edition : AnyEdition) (context : AnyContext) →
         OnOk result (sibling_trees used edition context (F.trees forest.now) (drop (length siblings.old.items) siblings.new.items) ≡ sorted edition context (used_trees used (trees_between (F.trees forest.now) start end))) }
@@ -109,11 +102,11 @@ pub(crate) fn numbers_in_order<F: Forest>(
     alloc: Global,
     forest: &F,
     index: &Index,
-    records: &[Sibling<'_>],
+    records: &[RankedSibling<'_>],
 ) -> Result<Vec<usize>, AllocError>
     requires index { IsIndexOf (F.trees forest.now) index.now }
     requires document { is_document (F.trees forest.now) ≡ true }
-    requires within { AllByRecursion (StandsIn (F.trees forest.now)) records.now }
+    requires within { AllByRecursion (StandsRanked (F.trees forest.now)) records.now }
     requires count { length (identifiers (records_of (F.trees forest.now))) ≤ length records.now }
     requires known { (name : Bytes) → IsAmong name (sibling_names (F.trees forest.now) records.now) → IsAmong name (xrefs (records_of (F.trees forest.now))) }
     requires distinct { AreDistinct (sibling_names (F.trees forest.now) records.now) }

@@ -156,7 +156,11 @@ impl<'a, F: Forest> Writer<'a, '_, F> {
         let rows = ContextRows::of(context);
         let mut number = base;
         while number < work.siblings.len() {
-            let sibling = work.siblings[number];
+            let ranked = work.siblings[number];
+            let sibling = Sibling {
+                tag: ranked.tag,
+                place: ranked.place,
+            };
             let rule = rows.row(sibling.tag);
             let after = self.forest.after(sibling.place);
             self.write_tree(rule, level, None, sibling, after, work)?;

@@ -13,6 +13,7 @@ use crate::spelled::SpelledForm;
 use crate::writer::answer::Answer;
 use crate::writer::document::document_siblings;
 use crate::writer::plan::{Plan, Work, Writer};
+use crate::writer::rank::RankedSibling;
 use crate::writer::siblings::Sibling;
 use ged_line::ValueView;
 use ged_link::Index;
@@ -24,7 +25,7 @@ impl<'a, F: Forest> Writer<'a, '_, F> {
     /// Appends the lines of HEAD or of a record with its own identifier, and of what stands below it.
     fn write_kept_record(
         &self,
-        sibling: Sibling<'_>,
+        sibling: RankedSibling<'_>,
         work: &mut Work<'a, '_>,
     ) -> Result<(), AllocError>
         requires { CanWriteRecords each_used self.now.plan.edition (F.trees self.now.forest.now) (sibling ∷ []) }
@@ -34,13 +35,17 @@ impl<'a, F: Forest> Writer<'a, '_, F> {
         let rule = rows.row(sibling.tag);
         let end = self.forest.after(sibling.place);
         let xref = self.forest.xref(sibling.place);
-        self.write_tree(rule, 0, xref, sibling, end, work)
+        let own = Sibling {
+            tag: sibling.tag,
+            place: sibling.place,
+        };
+        self.write_tree(rule, 0, xref, own, end, work)
     }
 
     /// Appends the lines of HEAD and the records with their own identifiers, and of what stands below them.
     fn write_kept_records(
         &self,
-        siblings: &[Sibling<'_>],
+        siblings: &[RankedSibling<'_>],
         work: &mut Work<'a, '_>,
     ) -> Result<(), AllocError>
         requires { CanWriteRecords each_used self.now.plan.edition (F.trees self.now.forest.now) siblings.now }

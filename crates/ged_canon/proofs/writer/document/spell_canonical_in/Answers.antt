@@ -1,9 +1,9 @@
 use Rattle.std.proofs.Common.{ℕ, List, length, sym, ap, ◌∙◌, subst, arith}
 use Rattle.std.specs.List.{AllByRecursion}
 use Rattle.ged_schema.specs.declared.context.Context.TheVariants.{File}
-use Rattle.ged_canon.specs.declared.writer.siblings.Sibling.{Sibling}
+use Rattle.ged_canon.specs.declared.writer.rank.RankedSibling.{RankedSibling}
 use Rattle.ged_canon.specs.inner.Working.{is_named, used_document, sorted_document, canon, AreNumbersOf, IsNumberingOf}
-use Rattle.ged_canon.specs.inner.Siblings.{StandsIn, sibling_trees, sibling_names}
+use Rattle.ged_canon.specs.inner.Siblings.{StandsRanked, sibling_trees, sibling_names}
 use Rattle.ged_canon.proofs.theory.Normality.{canon_is_normal_form}
 use Rattle.ged_canon.proofs.writer.Parts.{sorted_known, sorted_distinct}
 use Rattle.ged_canon.proofs.writer.Records.{names_listed, sorted_named, sorted_is_document, siblings_stand, numbered_document_of, file_spelled, only_form}
@@ -12,10 +12,10 @@ use Rattle.ged_canon.proofs.writer.document.spell_canonical_in.Goals as goal
 pub numbers_in_order-requires-clause-within : goal.numbers_in_order-requires-clause-within
 numbers_in_order-requires-clause-within g c =
     let d = g.F.Forest.trees c.args.forest.now in
-    subst (λ (xs : List Sibling). AllByRecursion (StandsIn d) xs) (sym c.as_slice-records.ensures.value) c.in_ok-siblings.ensures.within
+    subst (λ (xs : List RankedSibling). AllByRecursion (StandsRanked d) xs) (sym c.as_slice-records.ensures.value) c.in_ok-siblings.ensures.within
 
 pub numbers_in_order-requires-clause-count : goal.numbers_in_order-requires-clause-count
-numbers_in_order-requires-clause-count g c = omega (arith, ap (λ (xs : List Sibling). length xs) c.as_slice-records.ensures.value, c.in_ok-siblings.ensures.count)
+numbers_in_order-requires-clause-count g c = omega (arith, ap (λ (xs : List RankedSibling). length xs) c.as_slice-records.ensures.value, c.in_ok-siblings.ensures.count)
 
 pub numbers_in_order-requires-clause-known : goal.numbers_in_order-requires-clause-known
 numbers_in_order-requires-clause-known g c =
@@ -41,7 +41,7 @@ write_records-requires g c =
     let listed = ap (sibling_trees (is_named d) edition File d) c.as_slice-records.ensures.value ∙ c.in_ok-siblings.ensures.trees (is_named d) edition in
     record {
       document = c.document_siblings.ensures.document;
-      within = subst (λ (xs : List Sibling). AllByRecursion (StandsIn d) xs) (sym c.as_slice-records.ensures.value) c.in_ok-siblings.ensures.within;
+      within = subst (λ (xs : List RankedSibling). AllByRecursion (StandsRanked d) xs) (sym c.as_slice-records.ensures.value) c.in_ok-siblings.ensures.within;
       stand = siblings_stand (is_named d) edition d (sorted_document edition (used_document d)) xs (sorted_is_document edition d c.document_siblings.ensures.document c.requires.index.resolved c.requires.checked) listed;
     }
 

@@ -1,7 +1,8 @@
-use Rattle.std.proofs.Common.{◌-◌, ◌↔◌, ◌∷◌}
+use Rattle.std.proofs.Common.{◌≡◌, ◌-◌, ◌↔◌, ◌∷◌}
 use Rattle.ged_tree.specs.Runs.{trees_between, IsRun}
 use Rattle.ged_canon.specs.Normal.{InOrder}
 use Rattle.ged_canon.specs.inner.Orders.{TagsInOrder, tags}
+use Rattle.ged_canon.specs.inner.Ranks.{tag_rank}
 use denote.Shadow.{shadow}
 use denote.Text.{Utf8}
 use Rattle.ged_canon.proofs.writer.order.are_in_order.Given as goal
@@ -13,6 +14,7 @@ invariant-loop-after g l =
     record {
       run : IsRun trees l.place l.end;
       utf8 : shadow (Utf8 l.before);
+      rank : l.rank ≡ tag_rank l.before;
       same : TagsInOrder (l.before ∷ tags (trees_between trees l.place l.end)) ↔ InOrder (trees_between trees l.start l.end);
     }
 

@@ -1,10 +1,12 @@
-use Rattle.std.proofs.Common.{◌≡◌, ◌++◌, List, [], ◌∷◌, length, drop, refl, sym, ap, ◌∙◌, subst, arith}
+use Rattle.std.proofs.Common.{◌≡◌, ◌<◌, ◌++◌, List, [], ◌∷◌, length, drop, sym, ap, ◌∙◌, subst, arith}
 use Rattle.std.specs.List.{AllByRecursion}
 use Rattle.std.proofs.lemmas.List.{append-nil, append_assoc, length_push, take_all, drop_all}
+use Rattle.ged_tree.specs.Trees.{trees_count}
+use Rattle.ged_tree.specs.Places.{structure_at}
 use Rattle.ged_link.specs.Links.{identifiers}
-use Rattle.ged_canon.specs.declared.writer.siblings.Sibling.{Sibling}
+use Rattle.ged_canon.specs.declared.writer.rank.RankedSibling.{RankedSibling}
 use Rattle.ged_canon.specs.inner.Working.{used_trees, each_sorted}
-use Rattle.ged_canon.specs.inner.Siblings.{StandsIn, sibling_trees}
+use Rattle.ged_canon.specs.inner.Siblings.{StandsRanked, sibling_trees}
 use Rattle.ged_canon.proofs.writer.SiblingTrees.{first_sibling, all_with}
 use Rattle.ged_canon.proofs.writer.SortedTail.{still_kept, still_long, one_more}
 use Rattle.ged_canon.proofs.writer.siblings.push_siblings.Goals as goal
@@ -18,34 +20,37 @@ loop-after-init g c =
       run = c.requires;
       kept = take_all (length old) old (omega arith);
       long = omega arith;
-      within = subst (λ (xs : List Sibling). AllByRecursion (StandsIn d) xs) (sym nothing) tt;
-      counted = omega (arith, ap (λ (xs : List Sibling). length xs) nothing);
-      listed = λ used edition context rest e. ap (λ (xs : List Sibling). sibling_trees used edition context d (xs ++ rest)) nothing ∙ e;
+      within = subst (λ (xs : List RankedSibling). AllByRecursion (StandsRanked d) xs) (sym nothing) tt;
+      counted = omega (arith, ap (λ (xs : List RankedSibling). length xs) nothing);
+      listed = λ used edition context rest e. ap (λ (xs : List RankedSibling). sibling_trees used edition context d (xs ++ rest)) nothing ∙ e;
     }
 
 pub loop-after-preserved : goal.loop-after-preserved
 loop-after-preserved g c =
     let d = g.F.Forest.trees c.args.forest.now in
     let step = c.in-Some.ensures in
-    let last : Sibling = record { tag = c.shared_tag.result; place = c.loop-after.place } in
+    let pushed_one = c.in_ok-push_sibling.ensures in
+    let last = pushed_one.0 in
+    let at = pushed_one.2 in
+    let own_tag = pushed_one.3 in
     let start = c.args.siblings.now.items in
     let now = c.loop-after.siblings.items in
     let inv = c.loop-after.invariant in
-    let more = one_more start now c.push.new.self.items last inv.long c.in_ok-push.ensures.items in
+    let more = one_more start now c.push_sibling.new.siblings.items last inv.long pushed_one.1 in
     record {
       run = step.rest;
-      kept = still_kept start now c.push.new.self.items last inv.long c.in_ok-push.ensures.items inv.kept;
-      long = still_long start now c.push.new.self.items last inv.long c.in_ok-push.ensures.items;
-      within = subst (λ (xs : List Sibling). AllByRecursion (StandsIn d) xs) (sym more) (all_with (StandsIn d) (drop (length start) now) last inv.within (step.within, (c.shared_tag.ensures ∙ c.tag.ensures)));
+      kept = still_kept start now c.push_sibling.new.siblings.items last inv.long pushed_one.1 inv.kept;
+      long = still_long start now c.push_sibling.new.siblings.items last inv.long pushed_one.1;
+      within = subst (λ (xs : List RankedSibling). AllByRecursion (StandsRanked d) xs) (sym more) (all_with (StandsRanked d) (drop (length start) now) last inv.within (subst (λ n. n < trees_count d) (sym at) step.within, own_tag ∙ ap (λ n. (structure_at d n).tag) (sym at)));
       counted =
-          let pushed = ap (λ (xs : List Sibling). length xs) more ∙ length_push (drop (length start) now) last in
+          let pushed = ap (λ (xs : List RankedSibling). length xs) more ∙ length_push (drop (length start) now) last in
           let first = ap (λ t. length (identifiers t)) step.first in
           omega (arith, pushed, first, inv.counted);
       listed = λ used edition context rest e.
-          ap (λ (xs : List Sibling). sibling_trees used edition context d (xs ++ rest)) more
+          ap (λ (xs : List RankedSibling). sibling_trees used edition context d (xs ++ rest)) more
           ∙ ap (sibling_trees used edition context d) (append_assoc (drop (length start) now) (last ∷ []) rest)
           ∙ inv.listed used edition context (last ∷ rest)
-          (first_sibling used edition context d c.loop-after.place c.args.end c.in-Some.after last rest inv.run step refl (c.shared_tag.ensures ∙ c.tag.ensures) e);
+          (first_sibling used edition context d c.loop-after.place c.args.end c.in-Some.after last rest inv.run step at own_tag e);
     }
 
 pub returns-clause-trees : goal.returns-clause-trees

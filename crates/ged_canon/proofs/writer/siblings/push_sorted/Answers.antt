@@ -5,9 +5,9 @@ use Rattle.std.proofs.lemmas.List.{take_all}
 use Rattle.std.proofs.lemmas.List.Sorted.{length_permutation}
 use Rattle.std.proofs.lemmas.Result.{on_ok_weaker}
 use Rattle.ged_tree.specs.Runs.{trees_between}
-use Rattle.ged_canon.specs.declared.writer.siblings.Sibling.{Sibling}
+use Rattle.ged_canon.specs.declared.writer.rank.RankedSibling.{RankedSibling}
 use Rattle.ged_canon.specs.inner.Working.{grouped, sorted, used_trees}
-use Rattle.ged_canon.specs.inner.Siblings.{StandsIn, sibling_trees}
+use Rattle.ged_canon.specs.inner.Siblings.{StandsRanked, sibling_trees}
 use Rattle.ged_canon.proofs.writer.StableSort.{grouped_is_sorted}
 use Rattle.ged_canon.proofs.writer.SiblingTrees.{all_permuted}
 use Rattle.ged_canon.proofs.writer.SortedTail.{kept_long, written_tail}
@@ -28,15 +28,15 @@ returns-clause-within g c =
     let from : base ≡ length old = omega arith in
     let whole : all ≡ pushed = c.deref_mut.ensures.value in
     let long : length old ≤ length pushed = kept_long old pushed c.in_ok-push_siblings.ensures.kept in
-    let count : length all ≡ length pushed = ap (λ (xs : List Sibling). length xs) whole in
+    let count : length all ≡ length pushed = ap (λ (xs : List RankedSibling). length xs) whole in
     let room : base ≤ length all = omega arith in
     let part : take (length all - base) (drop base all) ≡ drop (length old) pushed =
     take_all (length all - base) (drop base all) (omega (arith, length-drop base all)) ∙ (λ i. drop (from i) (whole i)) in
-    let moved : IsPermutation (drop (length old) pushed) ys = subst (λ (xs : List Sibling). IsPermutation xs ys) part c.sort_siblings.ensures.permutation in
+    let moved : IsPermutation (drop (length old) pushed) ys = subst (λ (xs : List RankedSibling). IsPermutation xs ys) part c.sort_siblings.ensures.permutation in
     let same : length ys ≡ length all - base = omega (arith, length_permutation (drop (length old) pushed) ys moved, length-drop (length old) pushed) in
     let tail = written_tail base c.push_siblings.new.siblings.len (length old) all ys pushed room (omega arith) (omega arith) same (sym from) in
-    subst (λ (xs : List Sibling). OnOk c.sort_siblings.result (AllByRecursion (StandsIn d) xs)) (sym tail)
-    (either_way c.sort_siblings.result (all_permuted (StandsIn d) (drop (length old) pushed) ys moved c.in_ok-push_siblings.ensures.within))
+    subst (λ (xs : List RankedSibling). OnOk c.sort_siblings.result (AllByRecursion (StandsRanked d) xs)) (sym tail)
+    (either_way c.sort_siblings.result (all_permuted (StandsRanked d) (drop (length old) pushed) ys moved c.in_ok-push_siblings.ensures.within))
 
 pub returns-clause-trees : goal.returns-clause-trees
 returns-clause-trees g c = λ used edition context.
@@ -49,17 +49,17 @@ returns-clause-trees g c = λ used edition context.
     let from : base ≡ length old = omega arith in
     let whole : all ≡ pushed = c.deref_mut.ensures.value in
     let long : length old ≤ length pushed = kept_long old pushed c.in_ok-push_siblings.ensures.kept in
-    let count : length all ≡ length pushed = ap (λ (xs : List Sibling). length xs) whole in
+    let count : length all ≡ length pushed = ap (λ (xs : List RankedSibling). length xs) whole in
     let room : base ≤ length all = omega arith in
     let part : take (length all - base) (drop base all) ≡ drop (length old) pushed =
     take_all (length all - base) (drop base all) (omega (arith, length-drop base all)) ∙ (λ i. drop (from i) (whole i)) in
-    let moved : IsPermutation (drop (length old) pushed) ys = subst (λ (xs : List Sibling). IsPermutation xs ys) part c.sort_siblings.ensures.permutation in
+    let moved : IsPermutation (drop (length old) pushed) ys = subst (λ (xs : List RankedSibling). IsPermutation xs ys) part c.sort_siblings.ensures.permutation in
     let same : length ys ≡ length all - base = omega (arith, length_permutation (drop (length old) pushed) ys moved, length-drop (length old) pushed) in
     let tail = written_tail base c.push_siblings.new.siblings.len (length old) all ys pushed room (omega arith) (omega arith) same (sym from) in
-    subst (λ (xs : List Sibling). OnOk c.sort_siblings.result (sibling_trees used edition context d xs ≡ sorted edition context (used_trees used (trees_between d c.args.start c.args.end)))) (sym tail)
+    subst (λ (xs : List RankedSibling). OnOk c.sort_siblings.result (sibling_trees used edition context d xs ≡ sorted edition context (used_trees used (trees_between d c.args.start c.args.end)))) (sym tail)
     (on_ok_weaker c.sort_siblings.result
     (λ put. put
-    ∙ ap (λ (xs : List Sibling). grouped (sibling_trees used edition context d xs)) part
+    ∙ ap (λ (xs : List RankedSibling). grouped (sibling_trees used edition context d xs)) part
     ∙ ap grouped (c.in_ok-push_siblings.ensures.trees used edition context)
     ∙ grouped_is_sorted edition context (used_trees used (trees_between d c.args.start c.args.end)))
     (c.sort_siblings.ensures.trees d used edition context))

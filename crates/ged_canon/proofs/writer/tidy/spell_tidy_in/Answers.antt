@@ -1,9 +1,9 @@
 use Rattle.std.proofs.Common.{List, [], sym, ap, ◌∙◌, subst}
 use Rattle.std.specs.List.{AllByRecursion}
 use Rattle.ged_schema.specs.declared.context.Context.TheVariants.{File}
-use Rattle.ged_canon.specs.declared.writer.siblings.Sibling.{Sibling}
+use Rattle.ged_canon.specs.declared.writer.rank.RankedSibling.{RankedSibling}
 use Rattle.ged_canon.specs.inner.Working.{each_used, sorted_document}
-use Rattle.ged_canon.specs.inner.Siblings.{StandsIn, sibling_trees}
+use Rattle.ged_canon.specs.inner.Siblings.{StandsRanked, sibling_trees}
 use Rattle.ged_canon.proofs.theory.Tidy.{sorted_is_tidy_form}
 use Rattle.ged_canon.proofs.writer.KeptNames.{unnumbered, sorted_stands, kept_listed, kept_document, only_tidy}
 use Rattle.ged_canon.proofs.writer.Records.{siblings_stand, file_spelled}
@@ -17,7 +17,7 @@ write_kept_records-requires g c =
     let listed = ap (sibling_trees each_used edition File d) c.as_slice-records.ensures.value ∙ c.in_ok-siblings.ensures.trees each_used edition in
     record {
       document = c.document_siblings.ensures.document;
-      within = subst (λ (xs : List Sibling). AllByRecursion (StandsIn d) xs) (sym c.as_slice-records.ensures.value) c.in_ok-siblings.ensures.within;
+      within = subst (λ (xs : List RankedSibling). AllByRecursion (StandsRanked d) xs) (sym c.as_slice-records.ensures.value) c.in_ok-siblings.ensures.within;
       stand = siblings_stand each_used edition d (sorted_document edition d) xs (sorted_stands edition d c.document_siblings.ensures.document c.requires.checked) (kept_listed edition d xs listed);
     }
 

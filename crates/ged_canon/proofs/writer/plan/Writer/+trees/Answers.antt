@@ -12,10 +12,11 @@ use Rattle.ged_tree.specs.inner.Walks.{HasLinesAt}
 use Rattle.ged_tree.proofs.CallerLemmas.{below_run, run_below, run_ends}
 use Rattle.ged_schema.specs.Rows.{as_row}
 use Rattle.ged_schema.specs.Tables.{row, below_row}
+use Rattle.ged_canon.specs.declared.writer.rank.RankedSibling.{RankedSibling}
 use Rattle.ged_canon.specs.declared.writer.siblings.Sibling.{Sibling}
 use Rattle.ged_canon.specs.Steps.{renamed}
 use Rattle.ged_canon.specs.inner.Working.{used_xref, number_of, sorted, each_sorted}
-use Rattle.ged_canon.specs.inner.Siblings.{StandsIn, sibling_trees}
+use Rattle.ged_canon.specs.inner.Siblings.{sibling_trees, unranked, StandsRanked}
 use Rattle.ged_canon.specs.inner.Writing.{brief_sibling, renamed_sibling}
 use Rattle.ged_canon.proofs.writer.SiblingTrees.{below_step}
 use Rattle.ged_canon.proofs.writer.RunsWritten.{tree_lines, written_below, written_all, first_stands, below_stands, rest_stands, next_told, next_left, all_listed, in_order_sorted, run_first}
@@ -152,7 +153,7 @@ write_sorted-loop-number-init g t c =
     ∙ all_listed edition c.args.context d (trees_between d c.args.start c.args.end) (drop (length old) items) (c.in_ok-push_sorted.ensures.trees (λ name. true) edition c.args.context) in
     record {
       kept = ap (λ base. take base items) (sym from) ∙ c.in_ok-push_sorted.ensures.kept;
-      within = subst (λ base. AllByRecursion (StandsIn d) (drop base items)) from c.in_ok-push_sorted.ensures.within;
+      within = subst (λ base. AllByRecursion (StandsRanked d) (drop base items)) from c.in_ok-push_sorted.ensures.within;
       stand = ap (are_at c.args.level) whole ∙ c.requires.stand;
       told = λ names h. ap (λ left. c.args.work.now.answer ++ spelled_lines (lines_of c.args.level (renamed (number_of 1 names) left))) whole;
     }
@@ -163,13 +164,14 @@ write_sorted-write_tree-requires g t c κs within =
     let edition = c.args.self.now.plan.edition in
     let items = c.loop-number.work.siblings.items in
     let at = c.loop-number.number in
-    let sibling = c.index-sibling.result.now in
+    let ranked = c.index-ranked.result.now in
+    let sibling = unranked ranked in
     let rule : option_map as_row (option_copied c.row-rule.result) ≡ row c.args.context sibling.tag.now = c.row-rule.ensures ∙ ap (λ k. row k sibling.tag.now) c.of-rows.ensures in
     let x = used_xref (λ name. true) (structure_at d sibling.place).xref in
-    let listed = next_left items at sibling (omega arith) c.index-sibling.ensures in
+    let listed = next_left items at ranked (omega arith) c.index-ranked.ensures in
     let all = sibling_trees (λ name. true) edition c.args.context d (drop at items) in
     let rest = sibling_trees (λ name. true) edition c.args.context d (drop (at + 1) items) in
-    let here = (subst (λ (xs : List Sibling). AllByRecursion (StandsIn d) xs) listed c.loop-number.invariant.within).0 in
+    let here = (subst (λ (xs : List RankedSibling). AllByRecursion (StandsRanked d) xs) listed c.loop-number.invariant.within).0 in
     let is = ap (sibling_trees (λ name. true) edition c.args.context d) listed in (
       omega (arith, c.decreases),
       (
@@ -194,22 +196,23 @@ write_sorted-loop-number-preserved g t c =
     let items = c.loop-number.work.siblings.items in
     let now = c.write_tree.new.work.siblings.items in
     let at = c.loop-number.number in
-    let sibling = c.index-sibling.result.now in
+    let ranked = c.index-ranked.result.now in
+    let sibling = unranked ranked in
     let rule : option_map as_row (option_copied c.row-rule.result) ≡ row c.args.context sibling.tag.now = c.row-rule.ensures ∙ ap (λ k. row k sibling.tag.now) c.of-rows.ensures in
     let x = used_xref (λ name. true) (structure_at d sibling.place).xref in
-    let listed = next_left items at sibling (omega arith) c.index-sibling.ensures in
+    let listed = next_left items at ranked (omega arith) c.index-ranked.ensures in
     let all = sibling_trees (λ name. true) edition c.args.context d (drop at items) in
     let rest = sibling_trees (λ name. true) edition c.args.context d (drop (at + 1) items) in
     let is = ap (sibling_trees (λ name. true) edition c.args.context d) listed in
     let same : now ≡ items = c.in_ok-write_tree.ensures.kept in
     record {
       kept = ap (take c.len-base.result) same ∙ c.loop-number.invariant.kept;
-      within = subst (λ (xs : List Sibling). AllByRecursion (StandsIn d) (drop (at + 1) xs)) (sym same)
-          (subst (λ (xs : List Sibling). AllByRecursion (StandsIn d) xs) listed c.loop-number.invariant.within).1;
-      stand = ap (λ (xs : List Sibling). are_at c.args.level (sibling_trees (λ name. true) edition c.args.context d (drop (at + 1) xs))) same
+      within = subst (λ (xs : List RankedSibling). AllByRecursion (StandsRanked d) (drop (at + 1) xs)) (sym same)
+          (subst (λ (xs : List RankedSibling). AllByRecursion (StandsRanked d) xs) listed c.loop-number.invariant.within).1;
+      stand = ap (λ (xs : List RankedSibling). are_at c.args.level (sibling_trees (λ name. true) edition c.args.context d (drop (at + 1) xs))) same
           ∙ rest_stands edition c.args.context d c.args.level sibling x all rest is c.requires.deep c.loop-number.invariant.stand;
       told = λ names h.
-          ap (λ (xs : List Sibling). c.write_tree.new.work.answer ++ spelled_lines (lines_of c.args.level (renamed (number_of 1 names) (sibling_trees (λ name. true) edition c.args.context d (drop (at + 1) xs))))) same
+          ap (λ (xs : List RankedSibling). c.write_tree.new.work.answer ++ spelled_lines (lines_of c.args.level (renamed (number_of 1 names) (sibling_trees (λ name. true) edition c.args.context d (drop (at + 1) xs))))) same
           ∙ next_told edition c.args.context d c.args.level sibling x all rest is c.requires.deep c.loop-number.invariant.stand (number_of 1 names)
           (c.args.work.now.answer ++ spelled_lines (lines_of c.args.level (renamed (number_of 1 names) (sorted edition c.args.context (trees_between d c.args.start c.args.end)))))
           c.loop-number.work.answer c.write_tree.new.work.answer (c.in_ok-write_tree.ensures.lines names h ∙ ap (λ bytes. c.loop-number.work.answer ++ bytes) (tree_lines (number_of 1 names) edition None d sibling c.args.level _ (row c.args.context sibling.tag.now) rule)) (c.loop-number.invariant.told names h);
@@ -224,5 +227,5 @@ write_sorted-returns-clause-lines g t c = λ names h.
     let nothing : drop at items ≡ [] = drop_all at items (omega arith) in
     written_all (c.args.work.now.answer ++ spelled_lines (lines_of c.args.level (renamed (number_of 1 names) (sorted edition c.args.context (trees_between d c.args.start c.args.end)))))
     c.loop-number.work.answer (lines_of c.args.level (renamed (number_of 1 names) (sibling_trees (λ name. true) edition c.args.context d (drop at items))))
-    (ap (λ (xs : List Sibling). lines_of c.args.level (renamed (number_of 1 names) (sibling_trees (λ name. true) edition c.args.context d xs))) nothing)
+    (ap (λ (xs : List RankedSibling). lines_of c.args.level (renamed (number_of 1 names) (sibling_trees (λ name. true) edition c.args.context d xs))) nothing)
     (c.loop-number.invariant.told names h)

@@ -7,7 +7,7 @@ use Rattle.ged_tree.specs.DocumentLines.{lines_of}
 use Rattle.ged_tree.specs.Runs.{IsRun, trees_between}
 use Rattle.ged_canon.specs.Steps.{renamed}
 use Rattle.ged_canon.specs.inner.Working.{number_of, sorted, each_sorted, IsNumberingOf}
-use Rattle.ged_canon.specs.inner.Siblings.{StandsIn, sibling_trees}
+use Rattle.ged_canon.specs.inner.Siblings.{StandsRanked, sibling_trees}
 use Rattle.ged_canon.proofs.writer.plan.Writer.+trees.Given as goal
 
 -- each call below a structure is one level deeper, down to level 100
@@ -45,7 +45,7 @@ invariant-write_sorted-loop-number g l =
     let left = sibling_trees (λ name. true) l.self.plan.edition l.fn.context d listed in
     record {
       kept : take l.base l.work.siblings.items ≡ l.fn.work.siblings.items;
-      within : AllByRecursion (StandsIn d) listed;
+      within : AllByRecursion (StandsRanked d) listed;
       stand : are_at l.level left ≡ true;
       told : (names : List Bytes) → IsNumberingOf d names l.self.plan.index.now l.self.plan.numbers.now →
           l.work.answer ++ spelled_lines (lines_of l.level (renamed (number_of 1 names) left))

@@ -1,17 +1,15 @@
-use Rattle.std.proofs.Common.{◌≡◌, ◌+◌, ◌++◌, List, [], ◌∷◌, drop, get_or, refl, sym, ap, ◌∙◌, subst, append-nil, arith}
+use Rattle.std.proofs.Common.{◌≡◌, ◌+◌, ◌++◌, List, [], ◌∷◌, drop, refl, sym, ap, ◌∙◌, subst, append-nil, arith}
 use Rattle.std.specs.List.{AllByRecursion}
 use Rattle.std.proofs.lemmas.List.{drop_all}
 use Rattle.ged_tree.specs.Documents.{are_at}
 use Rattle.ged_schema.specs.declared.context.Context.TheVariants.{File}
-use Rattle.ged_canon.specs.declared.writer.siblings.Sibling.{Sibling}
+use Rattle.ged_canon.specs.declared.writer.rank.RankedSibling.{RankedSibling}
 use Rattle.ged_canon.specs.inner.Working.{each_used}
-use Rattle.ged_canon.specs.inner.Siblings.{StandsIn, sibling_trees}
+use Rattle.ged_canon.specs.inner.Siblings.{StandsRanked, sibling_trees}
 use Rattle.ged_canon.specs.inner.CanonBytes.{spelled_siblings}
-use Rattle.ged_canon.proofs.writer.Records.{first_stands, others_stand, left_split, left_after}
+use Rattle.ged_canon.proofs.writer.Records.{first_stands, others_stand, left_after}
+use Rattle.ged_canon.proofs.writer.RunsWritten.{next_left}
 use Rattle.ged_canon.proofs.writer.plan.Writer.write_kept_records.Goals as goal
-
-abbrev other : Sibling
-other = record { tag = record { ref_ptr = (0, 0); now = [] }; place = 0 }
 
 pub loop-each-init : goal.loop-each-init
 loop-each-init g c = record { within = c.requires.within; stand = c.requires.stand; told = λ h. refl }
@@ -22,14 +20,15 @@ write_kept_record-requires g c =
     let edition = c.args.self.now.plan.edition in
     let xs = c.args.siblings.now in
     let at = c.loop-each.each-index in
-    let split = left_split xs at other c.loop-each-test.true in
-    let all : AllByRecursion (StandsIn d) (get_or xs at other ∷ drop (at + 1) xs) =
-    subst (λ (ys : List Sibling). AllByRecursion (StandsIn d) ys) split c.loop-each.invariant.within in
+    let x = c.each-item.result in
+    let split = next_left xs at x c.loop-each-test.true c.each-item.is in
+    let all : AllByRecursion (StandsRanked d) (x ∷ drop (at + 1) xs) =
+    subst (λ (ys : List RankedSibling). AllByRecursion (StandsRanked d) ys) split c.loop-each.invariant.within in
     record {
       document = c.requires.document;
       within = (all.0, tt);
-      stand = first_stands each_used edition d (get_or xs at other) (drop (at + 1) xs)
-          (ap (λ (ys : List Sibling). are_at 0 (sibling_trees each_used edition File d ys)) (sym split) ∙ c.loop-each.invariant.stand);
+      stand = first_stands each_used edition d x (drop (at + 1) xs)
+          (ap (λ (ys : List RankedSibling). are_at 0 (sibling_trees each_used edition File d ys)) (sym split) ∙ c.loop-each.invariant.stand);
     }
 
 pub loop-each-preserved : goal.loop-each-preserved
@@ -38,14 +37,15 @@ loop-each-preserved g c =
     let edition = c.args.self.now.plan.edition in
     let xs = c.args.siblings.now in
     let at = c.loop-each.each-index in
-    let split = left_split xs at other c.loop-each-test.true in
-    let all : AllByRecursion (StandsIn d) (get_or xs at other ∷ drop (at + 1) xs) =
-    subst (λ (ys : List Sibling). AllByRecursion (StandsIn d) ys) split c.loop-each.invariant.within in
+    let x = c.each-item.result in
+    let split = next_left xs at x c.loop-each-test.true c.each-item.is in
+    let all : AllByRecursion (StandsRanked d) (x ∷ drop (at + 1) xs) =
+    subst (λ (ys : List RankedSibling). AllByRecursion (StandsRanked d) ys) split c.loop-each.invariant.within in
     record {
       within = all.1;
-      stand = others_stand each_used edition d (get_or xs at other) (drop (at + 1) xs)
-          (ap (λ (ys : List Sibling). are_at 0 (sibling_trees each_used edition File d ys)) (sym split) ∙ c.loop-each.invariant.stand);
-      told = λ h. left_after each_used edition [] d xs at (get_or xs at other) c.args.work.now.answer c.loop-each.work.answer c.write_kept_record.new.work.answer (spelled_siblings each_used edition [] d xs)
+      stand = others_stand each_used edition d x (drop (at + 1) xs)
+          (ap (λ (ys : List RankedSibling). are_at 0 (sibling_trees each_used edition File d ys)) (sym split) ∙ c.loop-each.invariant.stand);
+      told = λ h. left_after each_used edition [] d xs at (x) c.args.work.now.answer c.loop-each.work.answer c.write_kept_record.new.work.answer (spelled_siblings each_used edition [] d xs)
           split (c.loop-each.invariant.told h) (c.in_ok-write_kept_record.ensures h);
     }
 
@@ -55,5 +55,5 @@ returns g c = λ h.
     let xs = c.args.siblings.now in
     let none_left : drop c.loop-each.each-index xs ≡ [] = drop_all c.loop-each.each-index xs (omega arith) in
     sym (append-nil c.loop-each.work.answer)
-    ∙ ap (λ (ys : List Sibling). c.loop-each.work.answer ++ spelled_siblings each_used c.args.self.now.plan.edition [] d ys) (sym none_left)
+    ∙ ap (λ (ys : List RankedSibling). c.loop-each.work.answer ++ spelled_siblings each_used c.args.self.now.plan.edition [] d ys) (sym none_left)
     ∙ c.loop-each.invariant.told h

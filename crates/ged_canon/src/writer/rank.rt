@@ -1,0 +1,97 @@
+// The ranks of tags, which are compared in place of the tags.
+ghost use Rattle.std.specs.Prelude.{◌≡◌, ◌≢◌, ◌<◌, ◌+◌, length, slice_index_or};
+ghost use Rattle.ged_line.specs.Names.{tag_order as order_of_tags};
+ghost use Rattle.ged_canon.specs.inner.Ranks.{own_rank, tag_rank};
+
+use ged_line::tag_order;
+use std::cmp::Ordering;
+
+/// How many bytes of a tag its rank has. Only longer tags of one rank need be read to be told apart.
+const BYTES_IN_RANK: usize = 7;
+
+/// A structure among its siblings: its tag, the rank of that, and its place among all structures.
+#[derive(Clone, Copy, Debug)]
+pub(crate) struct RankedSibling<'a> {
+    pub(crate) rank: u64,
+    pub(crate) tag: &'a str,
+    pub(crate) place: usize,
+
+    ghost ranked: { rank ≡ tag_rank tag.now },
+}
+
+/// The byte at a place of a tag, or 0 behind its end.
+#[inline(always)]
+fn byte_at(tag: &[u8], place: usize) -> u64
+    ensures value { result ≡ slice_index_or tag.now place 0 }
+    ensures small { result < 256 }
+{
+    match tag.get(place) {
+        Some(byte) => u64::from(*byte),
+        None => 0,
+    }
+}
+
+/// The rank of a tag that is not GEDC, of any length.
+#[inline(never)]
+fn rank_of_any(tag: &[u8]) -> u64
+    ensures { result ≡ own_rank tag.now }
+{
+    let high = byte_at(tag, 0) * 0x1_0000 + byte_at(tag, 1) * 0x100 + byte_at(tag, 2);
+    let low = byte_at(tag, 3) * 0x100_0000
+        + byte_at(tag, 4) * 0x1_0000
+        + byte_at(tag, 5) * 0x100
+        + byte_at(tag, 6);
+    let count = tag.len().min(BYTES_IN_RANK + 1) as u64;
+    high * 0x100_0000_0000 + low * 0x100 + (count + 1)
+}
+
+/// The rank of a tag: its first seven bytes, the first one highest, and its length. That of GEDC is the lowest.
+#[inline(always)]
+pub(crate) fn rank_of(tag: &str) -> u64
+    ensures { result ≡ tag_rank tag.now }
+{
+    match tag.as_bytes() {
+        [a, b, c, d] => {
+            let number = u32::from_be_bytes([*a, *b, *c, *d]);
+            if number == 0x4745_4443 {
+                return 0;
+            }
+            u64::from(number) * 0x1_0000_0000 + 5
+        }
+        bytes => rank_of_any(bytes),
+    }
+}
+
+/// The structure at a place, with this tag.
+#[inline(always)]
+pub(crate) fn ranked_sibling(tag: &str, place: usize) -> RankedSibling<'_>
+    ensures tag { result.tag.now ≡ tag.now }
+    ensures place { result.place ≡ place }
+{
+    RankedSibling {
+        rank: rank_of(tag),
+        tag,
+        place,
+    }
+}
+
+#[cold]
+#[inline(never)]
+fn order_of_long(tag: &str, other: &str) -> Ordering
+    ensures { result ≡ order_of_tags tag.now other.now }
+{
+    tag_order(tag, other)
+}
+
+/// The order of two tags of these ranks, as [`tag_order`] tells it.
+#[inline(always)]
+pub(crate) fn ranked_order(rank: u64, tag: &str, other_rank: u64, other: &str) -> Ordering
+    requires first { rank ≡ tag_rank tag.now }
+    requires second { other_rank ≡ tag_rank other.now }
+    ensures { result ≡ order_of_tags tag.now other.now }
+{
+    if rank == other_rank && rank % 256 > 8 {
+        return order_of_long(tag, other);
+    }
+    rank.cmp(&other_rank)
+}
