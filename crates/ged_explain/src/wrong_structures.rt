@@ -42,7 +42,7 @@ fn say_misplaced(own: Step<'_>, told: &mut Told) {
         return told.say("nothing stands below a CONT");
     }
     told.say(
-        "a CONT comes straight after the text that it continues, one level deeper, and has a text itself",
+        "a CONT comes straight after the text that it continues, one level deeper, and is no pointer",
     )
 }
 
