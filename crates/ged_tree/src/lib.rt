@@ -34,4 +34,5 @@ pub use owned::node::{Node, RecordNode};
 pub use owned::paths::line_of;
 pub use owned::payload::{Payload, TextLines};
 pub use table::flat::Flat;
-pub use table::flatten::flatten;
+pub use table::flatten::{flatten, flatten_with};
+pub use table::line_reader::LineReader;

@@ -3,5 +3,6 @@ pub(crate) mod builder;
 pub(crate) mod closing;
 pub(crate) mod flat;
 pub(crate) mod flatten;
+pub(crate) mod line_reader;
 pub(crate) mod packed;
 pub(crate) mod structure;

@@ -69,10 +69,10 @@ lines_fit file lines left (text, m, h) = omega (arith, lines_fit_in text lines l
 pub count_fits : (file : Bytes) (table : TableBuilder) (left : List Bytes) → HasTaken file table left → table.count + length left ≤ length file
 count_fits file table left t = omega (arith, lines_fit file t.lines left t.read, t.holds.counted)
 
-pub begun : (file : Bytes) (table : TableBuilder) (pieces : List Bytes) → ArePiecesOf file pieces → HoldsLines table [] → HasTaken file table pieces
+abbrev pub begun : (file : Bytes) (table : TableBuilder) (pieces : List Bytes) → ArePiecesOf file pieces → HoldsLines table [] → HasTaken file table pieces
 begun file table pieces p h = record { lines = []; read = HaveReadFile-start file pieces p; holds = h }
 
-pub taken_more : (file : Bytes) (table new : TableBuilder) (left rest : List Bytes) (piece : Bytes) (line : LineParts) (t : HasTaken file table left) → left ≡ piece ∷ rest → LineText line piece → HoldsLines new (t.lines ++ line ∷ []) → HasTaken file new rest
+abbrev pub taken_more : (file : Bytes) (table new : TableBuilder) (left rest : List Bytes) (piece : Bytes) (line : LineParts) (t : HasTaken file table left) → left ≡ piece ∷ rest → LineText line piece → HoldsLines new (t.lines ++ line ∷ []) → HasTaken file new rest
 taken_more file table new left rest piece line t e text h = record { lines = t.lines ++ line ∷ []; read = HaveReadFile-more file t.lines (t.lines ++ line ∷ []) left rest piece line e refl text t.read; holds = h }
 
 pub lines_few : (file : Bytes) (table : TableBuilder) (left : List Bytes) (t : HasTaken file table left) → length t.lines ≤ length file
@@ -127,7 +127,7 @@ pub record HasTakenIn (text : Bytes) (table : TableBuilder) (rest : Bytes) : Typ
 abbrev pub taken_in : (text : Bytes) (table : TableBuilder) (rest : Bytes) → HasTakenIn text table rest → (file : Bytes) → IsBehindMark file text → HasTaken file table (pieces_of rest)
 taken_in text table rest t file m = record { lines = t.lines; read = (text, m, t.read); holds = t.holds }
 
-pub begun_in : (text : Bytes) (table : TableBuilder) → HoldsLines table [] → table.file.now ≡ text → HasTakenIn text table text
+abbrev pub begun_in : (text : Bytes) (table : TableBuilder) → HoldsLines table [] → table.file.now ≡ text → HasTakenIn text table text
 begun_in text table h e = record { lines = []; read = HaveRead-start text (pieces_of text) (are_cut text); holds = h; file = e; front = []; whole = refl }
 
 pub count_fits_in : (text : Bytes) (table : TableBuilder) (rest : Bytes) → HasTakenIn text table rest → table.count + length (pieces_of rest) ≤ length text
@@ -172,12 +172,16 @@ module _ (text : Bytes) (table : TableBuilder) (rest piece after : Bytes) (line 
         text_is = ap (λ (bs : Bytes). take (length piece) bs) behind ∙ here;
       })
 
-  pub taken_more_in : (new : TableBuilder) → new.file.now ≡ table.file.now → HoldsLines new (t.lines ++ line ∷ []) → HasTakenIn text new after
+  -- what is left behind the piece is the end of the whole
+  pub left_at_end : (front : Bytes) × (text ≡ front ++ after)
+  left_at_end = (t.front ++ (piece ++ end), t.whole ∙ ap (λ (bs : Bytes). t.front ++ bs) (parts ∙ sym (append_assoc piece end after)) ∙ sym (append_assoc t.front (piece ++ end) after))
+
+  abbrev pub taken_more_in : (new : TableBuilder) → new.file.now ≡ table.file.now → HoldsLines new (t.lines ++ line ∷ []) → HasTakenIn text new after
   taken_more_in new f h = record {
     lines = t.lines ++ line ∷ [];
     read = HaveRead-more text t.lines (t.lines ++ line ∷ []) (pieces_of rest) (pieces_of after) piece line (first_of_pieces rest piece after first) refl spelled t.read;
     holds = h;
     file = f ∙ t.file;
-    front = t.front ++ (piece ++ end);
-    whole = t.whole ∙ ap (λ (bs : Bytes). t.front ++ bs) (parts ∙ sym (append_assoc piece end after)) ∙ sym (append_assoc t.front (piece ++ end) after);
+    front = left_at_end.0;
+    whole = left_at_end.1;
   }

@@ -1,14 +1,27 @@
 // The flat table of a file.
-ghost use Rattle.std.specs.Prelude.{IfOk, IfErr};
+ghost use Rattle.std.specs.Prelude.{IfOk, IfErr, []};
 ghost use Rattle.ged_line.specs.Bytes.{Bytes};
 ghost use Rattle.ged_line.specs.Pieces.{IsBehindMark};
 ghost use Rattle.ged_tree.specs.Building.{HasFile, TellsFile};
+ghost use Rattle.ged_tree.specs.DocumentLines.{document_lines};
 
 use crate::fault::{BuildFault, TreeAt, TreeFault};
 use crate::table::builder::TableBuilder;
 use crate::table::flat::Flat;
-use ged_line::{first_line, text_behind_mark, view_lines};
+use crate::table::line_reader::LineReader;
+use ged_line::{LineView, first_line, text_behind_mark, view_lines};
 use std::alloc::Global;
+
+/// The reader of a table that is made for itself alone. It reads no line, so nothing is told of what it has read.
+#[derive(Drop)]
+struct NoReader;
+
+impl LineReader for NoReader {
+    ghost has_read = { λ _ _. Unit {0} };
+
+    #[inline(always)]
+    fn line(&mut self, _line: &LineView<'_>) {}
+}
 
 /// The document of a file as a table, whose texts are slices of the file. A byte order mark at the start is skipped.
 ///
@@ -18,16 +31,38 @@ pub fn flatten(alloc: Global, bytes: &[u8]) -> Result<Flat<'_>, BuildFault>
     ensures document { IfOk result (λ flat. HasFile flat bytes.now) }
     ensures fault { IfErr result (λ fault. TellsFile fault bytes.now) }
 {
+    flatten_with(alloc, bytes, &mut NoReader)
+}
+
+/// The same document or fault as [`flatten`] answers, for a caller that reads each line while the table is being made.
+///
+/// The reader gets every line of the file once and in order, TRLR too, each after it passed; where the file has a fault, the
+/// lines before the first one. Grows by the table alone: no payload is copied (FamilySearch GEDCOM 7.0, "Lines" and
+/// "Structures").
+pub fn flatten_with<'a, R: LineReader>(
+    alloc: Global,
+    bytes: &'a [u8],
+    reader: &mut R,
+) -> Result<Flat<'a>, BuildFault>
+    ensures document { IfOk result (λ flat. HasFile flat bytes.now) }
+    ensures fault { IfErr result (λ fault. TellsFile fault bytes.now) }
+    ensures read { IfOk result (λ flat. R.has_read reader.old [] → R.has_read reader.new (document_lines flat)) }
+{
     match text_behind_mark(bytes) {
-        Some(text) => flatten_text(alloc, text),
-        None => flatten_lines(alloc, bytes),
+        Some(text) => flatten_text(alloc, text, reader),
+        None => flatten_lines(alloc, bytes, reader),
     }
 }
 
 /// The same of what stands in a file behind its mark, where it is UTF-8.
-fn flatten_text(alloc: Global, text: &str) -> Result<Flat<'_>, BuildFault>
+fn flatten_text<'a, R: LineReader>(
+    alloc: Global,
+    text: &'a str,
+    reader: &mut R,
+) -> Result<Flat<'a>, BuildFault>
     ensures document { (file : Bytes) → IsBehindMark file text.now → IfOk result (λ flat. HasFile flat file) }
     ensures fault { (file : Bytes) → IsBehindMark file text.now → IfErr result (λ fault. TellsFile fault file) }
+    ensures read { IfOk result (λ flat. R.has_read reader.old [] → R.has_read reader.new (document_lines flat)) }
 {
     let mut table = TableBuilder::new(alloc, text);
     let mut rest = text;
@@ -39,6 +74,7 @@ fn flatten_text(alloc: Global, text: &str) -> Result<Flat<'_>, BuildFault>
                 if let Err(fault) = table.take(&line, Some(start)) {
                     return Err(fault);
                 }
+                reader.line(&line.line);
             }
             Err(fault) => {
                 let line = table.count + 1;
@@ -56,9 +92,14 @@ fn flatten_text(alloc: Global, text: &str) -> Result<Flat<'_>, BuildFault>
 /// The same of any file by its lines alone. It is for a file that is not UTF-8, which has some fault: to find the first
 /// one its lines are taken like those of another, and each text is kept apart, which makes no table wrong.
 #[cold]
-fn flatten_lines(alloc: Global, bytes: &[u8]) -> Result<Flat<'_>, BuildFault>
+fn flatten_lines<'a, R: LineReader>(
+    alloc: Global,
+    bytes: &'a [u8],
+    reader: &mut R,
+) -> Result<Flat<'a>, BuildFault>
     ensures document { IfOk result (λ flat. HasFile flat bytes.now) }
     ensures fault { IfErr result (λ fault. TellsFile fault bytes.now) }
+    ensures read { IfOk result (λ flat. R.has_read reader.old [] → R.has_read reader.new (document_lines flat)) }
 {
     let mut table = TableBuilder::new(alloc, "");
     for line in view_lines(bytes) {
@@ -67,6 +108,7 @@ fn flatten_lines(alloc: Global, bytes: &[u8]) -> Result<Flat<'_>, BuildFault>
                 if let Err(error) = table.take(&line, None) {
                     return Err(error);
                 }
+                reader.line(&line.line);
             }
             Err(fault) => {
                 let line = table.count + 1;
