@@ -12,5 +12,6 @@ pub mod KeptPlaces
 pub mod UseLemmas
 pub mod AnswerLemmas
 pub mod OneWayLemmas
+pub mod LedLemmas
 pub mod Deciding
 pub mod CallerLemmas

@@ -50,14 +50,14 @@ tested_rising false q = tt
 
 -- ---- trees that are a part of a document, from a place on
 
-record IsPart (d : Trees) (k : ℕ) (t : Trees) : Type 0 where
-  same : (i : ℕ) → i < trees_count t → structure_at d (k + i) ≡ structure_at t i
-  fits : k + trees_count t ≤ trees_count d
+pub record IsPart (d : Trees) (k : ℕ) (t : Trees) : Type 0 where
+  pub same : (i : ℕ) → i < trees_count t → structure_at d (k + i) ≡ structure_at t i
+  pub fits : k + trees_count t ≤ trees_count d
 
-whole_part : (d : Trees) → IsPart d 0 d
+pub whole_part : (d : Trees) → IsPart d 0 d
 whole_part d = record { same = λ i h. (let z : 0 + i ≡ i = omega arith in rw z refl); fits = omega arith }
 
-part_next : (d : Trees) (k : ℕ) (s : Structure) (b n : Trees) → IsPart d k (tree s b n) → IsPart d (k + 1 + trees_count b) n
+pub part_next : (d : Trees) (k : ℕ) (s : Structure) (b n : Trees) → IsPart d k (tree s b n) → IsPart d (k + 1 + trees_count b) n
 part_next d k s b n part = record {
   same = λ i h. (
       let z : k + 1 + trees_count b + i ≡ k + (1 + trees_count b + i) = omega arith in
@@ -65,7 +65,7 @@ part_next d k s b n part = record {
   fits = omega (arith, part.fits);
 }
 
-part_first : (d : Trees) (k : ℕ) (s : Structure) (b n : Trees) → IsPart d k (tree s b n) → structure_at d k ≡ s
+pub part_first : (d : Trees) (k : ℕ) (s : Structure) (b n : Trees) → IsPart d k (tree s b n) → structure_at d k ≡ s
 part_first d k s b n part = let z : k + 0 ≡ k = omega arith in (rw z at (part.same 0 (omega arith))) ∙ at_first s b n
 
 module _ (find : Bytes → Option ℕ) (d : Trees) where

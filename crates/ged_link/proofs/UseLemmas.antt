@@ -80,6 +80,7 @@ followed_start d count followed is empty long = record {
   marked = λ number. (λ e. absurd (none_marked count number (rw is at e)), λ h. absurd (omega (arith, h.2.1)));
   told = none_told d followed.targets.items empty;
   found = λ other before h. absurd (omega (arith, before));
+  led = λ _ other before. absurd (omega (arith, before));
 }
 
 module _ (d : Trees) (place : ℕ) (within : place < trees_count d) where

@@ -1,5 +1,5 @@
 -- Which document an index is of. The contracts of its calls say what follows; what it holds is told here for the proofs.
-use Rattle.std.specs.Prelude.{◌≡◌, ℕ, true, false, List, Option, Some, None, ◌↔◌, nat_eq, slice_index_or, option_map}
+use Rattle.std.specs.Prelude.{◌≡◌, ℕ, true, false, List, Option, Some, None, ◌↔◌, nat_eq, slice_index_or, option_map, IsTrue}
 use Rattle.std.specs.HashMap.{get, get_by_text}
 use Rattle.ged_line.specs.Bytes.{Bytes}
 use Rattle.ged_tree.specs.Trees.{Trees}
@@ -15,6 +15,7 @@ use Rattle.ged_link.specs.declared.record_type.RecordType.{RecordType}
 use Rattle.ged_link.specs.RecordTypes.{IsTypeOf}
 use Rattle.ged_link.specs.Targets.{AreTargets}
 use Rattle.ged_link.specs.Places.{ArePlaces}
+use Rattle.ged_link.specs.LedByTags.{AreLed}
 use Rattle.ged_link.specs.Notices.{AreOneWay}
 
 abbrev pub first_of : Option RecordPlace → Option RecordPlace → Option RecordPlace
@@ -55,5 +56,6 @@ pub record IsIndexOf (d : Trees) (index : Index) : Type 0 where
   pub typed : AreTyped d index.records index.types.items
   pub used : (number : ℕ) → (slice_index_or index.followed.used.items number false ≡ true) ↔ IsUsed d number
   pub targets : AreTargets d index.followed.targets.items
+  pub led : IsTrue index.followed.led → AreLed d d
   pub places : ArePlaces d index.places.items
   pub one_way : AreOneWay d index.one_way.items

@@ -6,6 +6,7 @@ pub mod ResolvedLaws
 pub mod Notices
 pub mod NameNumbers
 pub mod Targets
+pub mod LedByTags
 pub mod Places
 pub mod Slots
 pub mod Indexes

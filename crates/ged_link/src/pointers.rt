@@ -1,15 +1,16 @@
 // Where the pointers of a document lead: the records that they name, and the links between records.
-ghost use Rattle.std.specs.Prelude.{◌≡◌, ◌<◌, ◌≤◌, ◌+◌, ◌⊎◌, ℕ, false, IfOk, IfErr, OnOk, length, nat_eq, ◌&&◌, ◌||◌, option_map, alloc_error};
+ghost use Rattle.std.specs.Prelude.{◌≡◌, ◌<◌, ◌≤◌, ◌+◌, ◌⊎◌, ℕ, false, IsTrue, IfOk, IfErr, OnOk, length, nat_eq, ◌&&◌, ◌||◌, option_map, alloc_error};
 ghost use Rattle.ged_tree.specs.Trees.{records_of, trees_count};
 ghost use Rattle.ged_tree.specs.Places.{structure_at};
 ghost use Rattle.ged_tree.specs.Runs.{trees_between, IsRun};
 ghost use Rattle.ged_link.specs.Links.{identifiers};
 ghost use Rattle.ged_link.specs.LinkFaults.{HasLinkFault, IsRepeated, IsDangling};
-ghost use Rattle.ged_link.specs.Indexes.{AreRecords, place_in};
+ghost use Rattle.ged_link.specs.Indexes.{place_in};
 ghost use Rattle.ged_link.specs.inner.LinkWalks.{target, linked, is_place, has_link_to};
 ghost use Rattle.ged_link.specs.inner.PairSets.{lists_have, AreLinks};
 ghost use Rattle.ged_link.specs.Targets.{AreTargets};
-ghost use Rattle.ged_link.specs.inner.Resolving.{AreFollowed, AreUsed};
+ghost use Rattle.ged_link.specs.LedByTags.{AreLed};
+ghost use Rattle.ged_link.specs.inner.Resolving.{AreFollowed, AreKnown, AreUsed};
 ghost use Rattle.ged_link.specs.declared.index.RecordPlace.{RecordPlace};
 ghost use Rattle.ged_link.specs.declared.pairs.Role.{Role};
 ghost use Rattle.ged_link.specs.declared.fault.LinkFault.TheVariants.{Memory};
@@ -19,6 +20,7 @@ use crate::index::RecordPlace;
 use crate::link_lists::LinkLists;
 use crate::links::role_of;
 use crate::names::Names;
+use crate::record_type::{RecordType, leads_as_tagged};
 use crate::targets::{Target, push_target};
 use ged_tree::{Forest, PayloadView, end_of_all, next_in_run};
 use std::alloc::{AllocError, Global};
@@ -30,6 +32,15 @@ pub(crate) struct Followed {
     pub(crate) used: Vec<bool>,
     /// What the pointers name, in the order of their places.
     pub(crate) targets: Vec<Target>,
+    /// Whether each pointer whose tag says what it leads to leads to a record of that type.
+    pub(crate) led: bool,
+}
+
+/// The records of a document by their identifiers, and the type of each record by its number.
+#[derive(Clone, Copy)]
+pub(crate) struct Records<'r> {
+    pub(crate) names: &'r Names,
+    pub(crate) types: &'r [Option<RecordType>],
 }
 
 /// Marks the record that the structure at a place points to, and answers where it stands, or `None` where no pointer stands; or
@@ -37,31 +48,33 @@ pub(crate) struct Followed {
 #[inline(always)]
 fn follow<F: Forest>(
     forest: &F,
-    records: &Names,
+    records: &Records<'_>,
     place: usize,
     followed: &mut Followed,
 ) -> Result<Option<RecordPlace>, LinkFault>
     requires within { place < trees_count (F.trees forest.now) }
-    requires records { AreRecords (F.trees forest.now) records.now }
+    requires records { AreKnown (F.trees forest.now) records.now }
     requires distinct { (place : ℕ) → IsRepeated (F.trees forest.now) place → ⊥ }
     requires used { AreFollowed (F.trees forest.now) place followed.old }
     ensures used { OnOk result (AreFollowed (F.trees forest.now) (place + 1) followed.new) }
-    ensures target { IfOk result (λ found. option_map (λ (r : RecordPlace). r.place) found ≡ target (place_in records.now) (structure_at (F.trees forest.now) place).payload) }
+    ensures target { IfOk result (λ found. option_map (λ (r : RecordPlace). r.place) found ≡ target (place_in records.now.names.now) (structure_at (F.trees forest.now) place).payload) }
     ensures fault { IfErr result (λ fault. (fault ≡ Memory alloc_error) ⊎ HasLinkFault (F.trees forest.now) fault) }
 {
     if !forest.points(place) {
         return Ok(None);
     }
-    let PayloadView::Pointer(name) = forest.payload(place) else {
+    let (tag, payload) = forest.tag_and_payload(place);
+    let PayloadView::Pointer(name) = payload else {
         return Ok(None);
     };
-    let Some(found) = records.find(name) else {
+    let Some(found) = records.names.find(name) else {
         return Err(LinkFault::Dangling(forest.line(place)));
     };
     followed.used[found.number] = true;
     let Ok(()) = push_target(&mut followed.targets, place, found.number) else {
         return Err(LinkFault::Memory(AllocError));
     };
+    followed.led &= leads_as_tagged(records.types, tag, found.number);
     Ok(Some(found))
 }
 
@@ -69,14 +82,14 @@ fn follow<F: Forest>(
 /// that names none.
 fn follow_all<F: Forest>(
     forest: &F,
-    records: &Names,
+    records: &Records<'_>,
     start: usize,
     end: usize,
     followed: &mut Followed,
 ) -> Result<(), LinkFault>
     requires order { start ≤ end }
     requires within { end ≤ trees_count (F.trees forest.now) }
-    requires records { AreRecords (F.trees forest.now) records.now }
+    requires records { AreKnown (F.trees forest.now) records.now }
     requires distinct { (place : ℕ) → IsRepeated (F.trees forest.now) place → ⊥ }
     requires used { AreFollowed (F.trees forest.now) start followed.old }
     ensures used { OnOk result (AreFollowed (F.trees forest.now) end followed.new) }
@@ -95,7 +108,7 @@ fn follow_all<F: Forest>(
 #[tactic(auto, using(crate::proofs::WalkLemmas::one_link))]
 fn follow_link<F: Forest>(
     forest: &F,
-    records: &Names,
+    records: &Records<'_>,
     from: usize,
     record_tag: &str,
     place: usize,
@@ -104,12 +117,12 @@ fn follow_link<F: Forest>(
 ) -> Result<(), LinkFault>
     requires record_tag { record_tag.now ≡ (structure_at (F.trees forest.now) from).tag }
     requires within { place < trees_count (F.trees forest.now) }
-    requires records { AreRecords (F.trees forest.now) records.now }
+    requires records { AreKnown (F.trees forest.now) records.now }
     requires distinct { (place : ℕ) → IsRepeated (F.trees forest.now) place → ⊥ }
     requires used { AreFollowed (F.trees forest.now) place followed.old }
     ensures used { OnOk result (AreFollowed (F.trees forest.now) (place + 1) followed.new) }
     ensures links { OnOk result ((role : Role) (pair : ℕ × ℕ) → lists_have lists.new role pair
-        ≡ ((nat_eq pair.0 from && is_place (linked (place_in records.now) role (structure_at (F.trees forest.now) from).tag (structure_at (F.trees forest.now) place)) pair.1)
+        ≡ ((nat_eq pair.0 from && is_place (linked (place_in records.now.names.now) role (structure_at (F.trees forest.now) from).tag (structure_at (F.trees forest.now) place)) pair.1)
         || lists_have lists.old role pair)) }
     ensures fault { IfErr result (λ fault. (fault ≡ Memory alloc_error) ⊎ HasLinkFault (F.trees forest.now) fault) }
 {
@@ -133,7 +146,7 @@ fn follow_link<F: Forest>(
 #[tactic(auto, using(crate::proofs::WalkLemmas::pairs))]
 fn follow_record<F: Forest>(
     forest: &F,
-    records: &Names,
+    records: &Records<'_>,
     from: usize,
     end: usize,
     followed: &mut Followed,
@@ -142,12 +155,12 @@ fn follow_record<F: Forest>(
     requires from { from < trees_count (F.trees forest.now) }
     requires end { end ≤ trees_count (F.trees forest.now) }
     requires run { IsRun (F.trees forest.now) (from + 1) end }
-    requires records { AreRecords (F.trees forest.now) records.now }
+    requires records { AreKnown (F.trees forest.now) records.now }
     requires distinct { (place : ℕ) → IsRepeated (F.trees forest.now) place → ⊥ }
     requires used { AreFollowed (F.trees forest.now) from followed.old }
     ensures used { OnOk result (AreFollowed (F.trees forest.now) end followed.new) }
     ensures links { OnOk result ((role : Role) (pair : ℕ × ℕ) → lists_have lists.new role pair
-        ≡ ((nat_eq pair.0 from && has_link_to (place_in records.now) role (structure_at (F.trees forest.now) from).tag pair.1 (trees_between (F.trees forest.now) (from + 1) end))
+        ≡ ((nat_eq pair.0 from && has_link_to (place_in records.now.names.now) role (structure_at (F.trees forest.now) from).tag pair.1 (trees_between (F.trees forest.now) (from + 1) end))
         || lists_have lists.old role pair)) }
     ensures fault { IfErr result (λ fault. (fault ≡ Memory alloc_error) ⊎ HasLinkFault (F.trees forest.now) fault) }
 {
@@ -177,25 +190,29 @@ fn follow_record<F: Forest>(
 pub(crate) fn follow_pointers<F: Forest>(
     alloc: Global,
     forest: &F,
-    records: &Names,
-    count: usize,
+    records: &Records<'_>,
     none: LinkLists,
 ) -> Result<(Followed, LinkLists), LinkFault>
-    requires records { AreRecords (F.trees forest.now) records.now }
-    requires count { count ≡ length (identifiers (records_of (F.trees forest.now))) }
+    requires records { AreKnown (F.trees forest.now) records.now }
+    requires count { length records.now.types.now ≡ length (identifiers (records_of (F.trees forest.now))) }
     requires none { (role : Role) (pair : ℕ × ℕ) → lists_have none role pair ≡ false }
     requires distinct { (place : ℕ) → IsRepeated (F.trees forest.now) place → ⊥ }
     ensures used { IfOk result (λ followed. AreUsed (F.trees forest.now) followed.0.used.items) }
     ensures targets { IfOk result (λ followed. AreTargets (F.trees forest.now) followed.0.targets.items) }
+    ensures led { IfOk result (λ followed. IsTrue followed.0.led → AreLed (F.trees forest.now) (F.trees forest.now)) }
     ensures found { IfOk result (λ _. (place : ℕ) → IsDangling (F.trees forest.now) place → ⊥) }
-    ensures links { IfOk result (λ followed. AreLinks (place_in records.now) (F.trees forest.now) followed.1) }
+    ensures links { IfOk result (λ followed. AreLinks (place_in records.now.names.now) (F.trees forest.now) followed.1) }
     ensures fault { IfErr result (λ fault. (fault ≡ Memory alloc_error) ⊎ HasLinkFault (F.trees forest.now) fault) }
 {
-    let Ok(used) = vec![in alloc; false; count] else {
+    let Ok(used) = vec![in alloc; false; records.types.len()] else {
         return Err(LinkFault::Memory(AllocError));
     };
     let targets = Vec::new(alloc);
-    let mut followed = Followed { used, targets };
+    let mut followed = Followed {
+        used,
+        targets,
+        led: true,
+    };
     let mut lists = none;
     let end = end_of_all(forest);
     let mut place = 0;

@@ -1,6 +1,9 @@
 // The types of the records that pointers lead to.
-ghost use Rattle.std.specs.Prelude.{◌≡◌, ◌↔◌, Some, None, IsTrue, slice_index_or};
-ghost use Rattle.ged_link.specs.RecordTypes.{IsTypeOf};
+ghost use Rattle.std.specs.Prelude.{◌≡◌, ◌↔◌, Some, None, IsTrue, slice_index_or, option_map};
+ghost use Rattle.std.specs.Bool.{OnTrue};
+ghost use Rattle.ged_link.specs.RecordTypes.{IsTypeOf, record_tag};
+ghost use Rattle.ged_link.specs.LedByTags.{led_by};
+ghost use Rattle.ged_link.specs.inner.Resolving.{LeadsAsTagged};
 
 /// A type of records that pointers of the structure tables lead to, by the tag of those records (FamilySearch GEDCOM 7.0,
 /// "Structure Organization").
@@ -41,4 +44,40 @@ pub(crate) fn is_typed(types: &[Option<RecordType>], number: usize, wanted: Reco
     ensures { IsTrue result ↔ (slice_index_or types.now number None ≡ Some wanted) }
 {
     types.get(number).copied().unwrap_or(None) == Some(wanted)
+}
+
+/// The type of the records that a pointer with a tag leads to, or `None` where its tag alone does not say it. The most frequent
+/// tags come first.
+#[inline(always)]
+pub(crate) fn type_led_by(tag: &str) -> Option<RecordType>
+    ensures { option_map record_tag result ≡ led_by tag.now }
+{
+    if tag == "FAMC" || tag == "FAMS" {
+        Some(RecordType::Fam)
+    } else if tag == "HUSB" || tag == "WIFE" || tag == "CHIL" {
+        Some(RecordType::Indi)
+    } else if tag == "SOUR" {
+        Some(RecordType::Sour)
+    } else if tag == "ASSO" || tag == "ALIA" {
+        Some(RecordType::Indi)
+    } else if tag == "SUBM" || tag == "ANCI" || tag == "DESI" {
+        Some(RecordType::Subm)
+    } else if tag == "SNOTE" {
+        Some(RecordType::Snote)
+    } else if tag == "OBJE" {
+        Some(RecordType::Obje)
+    } else {
+        None
+    }
+}
+
+/// Whether the record with a number is of the type that a pointer with a tag leads to, where its tag says it.
+#[inline(always)]
+pub(crate) fn leads_as_tagged(types: &[Option<RecordType>], tag: &str, number: usize) -> bool
+    ensures { OnTrue result (LeadsAsTagged (led_by tag.now) (slice_index_or types.now number None)) }
+{
+    match type_led_by(tag) {
+        Some(wanted) => is_typed(types, number, wanted),
+        None => true,
+    }
 }

@@ -24,7 +24,7 @@ use crate::link_lists::LinkLists;
 use crate::links::find_one_way;
 use crate::listing::{ListedName, RecordList, joined, list_records};
 use crate::names::Names;
-use crate::pointers::follow_pointers;
+use crate::pointers::{Records, follow_pointers};
 use crate::record_type::RecordType;
 use ged_tree::{Forest, end_of_all, next_in_run};
 use std::alloc::{AllocError, Global};
@@ -37,7 +37,11 @@ pub fn resolve<F: Forest>(alloc: Global, forest: &F) -> Result<Index, LinkFault>
     ensures fault { IfErr result (λ fault. (fault ≡ Memory alloc_error) ⊎ HasLinkFault (F.trees forest.now) fault) }
 {
     let (records, types, places, none) = find_records(alloc, forest)?;
-    let (followed, lists) = follow_pointers(alloc, forest, &records, types.len(), none)?;
+    let known = Records {
+        names: &records,
+        types: &types,
+    };
+    let (followed, lists) = follow_pointers(alloc, forest, &known, none)?;
     let Ok(one_way) = find_one_way(alloc, forest, &records, lists) else {
         return Err(LinkFault::Memory(AllocError));
     };

@@ -1,16 +1,22 @@
 -- Nothing here need be believed: only private contracts and proofs cite it.
 -- How far the walks of resolving have come; only private functions cite this.
-use Rattle.std.specs.Prelude.{◌≡◌, ℕ, ◌<◌, Bool, true, false, List, Some, ◌↔◌, Option, None, is_none, if◌then◌else◌, slice_index_or, length}
+use Rattle.std.specs.Prelude.{◌≡◌, ℕ, ◌<◌, Bool, true, false, List, Some, ◌↔◌, Option, None, IfSome, IsTrue, is_none, if◌then◌else◌, option_map, slice_index_or, length}
 use Rattle.std.specs.Str.{bytes_eq}
 use Rattle.ged_line.specs.Bytes.{Bytes}
 use Rattle.ged_tree.specs.Trees.{Trees, records_of}
+use Rattle.ged_tree.specs.Documents.{is_document}
+use Rattle.ged_tree.specs.Places.{structure_at}
 use Rattle.ged_link.specs.declared.index.RecordPlace.{RecordPlace}
 use Rattle.ged_link.specs.Links.{identifiers, IsRecordNumber, IsUsed}
 use Rattle.ged_link.specs.LinkFaults.{HasXref, HasPointer, IsDangling}
 use Rattle.ged_link.specs.declared.names.Names.{Names}
 use Rattle.ged_link.specs.declared.pointers.Followed.{Followed}
+use Rattle.ged_link.specs.declared.pointers.Records.{Records}
+use Rattle.ged_link.specs.declared.record_type.RecordType.{RecordType}
+use Rattle.ged_link.specs.RecordTypes.{record_tag}
 use Rattle.ged_link.specs.Targets.{AreTargets}
-use Rattle.ged_link.specs.Indexes.{found_in, place_in, number_in}
+use Rattle.ged_link.specs.LedByTags.{IsLed}
+use Rattle.ged_link.specs.Indexes.{AreRecords, AreTyped, found_in, place_in, number_in}
 
 -- the records gain a name, and keep all others
 abbrev pub AddsName : Names → Names → Bytes → RecordPlace → Type 0
@@ -35,12 +41,27 @@ AreUsedBefore d place used =
 abbrev pub NoneDanglesBefore : Trees → ℕ → Type 0
 NoneDanglesBefore d place = (other : ℕ) → other < place → IsDangling d other → ⊥
 
+-- what is known of a record's type is what a pointer's tag says that it leads to, if it says it
+abbrev pub LeadsAsTagged : Option Bytes → Option RecordType → Type 0
+LeadsAsTagged wanted known = IfSome wanted (λ tag. option_map record_tag known ≡ Some tag)
+
+-- each pointer before a place leads to such a record as its tag says
+abbrev pub AreLedBefore : Trees → ℕ → Type 0
+AreLedBefore d place = (other : ℕ) → other < place → IsLed d (structure_at d other).tag (structure_at d other).payload
+
+-- a document's records by their identifiers, and the types of the records
+pub record AreKnown (d : Trees) (records : Records) : Type 0 where
+  pub document : is_document d ≡ true
+  pub named : AreRecords d records.names.now
+  pub typed : AreTyped d records.names.now records.types.now
+
 -- all pointers before a place name records, those are marked, and what is kept of the pointers is true
 pub record AreFollowed (d : Trees) (place : ℕ) (followed : Followed) : Type 0 where
   pub long : length followed.used.items ≡ length (identifiers (records_of d))
   pub marked : AreUsedBefore d place followed.used.items
   pub told : AreTargets d followed.targets.items
   pub found : NoneDanglesBefore d place
+  pub led : IsTrue followed.led → AreLedBefore d place
 
 -- a record is marked exactly where some pointer names it
 abbrev pub AreUsed : Trees → List Bool → Type 0

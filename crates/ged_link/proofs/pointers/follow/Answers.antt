@@ -1,11 +1,16 @@
-use Rattle.std.proofs.Common.{◌≡◌, ◌<◌, Some, inr, None, sym, ap, ◌∙◌, arith, option_map, length, true}
+use Rattle.std.proofs.Common.{◌≡◌, ◌<◌, Some, inr, None, sym, ap, ◌∙◌, arith, option_map, length, true, subst, slice_index_or}
 use Rattle.std.proofs.Math.ListN.{length-set}
+use Rattle.ged_line.specs.Bytes.{Bytes}
 use Rattle.ged_tree.specs.Trees.{further_lines}
 use Rattle.ged_tree.specs.Places.{structure_at}
+use Rattle.ged_tree.specs.Views.{payload_of}
 use Rattle.ged_tree.specs.declared.owned.payload.Payload.TheVariants.{Pointer}
 use Rattle.ged_link.specs.declared.index.RecordPlace.{RecordPlace}
+use Rattle.ged_link.specs.LedByTags.{led_by}
 use Rattle.ged_link.specs.Indexes.{number_in, place_in}
+use Rattle.ged_link.specs.inner.Resolving.{LeadsAsTagged}
 use Rattle.ged_link.proofs.UseLemmas.{not_pointer, no_target, told_not_pointer, told_no_target, used_kept, dangles_kept, used_more, dangles_more, first_dangling, number_inside}
+use Rattle.ged_link.proofs.LedLemmas.{not_led, led_here, led_more, both_led, on_true}
 use Rattle.ged_link.proofs.pointers.follow.Goals as goal
 
 pub returns-then-not-points : goal.returns-then-not-points
@@ -20,8 +25,9 @@ returns-then-not-points g c =
         marked = used_kept w c.args.place c.requires.within c.args.followed.now.used.items other c.requires.used.marked;
         told = c.requires.used.told;
         found = dangles_kept w c.args.place c.requires.within other c.requires.used.found;
+        led = λ is. led_more w c.args.place (not_led w s.tag s.payload other) (c.requires.used.led is);
       };
-      target = sym (told_no_target (place_in c.args.records.now) s.payload denied);
+      target = sym (told_no_target (place_in c.args.records.now.names.now) s.payload denied);
       fault = tt;
     }
 
@@ -29,44 +35,50 @@ pub returns-in_default : goal.returns-in_default
 returns-in_default g c =
     let w = g.F.Forest.trees c.args.forest.now in
     let s = structure_at w c.args.place in
-    let other = not_pointer c.payload.result (further_lines s.payload) s.payload c.payload.ensures c.in_default.not-Pointer in
+    let other = not_pointer c.tag_and_payload.result.1 (further_lines s.payload) s.payload c.tag_and_payload.ensures.payload c.in_default.not-Pointer in
     record {
       used = record {
         long = c.requires.used.long;
         marked = used_kept w c.args.place c.requires.within c.args.followed.now.used.items other c.requires.used.marked;
         told = c.requires.used.told;
         found = dangles_kept w c.args.place c.requires.within other c.requires.used.found;
+        led = λ is. led_more w c.args.place (not_led w s.tag s.payload other) (c.requires.used.led is);
       };
-      target = sym (no_target (place_in c.args.records.now) c.payload.result (further_lines s.payload) s.payload c.payload.ensures c.in_default.not-Pointer);
+      target = sym (no_target (place_in c.args.records.now.names.now) c.tag_and_payload.result.1 (further_lines s.payload) s.payload c.tag_and_payload.ensures.payload c.in_default.not-Pointer);
       fault = tt;
     }
 
 pub returns-in_default-find-clause-fault : goal.returns-in_default-find-clause-fault
 returns-in_default-find-clause-fault g c =
     let w = g.F.Forest.trees c.args.forest.now in
-    let here : (structure_at w c.args.place).payload ≡ Pointer c.in-Pointer.name.now = sym c.in-Pointer.ensures in
-    let missing : number_in c.args.records.now c.in-Pointer.name.now ≡ None = ap (option_map (λ (r : RecordPlace). r.number)) (sym c.find.ensures ∙ c.in_default-find.is) in
-    inr (c.requires.distinct, (c.args.place, first_dangling w c.args.place c.requires.within c.args.records.now c.in-Pointer.name.now c.requires.records here missing c.requires.used.found, c.line.ensures))
+    let here : (structure_at w c.args.place).payload ≡ Pointer c.in-Pointer.name.now = sym c.tag_and_payload.ensures.payload ∙ ap (λ v. payload_of v (further_lines (structure_at w c.args.place).payload)) c.in-Pointer.is in
+    let missing : number_in c.args.records.now.names.now c.in-Pointer.name.now ≡ None = ap (option_map (λ (r : RecordPlace). r.number)) (sym c.find.ensures ∙ c.in_default-find.is) in
+    inr (c.requires.distinct, (c.args.place, first_dangling w c.args.place c.requires.within c.args.records.now.names.now c.in-Pointer.name.now c.requires.records.named here missing c.requires.used.found, c.line.ensures))
 
 pub index_mut-requires : goal.index_mut-requires
 index_mut-requires g c =
     let w = g.F.Forest.trees c.args.forest.now in
-    let named : number_in c.args.records.now c.in-Pointer.name.now ≡ Some c.in-Some.found.number = ap (option_map (λ (r : RecordPlace). r.number)) (sym c.find.ensures ∙ c.in-Some.is) in
-    omega (arith, number_inside w c.args.records.now c.in-Pointer.name.now c.in-Some.found.number c.requires.records named, c.requires.used.long)
+    let named : number_in c.args.records.now.names.now c.in-Pointer.name.now ≡ Some c.in-Some.found.number = ap (option_map (λ (r : RecordPlace). r.number)) (sym c.find.ensures ∙ c.in-Some.is) in
+    omega (arith, number_inside w c.args.records.now.names.now c.in-Pointer.name.now c.in-Some.found.number c.requires.records.named named, c.requires.used.long)
 
 pub returns-clause-used : goal.returns-clause-used
 returns-clause-used g c =
     let w = g.F.Forest.trees c.args.forest.now in
-    let records = c.args.records.now in
+    let records = c.args.records.now.names.now in
     let name = c.in-Pointer.name.now in
     let used = c.args.followed.now.used.items in
     let number = c.in-Some.found.number in
-    let here : (structure_at w c.args.place).payload ≡ Pointer name = sym c.in-Pointer.ensures in
+    let here : (structure_at w c.args.place).payload ≡ Pointer name = sym c.tag_and_payload.ensures.payload ∙ ap (λ v. payload_of v (further_lines (structure_at w c.args.place).payload)) c.in-Pointer.is in
     let named : number_in records name ≡ Some number = ap (option_map (λ (r : RecordPlace). r.number)) (sym c.find.ensures ∙ c.in-Some.is) in
-    let inside : number < length used = omega (arith, number_inside w records name number c.requires.records named, c.requires.used.long) in
+    let inside : number < length used = omega (arith, number_inside w records name number c.requires.records.named named, c.requires.used.long) in
     record {
       long = length-set used number true ∙ c.requires.used.long;
-      marked = used_more w c.args.place c.requires.within records name c.requires.records here used number named inside c.requires.used.marked;
-      told = c.in-Ok.ensures w (name, here, (c.requires.records.numbered name number).0 named) c.requires.used.told;
-      found = dangles_more w c.args.place c.requires.within records name c.requires.records here number named c.requires.used.found;
+      marked = used_more w c.args.place c.requires.within records name c.requires.records.named here used number named inside c.requires.used.marked;
+      told = c.in-Ok.ensures w (name, here, (c.requires.records.named.numbered name number).0 named) c.requires.used.told;
+      found = dangles_more w c.args.place c.requires.within records name c.requires.records.named here number named c.requires.used.found;
+      led = λ is.
+          let both = both_led _ _ is in
+          let tagged : Bytes → Type 0 = λ tag. LeadsAsTagged (led_by tag) (slice_index_or c.args.records.now.types.now number None) in
+          let leads = subst tagged c.tag_and_payload.ensures.tag (on_true _ (tagged c.tag_and_payload.result.0.now) c.leads_as_tagged.ensures both.1) in
+          led_more w c.args.place (led_here w c.args.records.now (structure_at w c.args.place).tag name _ c.in-Some.found c.requires.records here (sym c.find.ensures ∙ c.in-Some.is) leads) (c.requires.used.led both.0);
     }

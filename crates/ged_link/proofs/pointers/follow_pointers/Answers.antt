@@ -1,8 +1,9 @@
-use Rattle.std.proofs.Common.{◌∙◌}
+use Rattle.std.proofs.Common.{◌∙◌, length}
 use Rattle.ged_link.specs.Indexes.{place_in}
 use Rattle.ged_link.proofs.RecordLemmas.{whole_end, run_over}
 use Rattle.ged_link.proofs.UseLemmas.{followed_start, used_all, dangles_all}
 use Rattle.ged_link.proofs.WalkLemmas.{pairs_start}
+use Rattle.ged_link.proofs.LedLemmas.{led_all}
 use Rattle.ged_link.specs.inner.PairSets.{lists_have}
 use Rattle.ged_link.proofs.pointers.follow_pointers.Goals as goal
 
@@ -12,8 +13,8 @@ loop-after-init g c =
     record {
       whole = whole_end w c.end_of_all-end.result c.end_of_all-end.ensures.run c.end_of_all-end.ensures.all;
       run = c.end_of_all-end.ensures.run;
-      used = followed_start w c.args.count _ (c.in-Ok.ensures.items_if_clones_equal (λ y e. e)) c.new-targets.ensures.items c.requires.count;
-      told = λ role pair. pairs_start (place_in c.args.records.now) role _ w pair (lists_have c.args.none role pair) c.end_of_all-end.ensures.all (c.requires.none role pair);
+      used = followed_start w (length c.args.records.now.types.now) _ (c.in-Ok.ensures.items_if_clones_equal (λ y e. e)) c.new-targets.ensures.items c.requires.count;
+      told = λ role pair. pairs_start (place_in c.args.records.now.names.now) role _ w pair (lists_have c.args.none role pair) c.end_of_all-end.ensures.all (c.requires.none role pair);
     }
 
 pub returns-clause-used : goal.returns-clause-used
@@ -27,3 +28,9 @@ returns-clause-found g c =
     let w = g.F.Forest.trees c.args.forest.now in
     let inv = c.loop-after.invariant in
     dangles_all w c.loop-after.place (run_over w c.loop-after.place c.end_of_all-end.result inv.run c.in_default-next_in_run.ensures ∙ inv.whole) inv.used.found
+
+pub returns-clause-led : goal.returns-clause-led
+returns-clause-led g c =
+    let w = g.F.Forest.trees c.args.forest.now in
+    let inv = c.loop-after.invariant in
+    λ is. led_all w c.loop-after.place (run_over w c.loop-after.place c.end_of_all-end.result inv.run c.in_default-next_in_run.ensures ∙ inv.whole) (inv.used.led is)

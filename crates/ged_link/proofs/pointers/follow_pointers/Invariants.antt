@@ -15,7 +15,7 @@ invariant-loop-after g l =
       whole : l.end ≡ trees_count trees;
       run : IsRun trees l.place l.end;
       used : AreFollowed trees l.place l.followed;
-      told : (role : Role) (pair : ℕ × ℕ) → (has_pair (place_in l.records) role l.place (trees_between trees l.place l.end) pair || lists_have l.lists role pair) ≡ has_pair (place_in l.records) role 0 trees pair;
+      told : (role : Role) (pair : ℕ × ℕ) → (has_pair (place_in l.records.names.now) role l.place (trees_between trees l.place l.end) pair || lists_have l.lists role pair) ≡ has_pair (place_in l.records.names.now) role 0 trees pair;
     }
 
 abbrev pub decreases-loop-after : goal.decreases-loop-after

@@ -15,8 +15,8 @@ invariant-loop-after g l =
       run : IsRun trees l.place l.end;
       used : AreFollowed trees l.place l.followed;
       told : (role : Role) (pair : ℕ × ℕ) →
-          ((nat_eq pair.0 l.from && has_link_to (place_in l.records) role (structure_at trees l.from).tag pair.1 (trees_between trees l.place l.end)) || lists_have l.lists role pair)
-          ≡ ((nat_eq pair.0 l.from && has_link_to (place_in l.records) role (structure_at trees l.from).tag pair.1 (trees_between trees (l.from + 1) l.end)) || lists_have l.fn.lists role pair);
+          ((nat_eq pair.0 l.from && has_link_to (place_in l.records.names.now) role (structure_at trees l.from).tag pair.1 (trees_between trees l.place l.end)) || lists_have l.lists role pair)
+          ≡ ((nat_eq pair.0 l.from && has_link_to (place_in l.records.names.now) role (structure_at trees l.from).tag pair.1 (trees_between trees (l.from + 1) l.end)) || lists_have l.fn.lists role pair);
     }
 
 abbrev pub decreases-loop-after : goal.decreases-loop-after

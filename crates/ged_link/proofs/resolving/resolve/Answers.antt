@@ -19,6 +19,14 @@ returns-clause-index g c =
       typed = c.in_ok-records.ensures.types;
       used = c.in_ok-followed.ensures.used;
       targets = c.in_ok-followed.ensures.targets;
+      led = c.in_ok-followed.ensures.led;
       places = c.in_ok-records.ensures.places;
       one_way = subst (λ (places : List ℕ). AreOneWay w places) (sym c.in-Ok.ensures) (are_one_way w c.in_ok-records.ensures.document (place_in c.in_ok-records.records) are.placed);
     }
+
+pub follow_pointers-requires-clause-records : goal.follow_pointers-requires-clause-records
+follow_pointers-requires-clause-records g c = record {
+  document = c.in_ok-records.ensures.document;
+  named = c.in_ok-records.ensures.records;
+  typed = rw c.deref.ensures.value c.in_ok-records.ensures.types;
+}
