@@ -10,6 +10,10 @@ RUST_BUILT_IN = set('Self Option Result Vec String Copy Clone Drop Iterator From
 # Members of an impl that prove something, or serve the checker: no contract speaks of them.
 PROOFS = {'laws', 'coded', 'size', 'size_decreases', 'inverse', 'inverse_ok'}
 
+# Members of an impl that one call promises and another asks for, and of which no clause says more: the contracts hold whatever
+# they mean, so nobody has to believe it.
+HANDED_ON = {'has_read'}
+
 
 class Node(NamedTuple):
     """A definition of specs, a type or trait of src, the contract of a function there, or an impl's ghost members."""
@@ -166,7 +170,7 @@ class Project:
         if models:
             return self._members(models[0], {'Value'}, False) + self._members(models[0], {'view', 'invariant'}, True)
         if node.kind == 'impl':
-            return self._members(node, {each.name for each in item.members} - PROOFS, False)
+            return self._members(node, {each.name for each in item.members} - PROOFS - HANDED_ON, False)
         bound = {each.name for each in item.members if each.kind == 'ghost'}
         edges = self._claims(node, item, set(), {}, item.kind == 'struct')
         for member in item.members:

@@ -20,6 +20,7 @@ pub(crate) fn has_call(name: &str) -> bool {
         "Index::place_of",
         "Index::leads_to",
         "Index::is_used",
+        "Index::are_led_by_tags",
         "pointers_at",
         "records_at",
         "one_way",
@@ -88,6 +89,7 @@ fn tell_record(alloc: Global, question: Question<'_>, index: &Index, told: &mut 
         "Index::place_of" => say_place(told, index.place_of(word)),
         "Index::leads_to" => say_types(word, index, told),
         "Index::is_used" => told.say_truth(index.is_used(place_in(word))),
+        "Index::are_led_by_tags" => told.say_truth(index.are_led_by_tags()),
         "link_laws" => state_laws(told),
         _ => told.say("Index"),
     }

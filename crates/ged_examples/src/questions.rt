@@ -35,6 +35,14 @@ pub(crate) fn answer(alloc: Global, call: &str, argument: &[u8], answer: &mut An
             answer.append(&told);
         }
     }
+    if question.name == "check_tables" {
+        let mut told = Answer::new(alloc);
+        tables::tell_walked(alloc, question, argument, &mut told);
+        if told.differs(answer) {
+            answer.say(" by the lines ");
+            answer.append(&told);
+        }
+    }
     true
 }
 
@@ -43,6 +51,10 @@ fn is_about_forests(name: &str) -> bool {
 }
 
 fn say_of_table(alloc: Global, question: Question<'_>, file: &[u8], told: &mut Answer) {
+    if question.name == "check_walked" {
+        tables::tell_walked(alloc, question, file, told);
+        return;
+    }
     match flatten(alloc, file) {
         Ok(flat) => tell(alloc, question, &flat, told),
         Err(BuildFault::At(_)) => told.say("no document"),

@@ -7,12 +7,12 @@ use crate::questions::Question;
 use ged_line::Tag;
 use ged_link::{Index, LinkFault, resolve};
 use ged_schema::{
-    Context, ContextRows, Coverage, Profile, Rule, SchemaAt, SchemaFault, check, check_as,
-    check_coverage, checked_or_fault, context_below, distinct_tags, fault_of_unchecked,
-    first_unlisted, lookup, lookup_name, no_fault_of_checked, none_is_unlisted, one_first_fault,
-    one_listing, one_notice, rows, unlisted, unlisted_has_place,
+    Context, ContextRows, Coverage, LineWalk, Profile, Rule, SchemaAt, SchemaFault, check,
+    check_as, check_coverage, check_walked, checked_or_fault, context_below, distinct_tags,
+    fault_of_unchecked, first_unlisted, lookup, lookup_name, no_fault_of_checked, none_is_unlisted,
+    one_first_fault, one_listing, one_notice, rows, unlisted, unlisted_has_place,
 };
-use ged_tree::Forest;
+use ged_tree::{BuildFault, Forest, flatten_with};
 use std::alloc::Global;
 use std::io::Write;
 
@@ -21,6 +21,7 @@ pub(crate) fn has_call(name: &str) -> bool {
         "check_tables",
         "check_as",
         "check_coverage",
+        "check_walked",
         "unlisted",
         "first_unlisted",
         "table_laws",
@@ -54,17 +55,47 @@ fn tell_resolved<F: Forest>(alloc: Global, question: Question<'_>, forest: &F, t
     }
 }
 
+fn profile_of(word: &str) -> Profile {
+    match word {
+        "Strict" => Profile::Strict,
+        _ => Profile::Lenient,
+    }
+}
+
+fn say_walked(told: &mut Answer, name: &str, judgment: Result<Coverage, SchemaAt>) {
+    match judgment {
+        Ok(_) if name == "check_tables" => told.say("Checked"),
+        _ => say_coverage(told, judgment),
+    }
+}
+
+/// Tells what `check_walked` answers for the table of a file whose lines a walk has read while it was made.
+pub(crate) fn tell_walked(alloc: Global, question: Question<'_>, file: &[u8], told: &mut Answer) {
+    let mut walk = LineWalk::new();
+    match flatten_with(alloc, file, &mut walk) {
+        Ok(flat) => match resolve(alloc, &flat) {
+            Ok(index) => {
+                let judgment = check_walked(profile_of(question.word), &flat, &index, &walk);
+                say_walked(told, question.name, judgment);
+            }
+            Err(LinkFault::Memory(_)) => told.lack_memory(),
+            Err(_) => told.say("no index"),
+        },
+        Err(BuildFault::At(_)) => told.say("no document"),
+        Err(BuildFault::Memory(_)) => told.lack_memory(),
+    }
+}
+
 fn tell_index<F: Forest>(question: Question<'_>, forest: &F, index: &Index, told: &mut Answer)
     requires { IsIndexOf (F.trees forest.now) index.now }
 {
-    let profile = match question.word {
-        "Strict" => Profile::Strict,
-        _ => Profile::Lenient,
-    };
+    let profile = profile_of(question.word);
     match question.name {
         "check_tables" => say_judgment(told, check(forest, index)),
         "check_as" => say_judgment(told, check_as(profile, forest, index)),
-        "check_coverage" => say_coverage(told, check_coverage(profile, forest, index)),
+        "check_coverage" | "check_walked" => {
+            say_coverage(told, check_coverage(profile, forest, index))
+        }
         _ => {
             state_laws(profile, forest, index);
             told.say("stated")

@@ -8,6 +8,9 @@ pub mod Listing
 pub mod ListingLaws
 pub mod FirstUnlisted
 pub mod Noting
+pub mod LineOpening
+pub mod LineWalkSteps
+pub mod LineWalking
 pub mod NoticeLaws
 pub mod Fitting
 pub mod CheckedOrFaulty

@@ -34,13 +34,13 @@ numbered_distinct f rs numbered i j d below inside same =
     let equal : f (get_or rs i d).tag ≡ f (get_or rs j d).tag = ap f same in
     omega (arith, first, second, equal, below)
 
-record IsFound (rs : List Row) (tag : Bytes) (r : Row) : Type 0 where
-  number : ℕ
-  stands : slice_get rs number ≡ Some r
-  same : r.tag ≡ tag
+pub record IsFound (rs : List Row) (tag : Bytes) (r : Row) : Type 0 where
+  pub number : ℕ
+  pub stands : slice_get rs number ≡ Some r
+  pub same : r.tag ≡ tag
 
 -- the row of a tag has that tag
-row_found : (rs : List Row) (tag : Bytes) (r : Row) → row_of rs tag ≡ Some r → IsFound rs tag r
+pub row_found : (rs : List Row) (tag : Bytes) (r : Row) → row_of rs tag ≡ Some r → IsFound rs tag r
 row_found [] tag r e = cc
 row_found (q ∷ rs) tag r e = elim (bool_cases (bytes_eq q.tag tag)) [
   | inl same ↦ (let here : q ≡ r = some_is q r (rw same at e) in

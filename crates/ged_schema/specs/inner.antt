@@ -1,3 +1,4 @@
+pub mod LineWalks
 pub mod Listings
 pub mod Lookups
 pub mod Marks

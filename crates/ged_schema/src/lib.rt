@@ -10,6 +10,7 @@ mod context;
 mod context_rows;
 mod fault;
 mod laws;
+mod line_walk;
 mod lookups;
 mod notices;
 mod payloads;
@@ -27,8 +28,9 @@ pub use laws::{
     checked_or_fault, distinct_tags, fault_of_unchecked, no_fault_of_checked, none_is_unlisted,
     one_first_fault, one_listing, one_notice, unlisted_has_place,
 };
+pub use line_walk::LineWalk;
 pub use lookups::{context_below, lookup, lookup_name};
 pub use notices::{Coverage, first_unlisted, unlisted};
-pub use profile::{Profile, check_as, check_coverage};
+pub use profile::{Profile, check_as, check_coverage, check_walked};
 pub use rule::Rule;
 pub use tables::rows;

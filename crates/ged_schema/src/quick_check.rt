@@ -60,7 +60,7 @@ fn needed_rows(context: Context) -> u64
 }
 
 /// Whether each row of a context that asks for a structure is marked.
-fn are_needed_marked(context: Context, marks: u64) -> bool
+pub(crate) fn are_needed_marked(context: Context, marks: u64) -> bool
     ensures { OnTrue result (AreMarkedAsNeeded (rows_of context) marks) }
 {
     let needed = needed_rows(context);
@@ -76,7 +76,7 @@ fn needs_nothing(context: Context) -> bool
 
 /// Marks a row by the bit of its number, and tells whether one more of its structures may stand.
 #[inline(always)]
-fn mark(marks: &mut u64, number: usize, most: Option<u32>) -> bool
+pub(crate) fn mark(marks: &mut u64, number: usize, most: Option<u32>) -> bool
     requires { number < 64 }
     ensures marked { MarksOneMore number marks.old marks.new }
     ensures free { OnTrue result ((most ≡ None) ⊎ (bit_at marks.old number ≡ 0)) }
@@ -91,7 +91,7 @@ fn mark(marks: &mut u64, number: usize, most: Option<u32>) -> bool
 
 /// Whether a text of one line is of a kind. A function of its own, so that no room for a [`Given`] is cleared on the way of
 /// payloads that are told without it.
-fn fits_line(kind: Kind, line: &str) -> bool
+pub(crate) fn fits_line(kind: Kind, line: &str) -> bool
     ensures { OnTrue result (FitsLine kind line.now) }
 {
     fits(kind, Given::One(line))

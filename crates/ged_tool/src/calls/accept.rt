@@ -10,8 +10,8 @@ ghost use Rattle.ged_tool.specs.Accepted.{IsAccepted, FileFaultAt, IsRefusal};
 use crate::faults::{Fault, FileFault};
 use crate::settings::Settings;
 use ged_link::{Index, LinkFault, resolve};
-use ged_schema::{Coverage, Profile, check_coverage};
-use ged_tree::{BuildFault, Document, Flat, document_of, flatten};
+use ged_schema::{Coverage, LineWalk, Profile, check_walked};
+use ged_tree::{BuildFault, Document, Flat, document_of, flatten_with};
 use std::alloc::{AllocError, Global};
 use std::marker::Model;
 
@@ -88,7 +88,8 @@ pub fn accept_as(alloc: Global, settings: Settings, bytes: &[u8]) -> Result<Acce
     ensures accepted { IfOk result (λ accepted. IsAccepted (profile_of settings) bytes.now accepted) }
     ensures refused { IfErr result (IsRefusal (FileFaultAt (profile_of settings) bytes.now)) }
 {
-    let flat = match flatten(alloc, bytes) {
+    let mut walk = LineWalk::new();
+    let flat = match flatten_with(alloc, bytes, &mut walk) {
         Ok(flat) => flat,
         Err(BuildFault::At(at)) => return Err(in_file(at.line, at.fault.into())),
         Err(BuildFault::Memory(error)) => return Err(Fault::Memory(error)),
@@ -99,7 +100,7 @@ pub fn accept_as(alloc: Global, settings: Settings, bytes: &[u8]) -> Result<Acce
         Err(LinkFault::Dangling(line)) => return Err(in_file(line, FileFault::DanglingPointer)),
         Err(LinkFault::Memory(error)) => return Err(Fault::Memory(error)),
     };
-    match check_coverage(settings.profile, &flat, &index) {
+    match check_walked(settings.profile, &flat, &index, &walk) {
         Ok(coverage) => Ok(Accepted {
             flat,
             index,

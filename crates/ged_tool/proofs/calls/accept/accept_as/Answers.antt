@@ -16,8 +16,8 @@ dangling_told : (d : Trees) (fault : LinkFault) (error : AllocError) (line : ℕ
 dangling_told d fault error line e (inl none) = absurd (let z : Dangling line ≡ Memory error = sym e ∙ none in cc)
 dangling_told d fault error line e (inr stands) = subst (λ f. HasLinkFault d f) e stands
 
-pub returns-in-Ok-check_coverage-clause-accepted : goal.returns-in-Ok-check_coverage-clause-accepted
-returns-in-Ok-check_coverage-clause-accepted c = record {
+pub returns-in-Ok-check_walked-clause-accepted : goal.returns-in-Ok-check_walked-clause-accepted
+returns-in-Ok-check_walked-clause-accepted c = record {
   read = c.in-Ok.ensures.document;
   resolved = c.in-Ok-resolve.ensures.resolved;
   checked = search rules;

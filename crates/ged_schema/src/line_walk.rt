@@ -1,0 +1,269 @@
+// Whether the structures of a document are as the tables ask, told from its lines while they are read.
+ghost use Rattle.std.specs.Prelude.{◌≡◌, ◌<◌, ◌≤◌, ◌++◌, ◌∷◌, [], List, ℕ, IfSome, IsTrue, true};
+ghost use Rattle.std.specs.Bool.{OnTrue};
+ghost use Rattle.ged_line.specs.Lines.{LineParts};
+ghost use Rattle.ged_line.specs.Names.{is_tag};
+ghost use Rattle.ged_line.specs.Views.{viewed_value};
+ghost use Rattle.ged_value.specs.Kinds.{FitsLine, takes_lines, takes_links};
+ghost use Rattle.ged_tree.specs.Trees.{Trees};
+ghost use Rattle.ged_tree.specs.Documents.{is_document};
+ghost use Rattle.ged_tree.specs.DocumentLines.{document_lines};
+ghost use Rattle.ged_link.specs.Indexes.{IsIndexOf};
+ghost use Rattle.ged_schema.specs.Rows.{as_row};
+ghost use Rattle.ged_schema.specs.Checked.{Checked};
+ghost use Rattle.ged_schema.specs.Unlisted.{IsCoverage};
+ghost use Rattle.ged_schema.specs.inner.LineWalks.{FitsValue, HasWalked, IsClosed, Opens, OpensListed, OpensUnlisted, Takes, open_at};
+
+use crate::context::Context;
+use crate::notices::{Coverage, gives_notice};
+use crate::quick_check::{are_needed_marked, fits_line, mark};
+use crate::rule::Rule;
+use crate::slots::row_number;
+use crate::tables::rows;
+use ged_line::{LineView, ValueView, is_same_tag};
+use ged_link::Index;
+use ged_tree::LineReader;
+use ged_value::Kind;
+
+/// What stands open at a level while lines are read.
+#[derive(Clone, Copy)]
+pub(crate) struct Open {
+    /// The context of the structures at the level.
+    pub(crate) context: Context,
+    /// The bit of each row of the context whose structure has come.
+    pub(crate) marks: u64,
+}
+
+/// Reads the lines of a document, and tells whether each structure is as the tables ask, but for the records that pointers
+/// name.
+#[derive(Drop)]
+pub struct LineWalk {
+    /// What stands open at each level, and below the deepest.
+    pub(crate) open: [Open; 101],
+    /// Whether a CONT may go on with the payload of the last structure.
+    pub(crate) goes_on: bool,
+    /// Whether a structure gave a notice.
+    pub(crate) noted: bool,
+    /// Whether each line so far was as the tables ask.
+    pub(crate) holds: bool,
+}
+
+/// Whether each text is of a kind, of one line or of several.
+#[inline(always)]
+fn takes_any_text(kind: Kind) -> bool
+    ensures { result ≡ takes_lines kind }
+{
+    matches!(kind, Kind::Text | Kind::Free)
+}
+
+/// Whether the empty text is of a kind.
+#[inline(always)]
+fn is_empty_right(kind: Kind) -> bool
+    ensures { OnTrue result (FitsLine kind []) }
+{
+    if matches!(
+        kind,
+        Kind::Nothing | Kind::EventFlag | Kind::Text | Kind::Free
+    ) {
+        return true;
+    }
+    fits_line(kind, "")
+}
+
+/// Whether a pointer, and the void pointer, is of a kind.
+#[tactic(auto, unfolding(ged_value::specs::Kinds::target))]
+#[inline(always)]
+fn takes_any_link(kind: Kind) -> bool
+    ensures { result ≡ takes_links kind }
+{
+    matches!(
+        kind,
+        Kind::Free
+            | Kind::ToFam
+            | Kind::ToIndi
+            | Kind::ToSubm
+            | Kind::ToSnote
+            | Kind::ToSour
+            | Kind::ToObje
+    )
+}
+
+/// Whether the value of the line on which a payload begins is of a kind, where the payload has no further lines. Most values are
+/// texts, so these are told from the others at once.
+#[inline(always)]
+fn is_value_right(kind: Kind, value: ValueView<'_>) -> bool
+    ensures { OnTrue result (FitsValue kind (viewed_value value.entry)) }
+{
+    if let ValueView::Text(text) = value {
+        return takes_any_text(kind) || fits_line(kind, text);
+    }
+    if matches!(value, ValueView::Empty) {
+        return is_empty_right(kind);
+    }
+    takes_any_link(kind)
+}
+
+impl LineWalk {
+    /// A walk over no lines. Takes no memory.
+    pub fn new() -> LineWalk
+        ensures { ⟦<LineWalk as LineReader>⟧.has_read result [] }
+    {
+        let unchecked = Open {
+            context: Context::Unchecked,
+            marks: 0,
+        };
+        let mut open = [unchecked; 101];
+        open[0].context = Context::File;
+        LineWalk {
+            open,
+            goes_on: false,
+            noted: false,
+            holds: true,
+        }
+    }
+
+    /// The context of the structures at a level.
+    #[inline(always)]
+    fn context_at(&self, level: usize) -> Context
+        requires { level ≤ 100 }
+        ensures { result ≡ (open_at self.now level).context }
+    {
+        self.open[level].context
+    }
+
+    /// Whether each row of what stands open at a level that asks for a structure has one.
+    #[inline(always)]
+    fn is_closed(&self, level: usize) -> bool
+        requires { level ≤ 100 }
+        ensures { OnTrue result (IsClosed self.now level) }
+    {
+        let open = self.open[level];
+        are_needed_marked(open.context, open.marks)
+    }
+
+    /// Takes the line of a structure that has a row among those of its context.
+    #[inline(always)]
+    fn open_listed(
+        &mut self,
+        rule: &Rule,
+        number: usize,
+        level: usize,
+        value: ValueView<'_>,
+    ) -> bool
+        requires level { level ≤ 99 }
+        requires number { number < 64 }
+        ensures { OnTrue result (OpensListed (as_row rule.now) number level (viewed_value value.entry) self.old self.new) }
+    {
+        let mut marks = self.open[level].marks;
+        if !mark(&mut marks, number, rule.most) {
+            return false;
+        }
+        if !is_value_right(rule.kind, value) {
+            return false;
+        }
+        self.open[level].marks = marks;
+        self.open[level + 1] = Open {
+            context: rule.below,
+            marks: 0,
+        };
+        self.goes_on = takes_any_text(rule.kind);
+        true
+    }
+
+    /// Takes the line of a structure that has none.
+    #[inline(always)]
+    fn open_unlisted(&mut self, context: Context, level: usize, tag: &str)
+        requires level { level ≤ 99 }
+        requires tag { is_tag tag.now ≡ true }
+        ensures { OpensUnlisted context level tag.now self.old self.new }
+    {
+        if gives_notice(context, tag) {
+            self.noted = true;
+        }
+        self.open[level + 1] = Open {
+            context: Context::Unchecked,
+            marks: 0,
+        };
+        self.goes_on = true;
+    }
+
+    /// Takes the line of a structure.
+    #[inline(always)]
+    fn open_structure(&mut self, line: &LineView<'_>) -> bool
+        ensures { OnTrue result (Opens (open_at self.old line.now.level).context line.now.level line.now self.old self.new) }
+    {
+        let level = usize::from(line.level());
+        if !self.is_closed(level + 1) {
+            return false;
+        }
+        let context = self.context_at(level);
+        let tag = line.tag();
+        match row_number(context, tag) {
+            Some(number) => self.open_listed(&rows(context)[number], number, level, line.value()),
+            None => {
+                self.open_unlisted(context, level, tag);
+                true
+            }
+        }
+    }
+
+    /// Takes one more line, and tells whether it is as the tables ask.
+    #[inline(always)]
+    fn take(&mut self, line: &LineView<'_>) -> bool
+        ensures { OnTrue result (Takes line.now self.old self.new) }
+    {
+        if is_same_tag(line.tag(), "CONT") {
+            return self.goes_on;
+        }
+        if line.level() == 0 && line.tag() == "TRLR" {
+            return true;
+        }
+        self.open_structure(line)
+    }
+
+    /// Whether each line was as the tables ask, and nothing is missing where the last line stands.
+    fn is_complete(&self) -> bool
+        ensures holds { OnTrue result (IsTrue self.now.holds) }
+        ensures closed { OnTrue result ((level : ℕ) → IsClosed self.now level) }
+    {
+        if !self.holds {
+            return false;
+        }
+        for level in 0..101 {
+            if !self.is_closed(level) {
+                return false;
+            }
+        }
+        true
+    }
+
+    /// Whether the tables list the tags of the document whose lines were read, where it is as they ask; or `None` where these
+    /// lines and the index do not tell that it is. Takes no memory.
+    pub(crate) fn coverage(&self, index: &Index) -> Option<Coverage>
+        ensures { (document : Trees) → IsIndexOf document index.now → is_document document ≡ true → HasWalked self.now (document_lines document)
+            → IfSome result (λ coverage. Checked document × IsCoverage document coverage) }
+    {
+        if !self.is_complete() || !index.are_led_by_tags() {
+            return None;
+        }
+        Some(if self.noted {
+            Coverage::Partial
+        } else {
+            Coverage::Whole
+        })
+    }
+}
+
+impl LineReader for LineWalk {
+    ghost use Rattle.ged_schema.specs.inner.LineWalks.{HasWalked};
+
+    ghost has_read = { HasWalked };
+
+    /// Takes one more line, and keeps whether all lines so far are as the tables ask.
+    #[inline(always)]
+    fn line(&mut self, line: &LineView<'_>) {
+        if self.holds && !self.take(line) {
+            self.holds = false;
+        }
+    }
+}
