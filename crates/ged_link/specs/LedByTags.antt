@@ -7,7 +7,7 @@ use Rattle.ged_tree.specs.declared.owned.payload.Payload.{Payload}
 use Rattle.ged_tree.specs.declared.owned.payload.Payload.TheVariants.{Pointer}
 use Rattle.ged_link.specs.Links.{SomeTree}
 
--- the tag of the records that a pointer with this tag leads to, where the standard lets it lead to no other
+-- the tag of the records to which a pointer with this tag may lead; of REPO, as of any other tag, nothing is said
 abbrev pub led_by : Bytes → Option Bytes
 led_by tag =
     if bytes_eq tag (codes "FAMC") || bytes_eq tag (codes "FAMS") then Some (codes "FAM")
