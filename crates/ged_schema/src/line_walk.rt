@@ -198,6 +198,11 @@ impl LineWalk {
         }
         let context = self.context_at(level);
         let tag = line.tag();
+        // Where nothing is asked no row needs to be looked up.
+        if context == Context::Unchecked {
+            self.open_unlisted(context, level, tag);
+            return true;
+        }
         match row_number(context, tag) {
             Some(number) => self.open_listed(&rows(context)[number], number, level, line.value()),
             None => {
