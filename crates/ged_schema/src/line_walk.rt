@@ -245,8 +245,8 @@ impl LineWalk {
     /// Whether the tables list the tags of the document whose lines were read, where it is as they ask; or `None` where these
     /// lines and the index do not tell that it is. Takes no memory.
     pub(crate) fn coverage(&self, index: &Index) -> Option<Coverage>
-        ensures { (document : Trees) → IsIndexOf document index.now → is_document document ≡ true → HasWalked self.now (document_lines document)
-            → IfSome result (λ coverage. Checked document × IsCoverage document coverage) }
+        ensures { (document : Trees) → IsIndexOf document index.now → is_document document ≡ true
+            → HasWalked self.now (document_lines document) → IfSome result (λ coverage. Checked document × IsCoverage document coverage) }
     {
         if !self.is_complete() || !index.are_led_by_tags() {
             return None;

@@ -73,7 +73,8 @@ pub record OpensUnlisted (context : Context) (level : ℕ) (tag : Bytes) (old ne
 pub data Takes (line : LineParts) (old new : LineWalk) : Type 0 where
   goes_on : is_cont line ≡ true → old.goes_on ≡ true → new ≡ old → Takes line old new
   ends : is_cont line ≡ false → is_trailer line ≡ true → new ≡ old → Takes line old new
-  opens : is_cont line ≡ false → is_trailer line ≡ false → Opens (open_at old line.level).context line.level line old new → Takes line old new
+  opens : is_cont line ≡ false → is_trailer line ≡ false → Opens (open_at old line.level).context line.level line old new
+      → Takes line old new
 
 -- no line has been read: HEAD or a record may come, and nothing else is asked
 pub record IsFirst (walk : LineWalk) : Type 0 where
