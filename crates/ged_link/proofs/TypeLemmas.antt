@@ -10,7 +10,7 @@ use Rattle.ged_link.specs.Links.{IsRecordNumber}
 use Rattle.ged_link.specs.RecordTypes.{record_tag, HasRecordOf}
 use Rattle.ged_link.specs.Indexes.{found_in, place_in, AreRecords, AreTyped}
 
-one_place : (x y : ℕ) → Some x ≡ Some y → x ≡ y
+pub one_place : (x y : ℕ) → Some x ≡ Some y → x ≡ y
 one_place x y e = cc
 
 none_some : (x : ℕ) → ◌≡◌ {A = Option ℕ} None (Some x) → ⊥

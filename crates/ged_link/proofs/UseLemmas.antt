@@ -74,13 +74,13 @@ none_marked zero (suc number) e = cc
 none_marked (suc count) zero e = cc
 none_marked (suc count) (suc number) e = none_marked count number e
 
-pub followed_start : (d : Trees) (count : ℕ) (followed : Followed) → followed.used.items ≡ replicate count false → followed.targets.items ≡ [] → count ≡ length (identifiers (records_of d)) → AreFollowed d 0 followed
-followed_start d count followed is empty long = record {
+pub followed_start : (d : Trees) (count : ℕ) (followed : Followed) → followed.used.items ≡ replicate count false → followed.targets.items ≡ [] → followed.led ≡ true → count ≡ length (identifiers (records_of d)) → AreFollowed d 0 followed
+followed_start d count followed is empty led long = record {
   long = ap (λ (us : List Bool). length us) is ∙ length-replicate count false ∙ long;
   marked = λ number. (λ e. absurd (none_marked count number (rw is at e)), λ h. absurd (omega (arith, h.2.1)));
   told = none_told d followed.targets.items empty;
   found = λ other before h. absurd (omega (arith, before));
-  led = λ _ other before. absurd (omega (arith, before));
+  led = (λ _ other before. absurd (omega (arith, before)), λ _. led);
 }
 
 module _ (d : Trees) (place : ℕ) (within : place < trees_count d) where

@@ -56,6 +56,6 @@ pub record IsIndexOf (d : Trees) (index : Index) : Type 0 where
   pub typed : AreTyped d index.records index.types.items
   pub used : (number : ℕ) → (slice_index_or index.followed.used.items number false ≡ true) ↔ IsUsed d number
   pub targets : AreTargets d index.followed.targets.items
-  pub led : IsTrue index.followed.led → AreLed d d
+  pub led : IsTrue index.followed.led ↔ AreLed d d
   pub places : ArePlaces d index.places.items
   pub one_way : AreOneWay d index.one_way.items

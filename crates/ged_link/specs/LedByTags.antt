@@ -11,8 +11,8 @@ use Rattle.ged_link.specs.Links.{SomeTree}
 abbrev pub led_by : Bytes → Option Bytes
 led_by tag =
     if bytes_eq tag (codes "FAMC") || bytes_eq tag (codes "FAMS") then Some (codes "FAM")
-    else if bytes_eq tag (codes "HUSB") || (bytes_eq tag (codes "WIFE") || bytes_eq tag (codes "CHIL")) then Some (codes "INDI")
-    else if bytes_eq tag (codes "ASSO") || bytes_eq tag (codes "ALIA") then Some (codes "INDI")
+    else if bytes_eq tag (codes "HUSB") || (bytes_eq tag (codes "WIFE") || (bytes_eq tag (codes "CHIL")
+    || (bytes_eq tag (codes "ASSO") || bytes_eq tag (codes "ALIA")))) then Some (codes "INDI")
     else if bytes_eq tag (codes "SUBM") || (bytes_eq tag (codes "ANCI") || bytes_eq tag (codes "DESI")) then Some (codes "SUBM")
     else if bytes_eq tag (codes "SNOTE") then Some (codes "SNOTE")
     else if bytes_eq tag (codes "SOUR") then Some (codes "SOUR")

@@ -6,7 +6,6 @@ ghost use Rattle.ged_tree.specs.declared.owned.payload.Payload.TheVariants.{Poin
 ghost use Rattle.ged_link.specs.Links.{IsRecordNumber, IsUsed};
 ghost use Rattle.ged_link.specs.LinkFaults.{HasXref};
 ghost use Rattle.ged_link.specs.RecordTypes.{HasRecordOf};
-ghost use Rattle.std.specs.Bool.{OnTrue};
 ghost use Rattle.ged_link.specs.LedByTags.{AreLed};
 ghost use Rattle.ged_link.specs.Indexes.{IsIndexOf, number_in, place_in};
 
@@ -143,10 +142,10 @@ impl Index {
     }
 
     /// Whether each pointer whose tag alone says what it leads to, as FAMS to a family (FamilySearch GEDCOM 7.0, "Structure
-    /// Organization"), leads to a record of that type. `false` says nothing of a document's validity: a pointer below a structure
-    /// that the standard does not judge may lead elsewhere. Takes no memory.
+    /// Organization"), leads to a record of that type. Where it is `false` the document may still be as the standard asks: a pointer
+    /// below a structure of another's making may lead elsewhere. Takes no memory.
     pub fn are_led_by_tags(&self) -> bool
-        ensures { (document : Trees) → IsIndexOf document self.now → OnTrue result (AreLed document document) }
+        ensures { (document : Trees) → IsIndexOf document self.now → IsTrue result ↔ AreLed document document }
     {
         self.followed.led
     }

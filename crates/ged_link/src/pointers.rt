@@ -1,5 +1,5 @@
 // Where the pointers of a document lead: the records that they name, and the links between records.
-ghost use Rattle.std.specs.Prelude.{◌≡◌, ◌<◌, ◌≤◌, ◌+◌, ◌⊎◌, ℕ, false, IsTrue, IfOk, IfErr, OnOk, length, nat_eq, ◌&&◌, ◌||◌, option_map, alloc_error};
+ghost use Rattle.std.specs.Prelude.{◌≡◌, ◌<◌, ◌≤◌, ◌+◌, ◌⊎◌, ℕ, false, IsTrue, ◌↔◌, IfOk, IfErr, OnOk, length, nat_eq, ◌&&◌, ◌||◌, option_map, alloc_error};
 ghost use Rattle.ged_tree.specs.Trees.{records_of, trees_count};
 ghost use Rattle.ged_tree.specs.Places.{structure_at};
 ghost use Rattle.ged_tree.specs.Runs.{trees_between, IsRun};
@@ -199,7 +199,7 @@ pub(crate) fn follow_pointers<F: Forest>(
     requires distinct { (place : ℕ) → IsRepeated (F.trees forest.now) place → ⊥ }
     ensures used { IfOk result (λ followed. AreUsed (F.trees forest.now) followed.0.used.items) }
     ensures targets { IfOk result (λ followed. AreTargets (F.trees forest.now) followed.0.targets.items) }
-    ensures led { IfOk result (λ followed. IsTrue followed.0.led → AreLed (F.trees forest.now) (F.trees forest.now)) }
+    ensures led { IfOk result (λ followed. IsTrue followed.0.led ↔ AreLed (F.trees forest.now) (F.trees forest.now)) }
     ensures found { IfOk result (λ _. (place : ℕ) → IsDangling (F.trees forest.now) place → ⊥) }
     ensures links { IfOk result (λ followed. AreLinks (place_in records.now.names.now) (F.trees forest.now) followed.1) }
     ensures fault { IfErr result (λ fault. (fault ≡ Memory alloc_error) ⊎ HasLinkFault (F.trees forest.now) fault) }

@@ -1,6 +1,5 @@
 // The types of the records that pointers lead to.
 ghost use Rattle.std.specs.Prelude.{◌≡◌, ◌↔◌, Some, None, IsTrue, slice_index_or, option_map};
-ghost use Rattle.std.specs.Bool.{OnTrue};
 ghost use Rattle.ged_link.specs.RecordTypes.{IsTypeOf, record_tag};
 ghost use Rattle.ged_link.specs.LedByTags.{led_by};
 ghost use Rattle.ged_link.specs.inner.Resolving.{LeadsAsTagged};
@@ -74,7 +73,7 @@ pub(crate) fn type_led_by(tag: &str) -> Option<RecordType>
 /// Whether the record with a number is of the type that a pointer with a tag leads to, where its tag says it.
 #[inline(always)]
 pub(crate) fn leads_as_tagged(types: &[Option<RecordType>], tag: &str, number: usize) -> bool
-    ensures { OnTrue result (LeadsAsTagged (led_by tag.now) (slice_index_or types.now number None)) }
+    ensures { LeadsAsTagged result (led_by tag.now) (slice_index_or types.now number None) }
 {
     match type_led_by(tag) {
         Some(wanted) => is_typed(types, number, wanted),

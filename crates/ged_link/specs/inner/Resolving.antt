@@ -41,9 +41,10 @@ AreUsedBefore d place used =
 abbrev pub NoneDanglesBefore : Trees → ℕ → Type 0
 NoneDanglesBefore d place = (other : ℕ) → other < place → IsDangling d other → ⊥
 
--- what is known of a record's type is what a pointer's tag says that it leads to, if it says it
-abbrev pub LeadsAsTagged : Option Bytes → Option RecordType → Type 0
-LeadsAsTagged wanted known = IfSome wanted (λ tag. option_map record_tag known ≡ Some tag)
+-- whether what is known of a record's type is what a pointer's tag says that it leads to, if it says it
+abbrev pub LeadsAsTagged : Bool → Option Bytes → Option RecordType → Type 0
+LeadsAsTagged leads wanted known =
+    (kind : Option RecordType) × (option_map record_tag kind ≡ wanted) × (IsTrue leads ↔ IfSome kind (λ kind. known ≡ Some kind))
 
 -- each pointer before a place leads to such a record as its tag says
 abbrev pub AreLedBefore : Trees → ℕ → Type 0
@@ -61,7 +62,7 @@ pub record AreFollowed (d : Trees) (place : ℕ) (followed : Followed) : Type 0 
   pub marked : AreUsedBefore d place followed.used.items
   pub told : AreTargets d followed.targets.items
   pub found : NoneDanglesBefore d place
-  pub led : IsTrue followed.led → AreLedBefore d place
+  pub led : IsTrue followed.led ↔ AreLedBefore d place
 
 -- a record is marked exactly where some pointer names it
 abbrev pub AreUsed : Trees → List Bool → Type 0

@@ -10,7 +10,7 @@ use Rattle.ged_link.specs.LedByTags.{led_by}
 use Rattle.ged_link.specs.Indexes.{number_in, place_in}
 use Rattle.ged_link.specs.inner.Resolving.{LeadsAsTagged}
 use Rattle.ged_link.proofs.UseLemmas.{not_pointer, no_target, told_not_pointer, told_no_target, used_kept, dangles_kept, used_more, dangles_more, first_dangling, number_inside}
-use Rattle.ged_link.proofs.LedLemmas.{not_led, led_here, led_more, both_led, on_true}
+use Rattle.ged_link.proofs.LedLemmas.{led_here, tells_more, tells_on}
 use Rattle.ged_link.proofs.pointers.follow.Goals as goal
 
 pub returns-then-not-points : goal.returns-then-not-points
@@ -25,7 +25,7 @@ returns-then-not-points g c =
         marked = used_kept w c.args.place c.requires.within c.args.followed.now.used.items other c.requires.used.marked;
         told = c.requires.used.told;
         found = dangles_kept w c.args.place c.requires.within other c.requires.used.found;
-        led = λ is. led_more w c.args.place (not_led w s.tag s.payload other) (c.requires.used.led is);
+        led = tells_on w c.args.place c.args.followed.now.led other c.requires.used.led;
       };
       target = sym (told_no_target (place_in c.args.records.now.names.now) s.payload denied);
       fault = tt;
@@ -42,7 +42,7 @@ returns-in_default g c =
         marked = used_kept w c.args.place c.requires.within c.args.followed.now.used.items other c.requires.used.marked;
         told = c.requires.used.told;
         found = dangles_kept w c.args.place c.requires.within other c.requires.used.found;
-        led = λ is. led_more w c.args.place (not_led w s.tag s.payload other) (c.requires.used.led is);
+        led = tells_on w c.args.place c.args.followed.now.led other c.requires.used.led;
       };
       target = sym (no_target (place_in c.args.records.now.names.now) c.tag_and_payload.result.1 (further_lines s.payload) s.payload c.tag_and_payload.ensures.payload c.in_default.not-Pointer);
       fault = tt;
@@ -76,9 +76,9 @@ returns-clause-used g c =
       marked = used_more w c.args.place c.requires.within records name c.requires.records.named here used number named inside c.requires.used.marked;
       told = c.in-Ok.ensures w (name, here, (c.requires.records.named.numbered name number).0 named) c.requires.used.told;
       found = dangles_more w c.args.place c.requires.within records name c.requires.records.named here number named c.requires.used.found;
-      led = λ is.
-          let both = both_led _ _ is in
-          let tagged : Bytes → Type 0 = λ tag. LeadsAsTagged (led_by tag) (slice_index_or c.args.records.now.types.now number None) in
-          let leads = subst tagged c.tag_and_payload.ensures.tag (on_true _ (tagged c.tag_and_payload.result.0.now) c.leads_as_tagged.ensures both.1) in
-          led_more w c.args.place (led_here w c.args.records.now (structure_at w c.args.place).tag name _ c.in-Some.found c.requires.records here (sym c.find.ensures ∙ c.in-Some.is) leads) (c.requires.used.led both.0);
+      led =
+          let tagged : Bytes → Type 0 = λ tag. LeadsAsTagged c.leads_as_tagged.result (led_by tag) (slice_index_or c.args.records.now.types.now number None) in
+          let leads = subst tagged c.tag_and_payload.ensures.tag c.leads_as_tagged.ensures in
+          tells_more w c.args.place c.args.followed.now.led c.leads_as_tagged.result c.requires.used.led
+          (led_here w c.args.records.now (structure_at w c.args.place).tag name c.in-Some.found c.requires.records (sym c.find.ensures ∙ c.in-Some.is) c.leads_as_tagged.result _ here leads);
     }

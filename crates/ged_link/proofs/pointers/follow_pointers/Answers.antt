@@ -1,4 +1,4 @@
-use Rattle.std.proofs.Common.{◌∙◌, length}
+use Rattle.std.proofs.Common.{◌∙◌, length, refl}
 use Rattle.ged_link.specs.Indexes.{place_in}
 use Rattle.ged_link.proofs.RecordLemmas.{whole_end, run_over}
 use Rattle.ged_link.proofs.UseLemmas.{followed_start, used_all, dangles_all}
@@ -13,7 +13,7 @@ loop-after-init g c =
     record {
       whole = whole_end w c.end_of_all-end.result c.end_of_all-end.ensures.run c.end_of_all-end.ensures.all;
       run = c.end_of_all-end.ensures.run;
-      used = followed_start w (length c.args.records.now.types.now) _ (c.in-Ok.ensures.items_if_clones_equal (λ y e. e)) c.new-targets.ensures.items c.requires.count;
+      used = followed_start w (length c.args.records.now.types.now) _ (c.in-Ok.ensures.items_if_clones_equal (λ y e. e)) c.new-targets.ensures.items refl c.requires.count;
       told = λ role pair. pairs_start (place_in c.args.records.now.names.now) role _ w pair (lists_have c.args.none role pair) c.end_of_all-end.ensures.all (c.requires.none role pair);
     }
 
@@ -33,4 +33,5 @@ pub returns-clause-led : goal.returns-clause-led
 returns-clause-led g c =
     let w = g.F.Forest.trees c.args.forest.now in
     let inv = c.loop-after.invariant in
-    λ is. led_all w c.loop-after.place (run_over w c.loop-after.place c.end_of_all-end.result inv.run c.in_default-next_in_run.ensures ∙ inv.whole) (inv.used.led is)
+    let all = led_all w c.loop-after.place (run_over w c.loop-after.place c.end_of_all-end.result inv.run c.in_default-next_in_run.ensures ∙ inv.whole) in
+    (λ is. all.0 (inv.used.led.0 is), λ led. inv.used.led.1 (all.1 led))
