@@ -1,5 +1,6 @@
 pub mod Copies
 pub mod DocumentParts
+pub mod Ends
 pub mod Judging
 pub mod PathLines
 pub mod Rows

@@ -1,5 +1,5 @@
 // The faults of a document's lines, found line by line.
-ghost use Rattle.std.specs.Prelude.{◌≡◌, ◌++◌, ◌∷◌, [], List, Some, None, IfOk, IfErr, option_map, Option};
+ghost use Rattle.std.specs.Prelude.{◌≡◌, ◌++◌, ◌∷◌, [], List, Some, None, false, IfOk, IfErr, option_map, Option};
 ghost use Rattle.std.specs.Bool.{OnTrue};
 ghost use Rattle.std.specs.List.{find};
 ghost use Rattle.ged_line.specs.Lines.{LineParts};
@@ -96,11 +96,12 @@ impl Judge {
         self.any_fault(line)
     }
 
-    // Whether the line begins a structure below another one, and follows one that is no CONT, as nearly all do: then it has no
-    // fault.
+    /// Whether the line begins a structure below another one, and follows one that is no CONT, as nearly all do: then it has no
+    /// fault, and is neither CONT nor TRLR.
     #[inline(always)]
-    fn is_plain(&self, line: &LineView<'_>) -> bool
-        ensures { (lines : List LineParts) → StandsFor self.now lines → OnTrue result (fault_after lines line.now ≡ None) }
+    pub(crate) fn is_plain(&self, line: &LineView<'_>) -> bool
+        ensures faultless { (lines : List LineParts) → StandsFor self.now lines → OnTrue result (fault_after lines line.now ≡ None) }
+        ensures begins { OnTrue result ((tests_cont line.now ≡ false) × (tests_trailer line.now ≡ false)) }
     {
         match self.previous {
             None => false,

@@ -1,6 +1,7 @@
 // A document as a flat table of slices of its file: made in one pass, and asked by places.
 pub(crate) mod builder;
 pub(crate) mod closing;
+pub(crate) mod ends;
 pub(crate) mod flat;
 pub(crate) mod flatten;
 pub(crate) mod line_reader;

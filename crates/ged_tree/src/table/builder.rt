@@ -1,9 +1,11 @@
 // The table of a document's structures, made line by line.
-ghost use Rattle.std.specs.Prelude.{◌≡◌, ◌<◌, ◌+◌, ◌%◌, ◌^◌, ◌++◌, ◌∷◌, [], List, MatchResult, IfOk, IfSome, None, Some, length, nat_lt};
+ghost use Rattle.std.specs.Prelude.{◌≡◌, ◌<◌, false, ◌+◌, ◌%◌, ◌^◌, ◌++◌, ◌∷◌, [], List, MatchResult, IfOk, IfSome, None, Some, length, nat_lt};
+ghost use Rattle.std.specs.Bool.{OnTrue};
 ghost use Rattle.ged_line.specs.Lines.{LineParts};
 ghost use Rattle.ged_line.specs.Spelling.{LineText};
 ghost use Rattle.ged_tree.specs.Documents.{HasLines};
 ghost use Rattle.ged_tree.specs.Rows.{names_record};
+ghost use Rattle.ged_tree.specs.TreeFaults.{is_cont as tests_cont, is_trailer as tests_trailer};
 ghost use Rattle.ged_tree.specs.inner.Tables.{line_text, HoldsLines, HasStructure, IsPut, IsSliceAt, Shows, TellsEnd, TellsFurther, TellsLine};
 
 use crate::fault::{BuildFault, TreeAt, TreeFault};
@@ -143,23 +145,34 @@ impl<'a> TableBuilder<'a> {
         // That its parts are a line's is what `level` tells.
         let _level = line.level();
         self.count += 1;
+        let begins = self.judge.is_plain(line);
         if let Err(fault) = self.judge.line(line) {
             let line = self.count;
             return Err(BuildFault::At(TreeAt { line, fault }));
         }
-        match self.push(spelled, start) {
+        match self.push(spelled, start, begins) {
             Ok(()) => Ok(()),
             Err(error) => Err(BuildFault::Memory(error)),
         }
     }
 
-    /// Adds the structure or the further line of the last line that was taken; TRLR adds none.
+    /// Adds the structure or the further line of the last line that was taken; TRLR adds none. `begins` may tell that the line begins a
+    /// structure, which then is not asked again.
     #[inline(always)]
-    fn push(&mut self, spelled: &SpelledLine<'a>, start: Option<usize>) -> Result<(), AllocError>
+    fn push(
+        &mut self,
+        spelled: &SpelledLine<'a>,
+        start: Option<usize>,
+        begins: bool,
+    ) -> Result<(), AllocError>
+        requires begins { OnTrue begins ((tests_cont spelled.now.line ≡ false) × (tests_trailer spelled.now.line ≡ false)) }
         requires text { LineText spelled.now.line spelled.now.text.now }
         requires slice { IfSome start (λ at. IsSliceAt self.now.file.now at spelled.now.text.now) }
         ensures { IfOk result (λ _. IsPut spelled.now.line self.old self.new) }
     {
+        if begins {
+            return self.push_structure(spelled, start);
+        }
         let line = &spelled.line;
         if is_trailer(line) {
             return Ok(());

@@ -4,6 +4,7 @@ ghost use Rattle.ged_tree.specs.Rows.{AreSizes};
 ghost use Rattle.ged_tree.specs.inner.Tables.{end_from, size_at};
 ghost use Rattle.ged_tree.specs.declared.table.packed.KeptStructure.{KeptStructure};
 
+use crate::table::ends::Ends;
 use crate::table::packed::KeptStructure;
 use std::alloc::{AllocError, Global};
 
@@ -63,37 +64,16 @@ impl Sizes {
         requires sizes { AreSizes structures.now self.now place }
         ensures { result ≡ place + 1 + size_at structures.now place }
     {
-        let count = self.large.len();
-        // While the sizes are found, the one that is asked for is often the last that was kept.
-        if count > 0 {
-            let last = self.large[count - 1];
-            if last.place as usize == place {
-                return place + 1 + last.size as usize;
-            }
-        }
         let index = self.large.partition_point(|large: &LargeSize| -> bool {
             large.place as usize > place
         });
-        if index < count {
+        if index < self.large.len() {
             let large = self.large[index];
             if large.place as usize == place {
                 return place + 1 + large.size as usize;
             }
         }
         end_of_deeper(structures, place + 1, structures[place].level())
-    }
-
-    /// The first place from a place on whose level is not greater, where the sizes from it on are kept.
-    fn next_place(&self, structures: &[KeptStructure], place: usize, level: u8) -> usize
-        requires within { place ≤ length structures.now }
-        requires sizes { AreSizes structures.now self.now place }
-        ensures { result ≡ end_from level structures.now place }
-    {
-        let mut next = place;
-        while next < structures.len() && structures[next].level() > level {
-            next = self.after(structures, next);
-        }
-        next
     }
 
     /// Keeps a size, where those of the structures past its own are kept.
@@ -134,9 +114,10 @@ pub(crate) fn sizes_of(alloc: Global, structures: &[KeptStructure]) -> Result<Si
         large: Vec::new(alloc),
     };
     let mut place = structures.len();
+    let mut ends = Ends::past(place);
     while place > 0 {
         place -= 1;
-        let after = sizes.next_place(structures, place + 1, structures[place].level());
+        let after = ends.take(structures, place);
         sizes.keep(place, after - place - 1)?;
     }
     Ok(sizes)
