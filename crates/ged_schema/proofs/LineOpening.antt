@@ -31,14 +31,6 @@ row_tag : (c : Context) (tag : Bytes) (r : Row) → row c tag ≡ Some r → r.t
 unfolding row
 row_tag c tag r some = (row_found (rows c) tag r some).same
 
-no_row_there : (tag : Bytes) → row Unchecked tag ≡ None
-unfolding row rows
-no_row_there tag = refl
-
-no_row_at : (i : ℕ) (r : Row) → slice_get (rows Unchecked) i ≡ Some r → ⊥
-unfolding rows
-no_row_at i r stands = cc
-
 module _ (c : Context) (line : LineParts) (old new : LineWalk) (here : (open_at old line.level).context ≡ c) (closed : IsClosed old (line.level + 1)) where
   -- a structure whose row has this number
   pub opens_listed : (k : ℕ) (r : Row) → slice_get (rows c) k ≡ Some r → row c line.tag ≡ Some r → r.tag ≡ line.tag → IsOnlyNumber (rows c) line.tag (Some k)
@@ -110,13 +102,6 @@ module _ (c : Context) (line : LineParts) (old new : LineWalk) (here : (open_at 
       (λ i r stands named. only i r (ap (λ (x : Context). slice_get (rows x) i) same ∙ stands) (named ∙ sym tags))
       (subst (λ (x : Context). OpensUnlisted x line.level line.tag old new) same
       (subst (λ (n : ℕ). OpensUnlisted context n line.tag old new) levels (subst (λ (t : Bytes). OpensUnlisted context level t old new) tags opened)))
-
-  -- the same where nothing is asked
-  pub opens_unchecked : (context : Context) → context ≡ c → context ≡ Unchecked → (level : ℕ) → level ≡ line.level → (tag : Bytes) → tag ≡ line.tag
-      → OpensUnlisted context level tag old new → Opens c line.level line old new
-  opens_unchecked context same free level levels tag tags opened = opens_without_row context same level levels tag tags
-      (subst (λ (x : Context). row x tag ≡ None) (sym free) (no_row_there tag))
-      (λ i r stands named. absurd (no_row_at i r (subst (λ (x : Context). slice_get (rows x) i ≡ Some r) free stands))) opened
 
 -- nothing stands open but the file
 pub first_opened : (walk : LineWalk) → walk.open ≡ slice_set (replicate 101 unopened) 0 (record { context = File; marks = 0 }) → walk.noted ≡ false → IsFirst walk

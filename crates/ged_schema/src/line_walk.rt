@@ -1,10 +1,11 @@
 // Whether the structures of a document are as the tables ask, told from its lines while they are read.
 ghost use Rattle.std.specs.Prelude.{◌≡◌, ◌<◌, ◌≤◌, ◌++◌, ◌∷◌, [], List, ℕ, IfSome, IsTrue, true};
 ghost use Rattle.std.specs.Bool.{OnTrue};
-ghost use Rattle.ged_line.specs.Lines.{LineParts};
+ghost use Rattle.std.specs.Int.{bit_at};
+ghost use Rattle.ged_line.specs.Lines.{LineParts, Value};
 ghost use Rattle.ged_line.specs.Names.{is_tag};
 ghost use Rattle.ged_line.specs.Views.{viewed_value};
-ghost use Rattle.ged_value.specs.Kinds.{FitsLine, takes_lines, takes_links};
+ghost use Rattle.ged_value.specs.Kinds.{takes_lines};
 ghost use Rattle.ged_tree.specs.Trees.{Trees};
 ghost use Rattle.ged_tree.specs.Documents.{is_document};
 ghost use Rattle.ged_tree.specs.DocumentLines.{document_lines};
@@ -12,7 +13,7 @@ ghost use Rattle.ged_link.specs.Indexes.{IsIndexOf};
 ghost use Rattle.ged_schema.specs.Rows.{as_row};
 ghost use Rattle.ged_schema.specs.Checked.{Checked};
 ghost use Rattle.ged_schema.specs.Unlisted.{IsCoverage};
-ghost use Rattle.ged_schema.specs.inner.LineWalks.{FitsValue, HasWalked, IsClosed, Opens, OpensListed, OpensUnlisted, Takes, open_at};
+ghost use Rattle.ged_schema.specs.inner.LineWalks.{FitsValue, HasWalked, IsClosed, Opens, OpensListed, OpensUnlisted, Takes, open_at, value_class};
 
 use crate::context::Context;
 use crate::notices::{Coverage, gives_notice};
@@ -56,51 +57,48 @@ fn takes_any_text(kind: Kind) -> bool
     matches!(kind, Kind::Text | Kind::Free)
 }
 
-/// Whether the empty text is of a kind.
+/// The number of a value's class: texts, the empty value, and pointers with the void pointer.
 #[inline(always)]
-fn is_empty_right(kind: Kind) -> bool
-    ensures { OnTrue result (FitsLine kind []) }
+fn class_of(value: &ValueView<'_>) -> u32
+    ensures { result ≡ value_class (viewed_value value.now) }
 {
-    if matches!(
-        kind,
-        Kind::Nothing | Kind::EventFlag | Kind::Text | Kind::Free
-    ) {
-        return true;
+    match value {
+        ValueView::Text(_) => 0,
+        ValueView::Empty => 1,
+        ValueView::Void | ValueView::Pointer(_) => 2,
     }
-    fits_line(kind, "")
 }
 
-/// Whether a pointer, and the void pointer, is of a kind.
+/// The classes whose values are all of a kind: bit k is set where those of the class with number k are.
 #[tactic(auto, unfolding(ged_value::specs::Kinds::target))]
 #[inline(always)]
-fn takes_any_link(kind: Kind) -> bool
-    ensures { result ≡ takes_links kind }
+fn right_classes(kind: Kind) -> u8
+    ensures { (value : Value) → bit_at result (value_class value) ≡ 1 → FitsValue kind value }
 {
-    matches!(
-        kind,
-        Kind::Free
-            | Kind::ToFam
-            | Kind::ToIndi
-            | Kind::ToSubm
-            | Kind::ToSnote
-            | Kind::ToSour
-            | Kind::ToObje
-    )
+    match kind {
+        Kind::Text => 0b011,
+        Kind::Free => 0b111,
+        Kind::Nothing | Kind::EventFlag => 0b010,
+        Kind::ToFam | Kind::ToIndi | Kind::ToSubm | Kind::ToSnote | Kind::ToSour | Kind::ToObje =>
+            0b100,
+        _ => 0,
+    }
 }
 
-/// Whether the value of the line on which a payload begins is of a kind, where the payload has no further lines. Most values are
-/// texts, so these are told from the others at once.
+/// Whether the value of the line on which a payload begins is of a kind, where the payload has no further lines. For most values
+/// their class tells it, by one branch for all classes.
 #[inline(always)]
 fn is_value_right(kind: Kind, value: ValueView<'_>) -> bool
     ensures { OnTrue result (FitsValue kind (viewed_value value.entry)) }
 {
-    if let ValueView::Text(text) = value {
-        return takes_any_text(kind) || fits_line(kind, text);
+    if (right_classes(kind) >> class_of(&value)) & 1 == 1 {
+        return true;
     }
-    if matches!(value, ValueView::Empty) {
-        return is_empty_right(kind);
+    match value {
+        ValueView::Text(text) => fits_line(kind, text),
+        ValueView::Empty => fits_line(kind, ""),
+        _ => false,
     }
-    takes_any_link(kind)
 }
 
 impl LineWalk {
@@ -198,11 +196,6 @@ impl LineWalk {
         }
         let context = self.context_at(level);
         let tag = line.tag();
-        // Where nothing is asked no row needs to be looked up.
-        if context == Context::Unchecked {
-            self.open_unlisted(context, level, tag);
-            return true;
-        }
         match row_number(context, tag) {
             Some(number) => self.open_listed(&rows(context)[number], number, level, line.value()),
             None => {

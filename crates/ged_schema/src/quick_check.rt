@@ -37,26 +37,20 @@ pub(crate) struct Pass {
     pub(crate) pointers: PointerCursor,
 }
 
-/// The rows of a context that ask for a structure: bit k is set where row k, counted from 0, asks for one. The script
-/// tools/slots.py prints these numbers, and the proof computes each of them from the rows.
-#[tactic(auto, unfolding(crate::specs::Tables::rows))]
+/// The rows of each context that ask for a structure, in the order of the contexts: bit k is set where row k, counted from 0, asks
+/// for one. The script tools/slots.py prints these numbers, and the proof computes each of them from the rows.
+static NEEDED: [u64; 34] = [
+    0b1, 0b1, 0b1, 0, 0, 0, 0b1, 0, 0, 0, 0, 0, 0, 0b1, 0, 0, 0, 0, 0, 0, 0b1, 0, 0, 0b1, 0b1, 0,
+    0b1, 0b1, 0b10, 0, 0, 0, 0, 0,
+];
+
+/// The rows of a context that ask for a structure, as bits.
+#[inline(always)]
 fn needed_rows(context: Context) -> u64
     ensures { are_simple result 0 (rows_of context) ≡ true }
 {
-    match context {
-        Context::File
-        | Context::Head
-        | Context::Gedc
-        | Context::HeadPlac
-        | Context::IndiNamed
-        | Context::NameTran
-        | Context::FamNamed
-        | Context::FamAge
-        | Context::Chan
-        | Context::Crea => 0b1,
-        Context::Asso => 0b10,
-        _ => 0,
-    }
+    // The proof asks for the index as the result of a call, so it is no cast to usize.
+    NEEDED[usize::from(context as u8)]
 }
 
 /// Whether each row of a context that asks for a structure is marked.
@@ -81,10 +75,9 @@ pub(crate) fn mark(marks: &mut u64, number: usize, most: Option<u32>) -> bool
     ensures marked { MarksOneMore number marks.old marks.new }
     ensures free { OnTrue result ((most ≡ None) ⊎ (bit_at marks.old number ≡ 0)) }
 {
-    let free = match most {
-        Some(_) => (*marks >> number) & 1 == 0,
-        None => true,
-    };
+    // No branch hangs on the greatest number, which changes from row to row.
+    let limited = u64::from(most.is_some());
+    let free = (*marks >> number) & limited == 0;
     *marks |= 1 << number;
     free
 }

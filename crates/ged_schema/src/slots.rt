@@ -3,7 +3,7 @@ ghost use Rattle.std.specs.Prelude.{◌≡◌, ◌<◌, ◌≤◌, ◌+◌, ◌*
 ghost use Rattle.std.specs.Option.{option_copied};
 ghost use Rattle.ged_schema.specs.Rows.{Row, as_row};
 ghost use Rattle.ged_schema.specs.Tables.{row, rows as rows_of};
-ghost use Rattle.ged_schema.specs.inner.Lookups.{row_of};
+ghost use Rattle.ged_schema.specs.inner.Lookups.{row_of, TellsNumber};
 ghost use Rattle.ged_schema.specs.Slots.{are_numbered, kept_number, slot_from};
 
 use crate::context::Context;
@@ -38,41 +38,34 @@ static SLOTS: [u8; 512] = [
     0, 0,
 ];
 
-/// The seed of the slots of a context's tags.
-#[tactic(auto, unfolding(crate::specs::Tables::rows))]
+/// The seed of the slots of each context's tags, in the order of the contexts.
+static SEEDS: [u16; 34] = [
+    32, 3, 0, 0, 3, 0, 0, 1, 6, 3, 1, 0, 181, 181, 181, 181, 1, 42, 12, 34, 10, 103, 181, 181, 1,
+    11, 6, 0, 4, 5, 0, 5, 0, 0,
+];
+
+/// The seed of the slots of a context's tags. It is read from a table rather than told by a match: a jump that hangs on the context is
+/// one that the processor seldom foresees.
+#[inline(always)]
 pub(crate) fn seed_of(context: Context) -> usize
     ensures small { result < 512 }
     ensures kept { are_numbered (kept_number result) 0 (rows_of context) ≡ true }
 {
-    match context {
-        Context::Indi
-        | Context::HeadData
-        | Context::CiteData
-        | Context::Gedc
-        | Context::Schma
-        | Context::HeadPlac
-        | Context::Crea
-        | Context::Leaf
-        | Context::Unchecked => 0,
-        Context::DateTime | Context::Typed | Context::AdopFamc | Context::FamAge => 1,
-        Context::Head | Context::HeadSour | Context::Phrase => 3,
-        Context::Asso => 4,
-        Context::Cite | Context::Note => 5,
-        Context::Chan | Context::DateMore => 6,
-        Context::NameTran => 10,
-        Context::NonEvent => 11,
-        Context::Notes => 12,
-        Context::File => 32,
-        Context::NameMore => 34,
-        Context::IndiFamc => 42,
-        Context::Fam => 103,
-        Context::IndiBirth
-        | Context::IndiAdop
-        | Context::FamFact
-        | Context::FamNamed
-        | Context::IndiFact
-        | Context::IndiNamed => 181,
-    }
+    usize::from(SEEDS[context as usize])
+}
+
+/// How many rows each context has, in the order of the contexts.
+static COUNTS: [u8; 34] = [
+    8, 11, 1, 1, 4, 2, 1, 1, 2, 1, 1, 62, 20, 20, 21, 21, 1, 4, 2, 11, 7, 31, 21, 21, 1, 4, 3, 1,
+    5, 7, 2, 4, 0, 0,
+];
+
+/// How many rows a context has.
+#[inline(always)]
+fn count_of(context: Context) -> usize
+    ensures { result ≡ length (rows_of context) }
+{
+    usize::from(COUNTS[context as usize])
 }
 
 /// The slot of a tag by four of its bytes, the first three and the last one. They tell the tags of each context apart.
@@ -108,24 +101,32 @@ fn slot_of(seed: usize, tag: &[u8]) -> usize
     }
 }
 
-/// The number of a tag's row among the rows of a context, counted from 0, where the seed is that of the context. A walk
-/// over structures that stand side by side asks for rows and seed once.
+/// The number of a tag's row among so many rows of a context, counted from 0, where the seed is that of the context.
+#[inline(always)]
+fn number_within(rules: &[Rule], count: usize, seed: usize, tag: &str) -> Option<usize>
+    requires count { count ≡ length rules.now }
+    requires small { seed < 512 }
+    requires few { length rules.now ≤ 64 }
+    requires kept { are_numbered (kept_number seed) 0 (map as_row rules.now) ≡ true }
+    ensures { TellsNumber (map as_row rules.now) tag.now result }
+{
+    let number = usize::from(SLOTS[slot_of(seed, tag.as_bytes())]);
+    if number < count && is_same_tag(rules[number].tag, tag) {
+        Some(number)
+    } else {
+        None
+    }
+}
+
+/// The same among all the rows. A walk over structures that stand side by side asks for rows and seed once.
 #[inline(always)]
 pub(crate) fn number_among(rules: &[Rule], seed: usize, tag: &str) -> Option<usize>
     requires small { seed < 512 }
     requires few { length rules.now ≤ 64 }
     requires kept { are_numbered (kept_number seed) 0 (map as_row rules.now) ≡ true }
-    ensures row { MatchOption result (row_of (map as_row rules.now) tag.now ≡ None)
-        (λ number. (number < length (map as_row rules.now)) × (slice_get (map as_row rules.now) number ≡ row_of (map as_row rules.now) tag.now)) }
-    ensures small { IfSome result (λ number. number < 64) }
-    ensures only { (number : ℕ) (r : Row) → slice_get (map as_row rules.now) number ≡ Some r → r.tag ≡ tag.now → result ≡ Some number }
+    ensures { TellsNumber (map as_row rules.now) tag.now result }
 {
-    let number = usize::from(SLOTS[slot_of(seed, tag.as_bytes())]);
-    if number < rules.len() && is_same_tag(rules[number].tag, tag) {
-        Some(number)
-    } else {
-        None
-    }
+    number_within(rules, rules.len(), seed, tag)
 }
 
 /// The row of a tag among the rows of a context, where the seed is that of the context.
@@ -142,7 +143,8 @@ pub(crate) fn rule_among(rules: &'static [Rule], seed: usize, tag: &str) -> Opti
     }
 }
 
-/// The number of a tag's row among the rows of a context, counted from 0.
+/// The number of a tag's row among the rows of a context, counted from 0. How many rows there are is read from a table, as the seed
+/// is.
 #[inline(always)]
 pub(crate) fn row_number(context: Context, tag: &str) -> Option<usize>
     ensures row { MatchOption result (row context tag.now ≡ None)
@@ -150,5 +152,5 @@ pub(crate) fn row_number(context: Context, tag: &str) -> Option<usize>
     ensures small { IfSome result (λ number. number < 64) }
     ensures only { (number : ℕ) (r : Row) → slice_get (rows_of context) number ≡ Some r → r.tag ≡ tag.now → result ≡ Some number }
 {
-    number_among(rows(context), seed_of(context), tag)
+    number_within(rows(context), count_of(context), seed_of(context), tag)
 }

@@ -1,5 +1,5 @@
 #!/usr/bin/env python3
-"""Prints the weights, the seeds and the slots of src/slots.rt for the rows of src/tables, and the needed rows of src/quick_check.rt.
+"""Prints the weights and the arrays of src/slots.rt for the rows of src/tables, and the needed rows of src/quick_check.rt.
 
 A tag's slot is the sum of its context's seed and of its first three bytes and its last one, each times a weight, modulo
 the number of slots. A byte that the tag doesn't have counts as 0. The script takes the first weights, among sums of few
@@ -65,52 +65,50 @@ def find_slots(tables, weights):
     return seeds, slots
 
 
-def print_found(weights, seeds, slots):
-    print("weights of the first, the second, the third and the last byte:", *weights)
+def print_array(title, words):
+    """Prints the elements of an array of the sources, as many to a line as fit."""
+    print(title)
     line = "   "
-    for slot in range(SLOTS):
-        word = f" {slots.get(slot, 0)},"
-        if len(line + word) > WIDTH:
+    for word in words:
+        if len(f"{line} {word},") > WIDTH:
             print(line)
             line = "   "
-        line += word
+        line += f" {word},"
     print(line)
-    for seed in sorted(set(seeds.values())):
-        contexts = " | ".join(f"Context::{context}" for context in seeds if seeds[context] == seed)
-        print(f"        {contexts} => {seed},")
 
 
-def read_needed():
-    """The rows of each context that ask for a structure, where there are such rows: a number with a bit for each of them."""
+def print_found(weights, seeds, slots, needed, tables):
+    print("weights of the first, the second, the third and the last byte:", *weights)
+    print_array("SLOTS:", [str(slots.get(slot, 0)) for slot in range(SLOTS)])
+    print_array("SEEDS:", [str(seeds[context]) for context in tables])
+    print_array("COUNTS:", [str(len(tables[context])) for context in tables])
+    print_array("NEEDED:", [bin(needed[context]) if needed[context] else "0" for context in tables])
+
+
+def read_needed(contexts):
+    """The rows of each context that ask for a structure: a number with a bit for each of them."""
     masks = {}
     for path in sorted((SOURCE / "tables").glob("*.rt")):
         for name, body in re.findall(r"static (\w+): \[Rule; \d+\] = \[(.*?)\];", path.read_text(), re.S):
             masks[name] = sum(1 << number for number, macro in enumerate(re.findall(r'(\w+)!\(\s*"', body)) if macro in ("one", "some"))
-    arms = re.findall(r"Context::(\w+) => &(\w+),", (SOURCE / "tables.rt").read_text())
-    return {context: masks[name] for context, name in arms if masks[name]}
+    arms = dict(re.findall(r"Context::(\w+) => &(\w+),", (SOURCE / "tables.rt").read_text()))
+    return {context: masks[arms[context]] if context in arms else 0 for context in contexts}
 
 
-def print_needed(needed):
-    for mask in sorted(set(needed.values())):
-        contexts = " | ".join(f"Context::{context}" for context in needed if needed[context] == mask)
-        print(f"        {contexts} => {mask:#b},")
-    print("        _ => 0,")
+def read_array(code, name):
+    """The elements of an array of the sources."""
+    elements = re.search(rf"static {name}: \[u\d+; \d+\] = \[(.*?)\];", code, re.S)[1]
+    return [int(number, 0) for number in re.findall(r"0b[01]+|\d+", elements)]
 
 
-def read_arms(text):
-    """The contexts of the arms of a match, each with the number that its arm gives."""
-    arms = re.findall(r"((?:Context::\w+[\s|]*)+)=> (0b[01]+|\d+),", text)
-    return {context: int(number, 0) for left, number in arms for context in re.findall(r"Context::(\w+)", left)}
-
-
-def compare(seeds, slots, needed):
-    """Tells whether the sources have these seeds, slots and needed rows; and answers the status."""
+def compare(seeds, slots, needed, tables):
+    """Tells whether the sources have these seeds, slots, numbers of rows and needed rows; and answers the status."""
     code = (SOURCE / "slots.rt").read_text()
-    array = re.search(r"static SLOTS: \[u8; \d+\] = \[(.*?)\];", code, re.S)[1]
     checks = {
-        "the slots": [int(number) for number in re.findall(r"\d+", array)] == [slots.get(slot, 0) for slot in range(SLOTS)],
-        "the seeds": read_arms(code) == seeds,
-        "the needed rows": read_arms((SOURCE / "quick_check.rt").read_text()) == needed,
+        "the slots": read_array(code, "SLOTS") == [slots.get(slot, 0) for slot in range(SLOTS)],
+        "the seeds": read_array(code, "SEEDS") == [seeds[context] for context in tables],
+        "the numbers of rows": read_array(code, "COUNTS") == [len(tables[context]) for context in tables],
+        "the needed rows": read_array((SOURCE / "quick_check.rt").read_text(), "NEEDED") == [needed[context] for context in tables],
     }
     for name, is_same in checks.items():
         print(f"ok: {name} are those of the tables" if is_same else f"FAILED: {name} are not those of the tables")
@@ -120,14 +118,14 @@ def compare(seeds, slots, needed):
 
 
 def main(words):
-    tables, needed = read_tables(), read_needed()
+    tables = read_tables()
+    needed = read_needed(tables)
     for weights in sorted(itertools.product(WEIGHTS, repeat=4), key=lambda four: (sum(w & (w - 1) > 0 for w in four), sum(four))):
         found = find_slots(tables, weights)
         if found is not None and words[1:] == ["--compare"]:
-            return compare(*found, needed)
+            return compare(*found, needed, tables)
         if found is not None:
-            print_found(weights, *found)
-            print_needed(needed)
+            print_found(weights, *found, needed, tables)
             return 0
     raise SystemExit("no weights were found")
 

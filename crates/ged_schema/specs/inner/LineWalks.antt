@@ -30,6 +30,13 @@ FitsValue kind Void = takes_links kind ≡ true
 FitsValue kind (Pointer name) = takes_links kind ≡ true
 FitsValue kind (Text text) = FitsLine kind text
 
+-- the class of a value: a text, the empty value, or a link
+abbrev pub value_class : Value → ℕ
+value_class (Text text) = 0
+value_class Empty = 1
+value_class Void = 2
+value_class (Pointer name) = 2
+
 -- rows are marked once more: the row of the tag, which may have one structure more, and no other
 abbrev pub MarksTag : List Row → Bytes → ℕ → ℕ → Type 0
 MarksTag rs tag before after = (number : ℕ) (r : Row) → slice_get rs number ≡ Some r

@@ -1,10 +1,10 @@
-use Rattle.std.proofs.Common.{rules, refl, ◌∙◌, ap, subst, ◌≡◌, ◌+◌, ◌<◌, ℕ, Some, length, slice_get}
+use Rattle.std.proofs.Common.{refl, ◌∙◌, ap, subst, ◌≡◌, ◌+◌, ◌<◌, ℕ, Some, length, slice_get}
 use Rattle.ged_schema.specs.Rows.{Row}
 use Rattle.ged_schema.specs.declared.context.Context.{Context}
 use Rattle.ged_schema.specs.Tables.{rows, row}
 use Rattle.ged_schema.specs.inner.LineWalks.{open_at, IsClosed}
 use Rattle.ged_schema.proofs.Marking.{on_true}
-use Rattle.ged_schema.proofs.LineOpening.{opens_by_rule, opens_without_row, opens_unchecked}
+use Rattle.ged_schema.proofs.LineOpening.{opens_by_rule, opens_without_row}
 use Rattle.ged_schema.proofs.line_walk.LineWalk.open_structure.Goals as goal
 
 pub returns-in-Some : goal.returns-in-Some
@@ -24,15 +24,6 @@ returns-in-None c =
     let walk = c.args.self.now in
     let level : c.from-level.result ≡ c.args.line.now.level = c.from-level.ensures ∙ c.level.ensures.level in
     let context : c.context_at-context.result ≡ (open_at walk c.args.line.now.level).context = c.context_at-context.ensures ∙ ap (λ (n : ℕ). (open_at walk n).context) level in
-    opens_without_row (open_at walk c.args.line.now.level).context c.args.line.now walk c.open_unlisted-in-None.new.self refl
+    opens_without_row (open_at walk c.args.line.now.level).context c.args.line.now walk c.open_unlisted.new.self refl
     (subst (λ (n : ℕ). IsClosed walk (n + 1)) level (on_true c.is_closed.result c.is_closed.ensures c.if-not-is_closed.false))
-    c.context_at-context.result context c.from-level.result level c.tag-tag.result.now c.tag-tag.ensures.tag c.in-None.ensures.row c.in-None.ensures.only c.open_unlisted-in-None.ensures
-
-pub returns-then-eq : goal.returns-then-eq
-returns-then-eq c =
-    let walk = c.args.self.now in
-    let level : c.from-level.result ≡ c.args.line.now.level = c.from-level.ensures ∙ c.level.ensures.level in
-    let context : c.context_at-context.result ≡ (open_at walk c.args.line.now.level).context = c.context_at-context.ensures ∙ ap (λ (n : ℕ). (open_at walk n).context) level in
-    opens_unchecked (open_at walk c.args.line.now.level).context c.args.line.now walk c.open_unlisted.new.self refl
-    (subst (λ (n : ℕ). IsClosed walk (n + 1)) level (on_true c.is_closed.result c.is_closed.ensures c.if-not-is_closed.false))
-    c.context_at-context.result context (search rules) c.from-level.result level c.tag-tag.result.now c.tag-tag.ensures.tag c.open_unlisted.ensures
+    c.context_at-context.result context c.from-level.result level c.tag-tag.result.now c.tag-tag.ensures.tag c.in-None.ensures.row c.in-None.ensures.only c.open_unlisted.ensures
