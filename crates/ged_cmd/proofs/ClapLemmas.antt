@@ -1,5 +1,6 @@
 -- What clap's contracts say of the program's command line.
-use Rattle.std.proofs.Common.{◌≡◌, ◌∙◌, ◌||◌, Bool, true, false, List, [], Option, Some, None, ap, ap₂, refl, sym, subst, codes, option_map, unwrap_or}
+use Rattle.std.proofs.Common.{◌≡◌, ◌∙◌, ◌||◌, ◌+◌, ◌<◌, ℕ, Bool, true, false, List, [], Option, Some, None, ap, ap₂, refl, sym, subst, codes, drop, length, option_map, slice_index_or, unwrap_or}
+use Rattle.std.proofs.lemmas.List.{at_drop_more}
 use Rattle.std.specs.Prelude.{IfErr, IsErrAnd, Result, Ok, Err}
 use Rattle.std.specs.Str.{bytes_eq}
 use Rattle.std.specs.Option.{option_map_or}
@@ -8,6 +9,7 @@ use Rattle.clap.specs.Faults.{is_simple_and_free}
 use Rattle.clap.proofs.OnLiterals.{clap_on_literals}
 use Rattle.clap.specs.declared.builder.arg.Arg.{Arg}
 use Rattle.clap.specs.declared.builder.command.Command.{Command}
+use Rattle.clap.specs.declared.builder.command.Command.TheViews.{out-Command as fields_of}
 use Rattle.std.proofs.lemmas.Slice.Eq.{bytes_eq-Decides}
 use Rattle.std.specs.Str.Parse.{ParsesBool}
 use Rattle.std.specs.Borrow.{Bor}
@@ -19,7 +21,9 @@ use Rattle.clap.specs.declared.parser.matches.ArgMatches.{ArgMatches}
 use Rattle.clap.proofs.WalkLemmas.{first_value-rows, one_text-rows}
 use Rattle.clap.specs.declared.parser.matches.Found.{Found}
 use Rattle.ged_cmd.specs.CommandLine.{gedtool}
-use Rattle.ged_cmd.specs.inner.CommandLine.{IsArg, IsCommand}
+use Rattle.ged_cmd.specs.declared.arguments.Argument.{Argument}
+use Rattle.ged_cmd.specs.declared.grammar.Listed.{Listed}
+use Rattle.ged_cmd.specs.inner.CommandLine.{IsArg, IsCommand, app_listed, rule_given, with_arguments, with_commands}
 use Rattle.ged_cmd.specs.Tasks.{is_set}
 
 -- a command with one more argument
@@ -37,6 +41,24 @@ with_one app inner old sub new command is_sub added = (
   added.shape is_sub.1 ∙ ap₂ with_subcommand command.0 (ap (λ (a : App). a.top) is_sub.0),
   added.globals ∙ ap₂ (λ x y. x || y) command.1 is_sub.1,
 )
+
+-- a command with the argument at a place of a list, and those after it
+pub one_argument : (old new : Command) (arg : Arg) (given : List Argument) (i : ℕ) (d : Argument) (whole : App) → i < length given
+    → (with_arguments (app_of old) (drop i given) ≡ whole) × ((fields_of old).has_globals ≡ false)
+    → IsArg (rule_given (slice_index_or given i d)) arg → AddsArg old arg new
+    → (with_arguments (app_of new) (drop (i + 1) given) ≡ whole) × ((fields_of new).has_globals ≡ false)
+one_argument old new arg given i d whole within before is_arg added =
+    let (is, local) = with_arg (app_of old) (rule_given (slice_index_or given i d)) old new arg (refl, before.1) is_arg added in
+    (rw is (sym (at_drop_more (with_arguments (app_of old)) given i d within) ∙ before.0), local)
+
+-- a program with the command at a place of the table, and those after it
+pub one_command : (old sub new : Command) (commands : List Listed) (i : ℕ) (d : Listed) (whole : App) → i < length commands
+    → (with_commands (app_of old) (drop i commands) ≡ whole) × ((fields_of old).has_globals ≡ false)
+    → IsCommand (app_listed (slice_index_or commands i d)) sub → AddsSubcommand old sub new
+    → (with_commands (app_of new) (drop (i + 1) commands) ≡ whole) × ((fields_of new).has_globals ≡ false)
+one_command old sub new commands i d whole within before is_sub added =
+    let (is, local) = with_one (app_of old) (app_listed (slice_index_or commands i d)) old sub new (refl, before.1) is_sub added in
+    (rw is (sym (at_drop_more (with_commands (app_of old)) commands i d within) ∙ before.0), local)
 
 pub gedtool_is_simple : is_simple gedtool ≡ true
 unfolding clap_on_literals

@@ -1,8 +1,10 @@
 // The arguments of the commands: files, a fault, flags and the option of the output.
+ghost use Rattle.std.specs.Prelude.{true};
 ghost use Rattle.clap.specs.Words.{new_rule};
 ghost use Rattle.ged_cmd.specs.CommandLine as line;
-ghost use Rattle.ged_cmd.specs.inner.CommandLine.{IsArg};
+ghost use Rattle.ged_cmd.specs.inner.CommandLine.{IsArg, rule_given};
 
+use crate::help;
 use clap::{Arg, ArgAction};
 use std::alloc::Global;
 
@@ -21,69 +23,87 @@ pub(crate) const OUTPUT: &str = "output";
 /// The flag under which faults and notices are explained.
 pub(crate) const EXPLAIN: &str = "explain";
 
-/// The flag under which files are judged by the strict profile.
-pub(crate) fn strict_flag<'a>(alloc: Global) -> Arg<'a>
-    ensures { IsArg line.strict_flag result }
-{
-    Arg::new(alloc, STRICT)
-        .long(STRICT)
-        .action(ArgAction::SetTrue)
-        .help("Refuse a file that has a notice")
+/// An argument of a command.
+#[derive(Clone, Copy)]
+pub(crate) enum Argument {
+    /// The file to read, which may be left out.
+    File,
+    /// The first of two files.
+    FirstFile,
+    /// The second of two files, which may be left out.
+    SecondFile,
+    /// The files to read, of which there is one at least.
+    Files,
+    /// The word of a fault, which may be left out.
+    Fault,
+    /// The flag under which a notice refuses a file.
+    Strict,
+    /// The flag for the second edition of the canonical form.
+    SecondEdition,
+    /// The flag for the form that keeps the names of identifiers.
+    KeepNames,
+    /// The option that names the file that the answer goes into.
+    Output,
+    /// The flag under which faults and notices are explained.
+    Explain,
 }
 
-/// The flag for the second edition of the canonical form.
-pub(crate) fn second_flag<'a>(alloc: Global) -> Arg<'a>
-    ensures { IsArg line.second_flag result }
+/// An argument, as clap is told of it.
+pub(crate) fn told_argument<'a>(alloc: Global, argument: Argument) -> Arg<'a>
+    ensures { IsArg (rule_given argument) result }
 {
-    Arg::new(alloc, SECOND)
-        .long(SECOND)
-        .action(ArgAction::SetTrue)
-        .help("Also leave out leading zeros of dates, ages and counts")
+    match argument {
+        Argument::File => file_argument(alloc, "FILE", help::OF_FILE),
+        Argument::FirstFile => required_argument(alloc, "A", help::OF_FIRST_FILE),
+        Argument::SecondFile => file_argument(alloc, "B", help::OF_SECOND_FILE),
+        Argument::Files => files_argument(alloc),
+        Argument::Fault => file_argument(alloc, "FAULT", help::OF_FAULT),
+        Argument::Strict => flag(alloc, STRICT, help::OF_STRICT),
+        Argument::SecondEdition => flag(alloc, SECOND, help::OF_SECOND),
+        Argument::KeepNames => flag(alloc, KEEP_NAMES, help::OF_KEEP_NAMES),
+        Argument::Output => output_option(alloc),
+        Argument::Explain => flag(alloc, EXPLAIN, help::OF_EXPLAIN),
+    }
 }
 
-/// The flag for the form that keeps the names of identifiers.
-pub(crate) fn keep_names_flag<'a>(alloc: Global) -> Arg<'a>
-    ensures { IsArg line.keep_names_flag result }
+/// A flag `--name`.
+fn flag<'a>(alloc: Global, name: &'a str, help: &'a str) -> Arg<'a>
+    ensures { IsArg (line.flag name.entry.now) result }
 {
-    Arg::new(alloc, KEEP_NAMES)
-        .long(KEEP_NAMES)
+    Arg::new(alloc, name)
+        .long(name)
         .action(ArgAction::SetTrue)
-        .help("Leave identifiers as they are")
+        .help(help)
 }
 
 /// The option that names the file that the answer goes into.
-pub(crate) fn output_option<'a>(alloc: Global) -> Arg<'a>
+fn output_option<'a>(alloc: Global) -> Arg<'a>
     ensures { IsArg line.output_option result }
 {
     Arg::new(alloc, OUTPUT)
         .long(OUTPUT)
         .short('o')
         .value_name("FILE")
-        .help("Write the answer to this file, whole or not at all")
-}
-
-/// The flag under which faults and notices are explained.
-pub(crate) fn explain_flag<'a>(alloc: Global) -> Arg<'a>
-    ensures { IsArg line.explain_flag result }
-{
-    Arg::new(alloc, EXPLAIN)
-        .long(EXPLAIN)
-        .action(ArgAction::SetTrue)
-        .help("Explain faults and notices on standard error")
+        .help(help::OF_OUTPUT)
 }
 
 /// An argument that may be left out.
-pub(crate) fn file_argument<'a>(alloc: Global, name: &'a str, help: &'a str) -> Arg<'a>
+fn file_argument<'a>(alloc: Global, name: &'a str, help: &'a str) -> Arg<'a>
     ensures { IsArg (new_rule name.entry.now) result }
 {
     Arg::new(alloc, name).help(help)
 }
 
-/// The first of two files.
-pub(crate) fn first_argument<'a>(alloc: Global) -> Arg<'a>
-    ensures { IsArg line.first_file result }
+/// An argument that may not be left out.
+fn required_argument<'a>(alloc: Global, name: &'a str, help: &'a str) -> Arg<'a>
+    ensures { IsArg (record (new_rule name.entry.now) { required = true }) result }
 {
-    Arg::new(alloc, "A")
-        .required(true)
-        .help("The first file to read; standard input if it is '-'")
+    Arg::new(alloc, name).required(true).help(help)
+}
+
+/// The files, of which there is one at least.
+fn files_argument<'a>(alloc: Global) -> Arg<'a>
+    ensures { IsArg line.files result }
+{
+    required_argument(alloc, "FILE", help::OF_FILES).action(ArgAction::Append)
 }

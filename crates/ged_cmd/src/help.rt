@@ -1,4 +1,4 @@
-// What help says of the program and of each command.
+// What help says of the program, of each command and of each argument.
 
 /// The texts of help on the program or a command.
 #[derive(Clone, Copy)]
@@ -165,3 +165,26 @@ Examples:
   gedtool explain 22
   gedtool explain TooMany",
 };
+
+// What help says of each argument, in a line.
+
+pub(crate) const OF_FILE: &str = "The file to read; standard input if it is left out or '-'";
+
+pub(crate) const OF_FIRST_FILE: &str = "The first file to read; standard input if it is '-'";
+
+pub(crate) const OF_SECOND_FILE: &str =
+    "The second file to read; standard input if it is left out or '-'";
+
+pub(crate) const OF_FILES: &str = "The files to read, one after the other; standard input for '-'";
+
+pub(crate) const OF_FAULT: &str = "The number or the name of a fault; all faults if it is left out";
+
+pub(crate) const OF_STRICT: &str = "Refuse a file that has a notice";
+
+pub(crate) const OF_SECOND: &str = "Also leave out leading zeros of dates, ages and counts";
+
+pub(crate) const OF_KEEP_NAMES: &str = "Leave identifiers as they are";
+
+pub(crate) const OF_OUTPUT: &str = "Write the answer to this file, whole or not at all";
+
+pub(crate) const OF_EXPLAIN: &str = "Explain faults and notices on standard error";

@@ -18,6 +18,7 @@ mod digest_words;
 mod digests;
 mod drafts;
 mod explanations;
+mod grammar;
 mod help;
 mod meanings;
 mod reasons;

@@ -9,7 +9,8 @@ ghost use Rattle.ged_cmd.specs.inner.Tasks.{IsReadOnce, wanted_task};
 
 use crate::arguments::EXPLAIN;
 use crate::digest_words::{Digests, digests_asked};
-use crate::words::{Request, command_line, is_flagged, request_of};
+use crate::grammar::command_line;
+use crate::words::{Request, is_flagged, request_of};
 use clap::{ArgMatches, Error};
 use std::alloc::Global;
 

@@ -12,26 +12,11 @@ ghost use Rattle.ged_cmd.specs.Tasks.{canon_keeping as canon_keeping_of, command
 ghost use Rattle.ged_cmd.specs.Tasks.{form_asked, form_keeping as form_keeping_of, profile_asked, run_asked, same_asked};
 ghost use Rattle.ged_cmd.specs.inner.Tasks.{task_of};
 
-use crate::arguments::{
-    EXPLAIN, KEEP_NAMES, OUTPUT, SECOND, STRICT, explain_flag, file_argument, first_argument,
-    keep_names_flag, output_option, second_flag, strict_flag,
-};
-use crate::digest_words::digest_command;
-use crate::help::{self, Help};
+use crate::arguments::{KEEP_NAMES, OUTPUT, SECOND, STRICT};
 use crate::meanings::meaning_called;
-use clap::{Arg, ArgMatches, Error};
+use clap::ArgMatches;
 use ged_explain::{Meaning, meanings};
 use ged_tool::{Command, Comparison, Edition, Form, Profile, Settings};
-use std::alloc::{AllocError, Global};
-
-/// The name that help and usage give the program, whatever file it lies in.
-const NAME: &str = "gedtool";
-
-/// What `--version` tells after the program's name: the version of the file VERSION, the editions of the canonical form, and the sum
-/// of the logic under which the program is proved, as `rt --version` tells it.
-const VERSION: &str = "0.1.0
-canonical form: editions 1 and 2
-proved by Rattle, logic dac8208d650f15bf";
 
 /// What has one answer.
 #[derive(Clone, Copy)]
@@ -210,136 +195,4 @@ pub(crate) fn is_flagged(matches: &ArgMatches<'_>, flag: &str) -> bool
     ensures { result ≡ is_set flag.now (rows_of (found_of matches.now)) }
 {
     matches.get_one::<bool>(flag).unwrap_or(false)
-}
-
-/// What the program understands.
-pub(crate) fn command_line<'a>(alloc: Global) -> Result<clap::Command<'a>, AllocError>
-    ensures { IfOk result (IsCommand line.gedtool) }
-{
-    let program = bare_program(alloc);
-    let program = with_command(program, lines_command(alloc));
-    let program = with_command(program, check_command(alloc));
-    let program = with_command(program, show_command(alloc));
-    let program = with_command(program, canon_command(alloc));
-    let program = with_command(program, same_command(alloc));
-    let program = with_command(program, explain_command(alloc));
-    with_command(program, digest_command(alloc))
-}
-
-/// The program with one more command, if there was memory for both.
-fn with_command<'a>(
-    program: Result<clap::Command<'a>, AllocError>,
-    command: Result<clap::Command<'a>, AllocError>,
-) -> Result<clap::Command<'a>, AllocError>
-    ensures { (app inner : App) → IfOk program.entry (IsCommand app) → IfOk command.entry (IsCommand inner)
-        → IfOk result (IsCommand (with_subcommand app inner.top)) }
-{
-    program?.subcommand(command?)
-}
-
-/// A command with one more argument, if there was memory for the command.
-pub(crate) fn with_arg<'a>(
-    command: Result<clap::Command<'a>, AllocError>,
-    arg: Arg<'a>,
-) -> Result<clap::Command<'a>, AllocError>
-    ensures { (app : App) (rule : Rule) → IfOk command.entry (IsCommand app) → IsArg rule arg.entry
-        → IfOk result (IsCommand (with_rule app rule)) }
-{
-    command?.arg(arg)
-}
-
-/// The program without its commands, of which it needs one. It tells its version.
-fn bare_program<'a>(alloc: Global) -> Result<clap::Command<'a>, AllocError>
-    ensures { IfOk result (IsCommand line.bare_program) }
-{
-    named_command(alloc, NAME, help::PROGRAM)
-        .subcommand_required(true)
-        .version(VERSION)
-        .bin_name(NAME)
-}
-
-/// A command that takes nothing.
-pub(crate) fn named_command<'a>(alloc: Global, name: &'a str, help: Help) -> clap::Command<'a>
-    ensures { IsCommand (new_app name.entry.now) result }
-{
-    clap::Command::new(alloc, name)
-        .about(help.about)
-        .long_about(help.purpose)
-        .after_long_help(help.more)
-}
-
-fn lines_command<'a>(alloc: Global) -> Result<clap::Command<'a>, AllocError>
-    ensures { IfOk result (IsCommand line.lines) }
-{
-    let command = file_command(alloc, "lines", help::LINES);
-    let command = with_arg(command, output_option(alloc));
-    with_arg(command, explain_flag(alloc))
-}
-
-fn check_command<'a>(alloc: Global) -> Result<clap::Command<'a>, AllocError>
-    ensures { IfOk result (IsCommand line.check) }
-{
-    let command = file_command(alloc, "check", help::CHECK);
-    let command = with_arg(command, strict_flag(alloc));
-    with_arg(command, explain_flag(alloc))
-}
-
-fn show_command<'a>(alloc: Global) -> Result<clap::Command<'a>, AllocError>
-    ensures { IfOk result (IsCommand line.show) }
-{
-    let command = file_command(alloc, "show", help::SHOW);
-    let command = with_arg(command, strict_flag(alloc));
-    let command = with_arg(command, output_option(alloc));
-    with_arg(command, explain_flag(alloc))
-}
-
-fn canon_command<'a>(alloc: Global) -> Result<clap::Command<'a>, AllocError>
-    ensures { IfOk result (IsCommand line.canon) }
-{
-    let command = file_command(alloc, "canon", help::CANON);
-    let command = with_arg(command, strict_flag(alloc));
-    let command = with_arg(command, second_flag(alloc));
-    let command = with_arg(command, keep_names_flag(alloc));
-    let command = with_arg(command, output_option(alloc));
-    with_arg(command, explain_flag(alloc))
-}
-
-/// A subcommand over one file.
-fn file_command<'a>(
-    alloc: Global,
-    name: &'a str,
-    help: Help,
-) -> Result<clap::Command<'a>, AllocError>
-    ensures { IfOk result (IsCommand (line.over_file name.entry.now)) }
-{
-    let file = "The file to read; standard input if it is left out or '-'";
-    named_command(alloc, name, help).arg(file_argument(alloc, "FILE", file))
-}
-
-/// The subcommand about faults.
-fn explain_command<'a>(alloc: Global) -> Result<clap::Command<'a>, AllocError>
-    ensures { IfOk result (IsCommand line.explain) }
-{
-    let fault = "The number or the name of a fault; all faults if it is left out";
-    named_command(alloc, "explain", help::EXPLAIN).arg(file_argument(alloc, "FAULT", fault))
-}
-
-/// The subcommand over two files.
-fn same_command<'a>(alloc: Global) -> Result<clap::Command<'a>, AllocError>
-    ensures { IfOk result (IsCommand line.same) }
-{
-    let command = two_files_command(alloc);
-    let command = with_arg(command, strict_flag(alloc));
-    let command = with_arg(command, second_flag(alloc));
-    let command = with_arg(command, keep_names_flag(alloc));
-    with_arg(command, explain_flag(alloc))
-}
-
-/// The subcommand over two files, without its flags.
-fn two_files_command<'a>(alloc: Global) -> Result<clap::Command<'a>, AllocError>
-    ensures { IfOk result (IsCommand line.over_two_files) }
-{
-    let second = "The second file to read; standard input if it is left out or '-'";
-    let command = named_command(alloc, "same", help::SAME).arg(first_argument(alloc));
-    with_arg(command, file_argument(alloc, "B", second))
 }

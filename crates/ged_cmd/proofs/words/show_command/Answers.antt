@@ -1,7 +1,0 @@
-use Rattle.ged_cmd.proofs.words.show_command.Goals as goal
-
-pub returns : goal.returns
-returns c =
-    let strict = c.with_arg-command.ensures _ _ c.file_command-command.ensures c.strict_flag.ensures in
-    let output = c.with_arg-command-2.ensures _ _ strict c.output_option.ensures in
-    c.with_arg.ensures _ _ output c.explain_flag.ensures
