@@ -5,6 +5,7 @@ pub mod Forms
 pub mod Judging
 pub mod Merging
 pub mod Pieces
+pub mod Refusals
 pub mod Noticing
 pub mod TidyLaws
 pub mod Told

@@ -1,17 +1,24 @@
 // Files that are accepted.
-ghost use Rattle.std.specs.Prelude.{◌≡◌, IfOk, IfErr};
+ghost use Rattle.std.specs.Prelude.{◌≡◌, ◌⊎◌, IfOk, IfErr, alloc_error};
+ghost use Rattle.ged_line.specs.Bytes.{Bytes};
+ghost use Rattle.ged_tree.specs.Trees.{Trees};
+ghost use Rattle.ged_tree.specs.DocumentLines.{document_lines};
+ghost use Rattle.ged_tree.specs.Building.{TellsFile};
 ghost use Rattle.ged_link.specs.Links.{Resolved};
+ghost use Rattle.ged_link.specs.LinkFaults.{HasLinkFault};
 ghost use Rattle.ged_link.specs.Indexes.{IsIndexOf};
 ghost use Rattle.ged_schema.specs.Checked.{Checked};
+ghost use Rattle.ged_schema.specs.Profiles.{CheckedAs};
 ghost use Rattle.ged_schema.specs.Unlisted.{IsCoverage};
 ghost use Rattle.ged_tool.specs.Profiles.{profile_of};
-ghost use Rattle.ged_tool.specs.Accepted.{IsAccepted, FileFaultAt, IsRefusal};
+ghost use Rattle.ged_tool.specs.Accepted.{IsAccepted, FileFaultAt, IsRefusal, LinesFaultAt, TablesFaultAt, XrefFaultAt};
+ghost use Rattle.ged_tool.specs.inner.Accepting.{DocumentFaultAt, IsAcceptable};
 
 use crate::faults::{Fault, FileFault};
 use crate::settings::Settings;
 use ged_link::{Index, LinkFault, resolve};
 use ged_schema::{Coverage, LineWalk, Profile, check_walked};
-use ged_tree::{BuildFault, Document, Flat, document_of, flatten_with};
+use ged_tree::{BuildFault, Document, Flat, LineReader, document_of, flatten_with};
 use std::alloc::{AllocError, Global};
 use std::marker::Model;
 
@@ -89,24 +96,70 @@ pub fn accept_as(alloc: Global, settings: Settings, bytes: &[u8]) -> Result<Acce
     ensures refused { IfErr result (IsRefusal (FileFaultAt (profile_of settings) bytes.now)) }
 {
     let mut walk = LineWalk::new();
-    let flat = match flatten_with(alloc, bytes, &mut walk) {
-        Ok(flat) => flat,
-        Err(BuildFault::At(at)) => return Err(in_file(at.line, at.fault.into())),
-        Err(BuildFault::Memory(error)) => return Err(Fault::Memory(error)),
-    };
-    let index = match resolve(alloc, &flat) {
-        Ok(index) => index,
-        Err(LinkFault::Duplicate(line)) => return Err(in_file(line, FileFault::DuplicateXref)),
-        Err(LinkFault::Dangling(line)) => return Err(in_file(line, FileFault::DanglingPointer)),
-        Err(LinkFault::Memory(error)) => return Err(Fault::Memory(error)),
-    };
-    match check_walked(settings.profile, &flat, &index, &walk) {
+    match flatten_with(alloc, bytes, &mut walk) {
+        Ok(flat) => accept_table(alloc, settings.profile, flat, &walk),
+        Err(fault) => Err(told_of_lines(fault)),
+    }
+}
+
+/// A document that is accepted, whose lines a walk has read, or why it is not.
+fn accept_table<'a>(
+    alloc: Global,
+    profile: Profile,
+    flat: Flat<'a>,
+    walk: &LineWalk,
+) -> Result<Accepted<'a>, Fault>
+    requires { ⟦<LineWalk as LineReader>⟧.has_read walk.now (document_lines flat) }
+    ensures accepted { IfOk result (IsAcceptable profile flat.entry) }
+    ensures refused { IfErr result (IsRefusal (DocumentFaultAt profile flat.entry)) }
+{
+    match resolve(alloc, &flat) {
+        Ok(index) => accept_resolved(profile, flat, index, walk),
+        Err(fault) => Err(told_of_links(fault)),
+    }
+}
+
+/// The same of a document whose cross-references are resolved.
+fn accept_resolved<'a>(
+    profile: Profile,
+    flat: Flat<'a>,
+    index: Index,
+    walk: &LineWalk,
+) -> Result<Accepted<'a>, Fault>
+    requires walk { ⟦<LineWalk as LineReader>⟧.has_read walk.now (document_lines flat) }
+    requires index { IsIndexOf flat index }
+    ensures accepted { IfOk result (λ accepted. (accepted ≡ flat.entry) × CheckedAs profile flat.entry) }
+    ensures refused { IfErr result (IsRefusal (TablesFaultAt profile flat.entry)) }
+{
+    match check_walked(profile, &flat, &index, walk) {
         Ok(coverage) => Ok(Accepted {
             flat,
             index,
             coverage,
         }),
         Err(at) => Err(in_file(at.line, at.fault.into())),
+    }
+}
+
+/// What is told of lines that are no document's.
+fn told_of_lines(fault: BuildFault) -> Fault
+    ensures { (file : Bytes) → TellsFile fault file → IsRefusal (LinesFaultAt file) result }
+{
+    match fault {
+        BuildFault::At(at) => in_file(at.line, at.fault.into()),
+        BuildFault::Memory(error) => Fault::Memory(error),
+    }
+}
+
+/// What is told of cross-references that are not resolved.
+fn told_of_links(fault: LinkFault) -> Fault
+    ensures { (document : Trees) → (fault ≡ LinkFault.Memory alloc_error) ⊎ HasLinkFault document fault
+        → IsRefusal (XrefFaultAt document) result }
+{
+    match fault {
+        LinkFault::Duplicate(line) => in_file(line, FileFault::DuplicateXref),
+        LinkFault::Dangling(line) => in_file(line, FileFault::DanglingPointer),
+        LinkFault::Memory(error) => Fault::Memory(error),
     }
 }
 

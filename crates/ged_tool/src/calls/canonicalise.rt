@@ -5,10 +5,11 @@ ghost use Rattle.ged_tool.specs.Accepted.{FileFaultAt, IsRefusal};
 ghost use Rattle.ged_tool.specs.Canon.{IsCanon};
 ghost use Rattle.ged_tool.specs.Headline.{Headline, AgreesWithFirst};
 
-use crate::calls::accept::accept_as;
+use crate::calls::spell::bytes_in_form;
+use crate::comparison::Form;
 use crate::faults::Fault;
 use crate::settings::Settings;
-use ged_canon::{Edition, canonical_bytes_in};
+use ged_canon::Edition;
 use ged_schema::Profile;
 use std::alloc::Global;
 
@@ -40,12 +41,5 @@ pub fn canonicalise_as(alloc: Global, settings: Settings, bytes: &[u8]) -> Resul
         → IfOk result (λ text. AgreesWithFirst (profile_of settings) bytes.now text.items) }
     ensures refused { IfErr result (IsRefusal (FileFaultAt (profile_of settings) bytes.now)) }
 {
-    let accepted = match accept_as(alloc, settings, bytes) {
-        Ok(accepted) => accepted,
-        Err(fault) => return Err(fault),
-    };
-    match canonical_bytes_in(alloc, settings.edition, accepted.flat(), accepted.index()) {
-        Ok(text) => Ok(text),
-        Err(error) => Err(Fault::Memory(error)),
-    }
+    bytes_in_form(alloc, settings, Form::Canonical, bytes)
 }

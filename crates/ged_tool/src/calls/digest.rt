@@ -5,10 +5,11 @@ ghost use Rattle.ged_tool.specs.Profiles.{profile_of, edition_of};
 ghost use Rattle.ged_tool.specs.Accepted.{FileFaultAt, IsRefusal};
 ghost use Rattle.ged_tool.specs.Digest.{IsDigest};
 
-use crate::calls::canonicalise::canonicalise_as;
+use crate::calls::spell::spell_form;
+use crate::comparison::Form;
 use crate::faults::Fault;
 use crate::settings::Settings;
-use ged_canon::Edition;
+use ged_canon::{Edition, FormReader};
 use ged_schema::Profile;
 use sha2::{Digest, Sha256};
 use std::alloc::Global;
@@ -22,25 +23,34 @@ pub fn digest(alloc: Global, bytes: &[u8]) -> Result<[u8; 32], Fault>
 }
 
 /// The digest of a file that is accepted under the profile of the settings, or why it is not accepted: the 32 bytes of the
-/// SHA-256 of what [`canonicalise_as`] answers.
+/// SHA-256 of what [`canonicalise_as`](crate::canonicalise_as) answers.
 ///
 /// Two accepted files that are the same have one digest. Files that differ have different ones, unless somebody has found
 /// two texts of one SHA-256; no proof rests on that.
 ///
-/// Answers InFile with the file's first fault, or Memory where no memory was found, and no other fault. Grows, as
-/// [`canonicalise_as`] does (FIPS 180-4; FamilySearch GEDCOM 7.0, "Lines", "Structures", "Date" and "Integer").
+/// Answers InFile with the file's first fault, or Memory where no memory was found, and no other fault. Grows, but
+/// the canonical bytes never stand in memory as a whole (FIPS 180-4; FamilySearch GEDCOM 7.0, "Lines", "Structures", "Date" and "Integer").
 pub fn digest_as(alloc: Global, settings: Settings, bytes: &[u8]) -> Result<[u8; 32], Fault>
     ensures digest { IfOk result (λ digest. IsDigest (profile_of settings) (edition_of settings) bytes.now digest) }
     ensures refused { IfErr result (IsRefusal (FileFaultAt (profile_of settings) bytes.now)) }
 {
-    match canonicalise_as(alloc, settings, bytes) {
-        Ok(text) => Ok(sha256_of(&text)),
+    match spell_form(alloc, settings, Form::Canonical, bytes) {
+        Ok(form) => Ok(sha256_of(form.reader())),
         Err(fault) => Err(fault),
     }
 }
 
-fn sha256_of(text: &[u8]) -> [u8; 32]
-    ensures { result ≡ sha256 text.now }
+/// The SHA-256 of all that a reader has.
+fn sha256_of(mut reader: FormReader<'_>) -> [u8; 32]
+    ensures { result ≡ sha256 reader.entry }
 {
-    Sha256::digest(text)
+    let mut hasher = Sha256::new();
+    let mut buffer = [0u8; 4096];
+    loop {
+        let count = reader.fill(&mut buffer);
+        if count == 0 {
+            return hasher.finalize();
+        }
+        hasher.update(&buffer[..count]);
+    }
 }

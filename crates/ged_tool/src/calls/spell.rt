@@ -1,12 +1,11 @@
 // The form of a file in slices of it.
-ghost use Rattle.std.specs.Prelude.{◌≡◌, IfOk, IfErr, MatchResult};
+ghost use Rattle.std.specs.Prelude.{◌≡◌, IfOk, IfErr, MatchResult, alloc_error};
 ghost use Rattle.ged_tool.specs.Profiles.{profile_of, edition_of};
 ghost use Rattle.ged_tool.specs.Accepted.{FileFaultAt, IsRefusal};
-ghost use Rattle.ged_tool.specs.Canon.{IsCanon};
 ghost use Rattle.ged_tool.specs.Same.{IsInForm};
-ghost use Rattle.ged_tool.specs.Tidied.{IsTidied};
+ghost use Rattle.ged_tool.specs.inner.Accepting.{IsFormOf};
 
-use crate::calls::accept::accept_as;
+use crate::calls::accept::{Accepted, accept_as};
 use crate::comparison::Form;
 use crate::faults::Fault;
 use crate::settings::Settings;
@@ -26,55 +25,53 @@ pub(crate) fn spell_form(
         (λ text. IsInForm form (profile_of settings) (edition_of settings) bytes.now text)
         (IsRefusal (FileFaultAt (profile_of settings) bytes.now)) }
 {
-    match form {
-        Form::Canonical => spell_canonical(alloc, settings, bytes),
-        Form::Tidy => spell_tidy(alloc, settings, bytes),
+    match accept_as(alloc, settings, bytes) {
+        Ok(accepted) => {
+            spell_accepted(alloc, settings.edition, form, &accepted, behind_mark(bytes))
+        }
+        Err(fault) => Err(fault),
     }
 }
 
-fn spell_canonical(
+/// An accepted document in a form, of which slices of `file` are not copied.
+fn spell_accepted<'f>(
+    alloc: Global,
+    edition: Edition,
+    form: Form,
+    accepted: &Accepted<'_>,
+    file: &'f [u8],
+) -> Result<SpelledForm<'f>, Fault>
+    ensures form { IfOk result (IsFormOf form edition accepted.now) }
+    ensures memory { IfErr result (λ fault. fault ≡ Fault.Memory alloc_error) }
+{
+    let (flat, index) = (accepted.flat(), accepted.index());
+    let spelled = match form {
+        Form::Canonical => spell_canonical_in(alloc, edition, flat, index, file),
+        Form::Tidy => spell_tidy_in(alloc, edition, flat, index, file),
+    };
+    match spelled {
+        Ok(spelled) => Ok(spelled),
+        Err(error) => Err(Fault::Memory(error)),
+    }
+}
+
+/// The same as [`spell_form`] answers, in one vector.
+pub(crate) fn bytes_in_form(
     alloc: Global,
     settings: Settings,
+    form: Form,
     bytes: &[u8],
-) -> Result<SpelledForm<'_>, Fault>
-    ensures canon { IfOk result (λ text. IsCanon (profile_of settings) (edition_of settings) bytes.now text) }
-    ensures refused { IfErr result (IsRefusal (FileFaultAt (profile_of settings) bytes.now)) }
+) -> Result<Vec<u8>, Fault>
+    ensures { MatchResult result
+        (λ text. IsInForm form (profile_of settings) (edition_of settings) bytes.now text.items)
+        (IsRefusal (FileFaultAt (profile_of settings) bytes.now)) }
 {
-    let accepted = match accept_as(alloc, settings, bytes) {
-        Ok(accepted) => accepted,
-        Err(fault) => return Err(fault),
-    };
-    let file = behind_mark(bytes);
-    match spell_canonical_in(
-        alloc,
-        settings.edition,
-        accepted.flat(),
-        accepted.index(),
-        file,
-    ) {
-        Ok(text) => Ok(text),
-        Err(error) => Err(Fault::Memory(error)),
-    }
-}
-
-fn spell_tidy(alloc: Global, settings: Settings, bytes: &[u8]) -> Result<SpelledForm<'_>, Fault>
-    ensures tidied { IfOk result (λ text. IsTidied (profile_of settings) (edition_of settings) bytes.now text) }
-    ensures refused { IfErr result (IsRefusal (FileFaultAt (profile_of settings) bytes.now)) }
-{
-    let accepted = match accept_as(alloc, settings, bytes) {
-        Ok(accepted) => accepted,
-        Err(fault) => return Err(fault),
-    };
-    let file = behind_mark(bytes);
-    match spell_tidy_in(
-        alloc,
-        settings.edition,
-        accepted.flat(),
-        accepted.index(),
-        file,
-    ) {
-        Ok(text) => Ok(text),
-        Err(error) => Err(Fault::Memory(error)),
+    match spell_form(alloc, settings, form, bytes) {
+        Ok(spelled) => match spelled.into_bytes(alloc) {
+            Ok(text) => Ok(text),
+            Err(error) => Err(Fault::Memory(error)),
+        },
+        Err(fault) => Err(fault),
     }
 }
 

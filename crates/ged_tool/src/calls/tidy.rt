@@ -4,10 +4,11 @@ ghost use Rattle.ged_tool.specs.Profiles.{profile_of, edition_of};
 ghost use Rattle.ged_tool.specs.Accepted.{FileFaultAt, IsRefusal};
 ghost use Rattle.ged_tool.specs.Tidied.{IsTidied, TidyHeadline};
 
-use crate::calls::accept::accept_as;
+use crate::calls::spell::bytes_in_form;
+use crate::comparison::Form;
 use crate::faults::Fault;
 use crate::settings::Settings;
-use ged_canon::{Edition, tidy_bytes_in};
+use ged_canon::Edition;
 use ged_schema::Profile;
 use std::alloc::Global;
 
@@ -33,12 +34,5 @@ pub fn tidy_as(alloc: Global, settings: Settings, bytes: &[u8]) -> Result<Vec<u8
     ensures headline { IfOk result (λ text. TidyHeadline (profile_of settings) (edition_of settings) bytes.now text.items) }
     ensures refused { IfErr result (IsRefusal (FileFaultAt (profile_of settings) bytes.now)) }
 {
-    let accepted = match accept_as(alloc, settings, bytes) {
-        Ok(accepted) => accepted,
-        Err(fault) => return Err(fault),
-    };
-    match tidy_bytes_in(alloc, settings.edition, accepted.flat(), accepted.index()) {
-        Ok(text) => Ok(text),
-        Err(error) => Err(Fault::Memory(error)),
-    }
+    bytes_in_form(alloc, settings, Form::Tidy, bytes)
 }

@@ -1,5 +1,5 @@
 // What a command answers to the bytes of a file.
-ghost use Rattle.std.specs.Prelude.{MatchResult};
+ghost use Rattle.std.specs.Prelude.{◌≡◌, IfErr, IfOk, MatchResult, Result, alloc_error};
 ghost use Rattle.ged_tool.specs.Profiles.{profile_of, edition_of};
 ghost use Rattle.ged_tool.specs.Accepted.{IsRefusal};
 ghost use Rattle.ged_tool.specs.Answers.{Answers, FaultAt};
@@ -14,7 +14,7 @@ use crate::settings::Settings;
 use ged_canon::Edition;
 use ged_line::{RespellFault, respell_lines};
 use ged_schema::Profile;
-use std::alloc::Global;
+use std::alloc::{AllocError, Global};
 
 /// What to answer about one file.
 #[derive(Clone, Copy, PartialEq, Eq, Debug)]
@@ -72,13 +72,9 @@ fn answer_check(alloc: Global, settings: Settings, bytes: &[u8]) -> Result<Vec<u
     ensures { MatchResult result (λ text. Answers (profile_of settings) (edition_of settings) Command.Check bytes.now text.items)
         (IsRefusal (FaultAt (profile_of settings) Command.Check bytes.now)) }
 {
-    let accepted = match accept_as(alloc, settings, bytes) {
-        Ok(accepted) => accepted,
-        Err(fault) => return Err(fault),
-    };
-    match verdict(alloc, &accepted) {
-        Ok(text) => Ok(text),
-        Err(error) => Err(Fault::Memory(error)),
+    match accept_as(alloc, settings, bytes) {
+        Ok(accepted) => text_or_memory(verdict(alloc, &accepted)),
+        Err(fault) => Err(fault),
     }
 }
 
@@ -86,11 +82,18 @@ fn answer_show(alloc: Global, settings: Settings, bytes: &[u8]) -> Result<Vec<u8
     ensures { MatchResult result (λ text. Answers (profile_of settings) (edition_of settings) Command.Show bytes.now text.items)
         (IsRefusal (FaultAt (profile_of settings) Command.Show bytes.now)) }
 {
-    let accepted = match accept_as(alloc, settings, bytes) {
-        Ok(accepted) => accepted,
-        Err(fault) => return Err(fault),
-    };
-    match show_text(alloc, &accepted) {
+    match accept_as(alloc, settings, bytes) {
+        Ok(accepted) => text_or_memory(show_text(alloc, &accepted)),
+        Err(fault) => Err(fault),
+    }
+}
+
+/// A text that was made, or that there was no memory for it.
+fn text_or_memory(made: Result<Vec<u8>, AllocError>) -> Result<Vec<u8>, Fault>
+    ensures made { IfOk result (λ text. made ≡ Result.Ok text) }
+    ensures memory { IfErr result (λ fault. fault ≡ Fault.Memory alloc_error) }
+{
+    match made {
         Ok(text) => Ok(text),
         Err(error) => Err(Fault::Memory(error)),
     }
