@@ -2,10 +2,10 @@
 use Rattle.ged_line.specs.Bytes.{Bytes}
 use Rattle.ged_schema.specs.declared.profile.Profile.{Profile}
 use Rattle.ged_tool.specs.Same.{IsSameRefusal}
-use Rattle.ged_tool.specs.declared.faults.Which.{Which}
-use Rattle.ged_tool.specs.declared.faults.Which.TheVariants.{First, Second}
-use Rattle.ged_tool.specs.declared.faults.Fault.{Fault}
-use Rattle.ged_tool.specs.declared.faults.Fault.TheVariants.{InFile, TooLong, ReadFailed, WriteFailed, Memory}
+use Rattle.ged_faults.specs.declared.faults.Which.{Which}
+use Rattle.ged_faults.specs.declared.faults.Which.TheVariants.{First, Second}
+use Rattle.ged_faults.specs.declared.faults.Fault.{Fault}
+use Rattle.ged_faults.specs.declared.faults.Fault.TheVariants.{InFile, TooLong, ReadFailed, WriteFailed, Memory}
 use Rattle.ged_c.specs.Comparisons.{AreWithin, TellsOfTwo}
 
 pub tells : (profile : Profile) (first second : Bytes) (which : Which) (fault : Fault) → AreWithin first second → IsSameRefusal profile first second which fault → TellsOfTwo profile first second which fault

@@ -5,10 +5,10 @@ use Rattle.ged_schema.specs.declared.profile.Profile.{Profile}
 use Rattle.ged_canon.specs.declared.edition.Edition.{Edition}
 use Rattle.ged_tool.specs.Accepted.{IsRefusal}
 use Rattle.ged_tool.specs.Answers.{Answers, FaultAt}
-use Rattle.ged_tool.specs.Faults.{fault_number}
+use Rattle.ged_faults.specs.Faults.{fault_number}
 use Rattle.ged_tool.specs.declared.runs.answer.Command.{Command}
-use Rattle.ged_tool.specs.declared.faults.Fault.{Fault}
-use Rattle.ged_tool.specs.declared.faults.Fault.TheVariants.{InFile, TooLong, ReadFailed, WriteFailed, Memory}
+use Rattle.ged_faults.specs.declared.faults.Fault.{Fault}
+use Rattle.ged_faults.specs.declared.faults.Fault.TheVariants.{InFile, TooLong, ReadFailed, WriteFailed, Memory}
 use Rattle.ged_c.specs.Settings.{settings_number, last_settings, limit}
 use Rattle.ged_c.specs.declared.answering.Ended.{Ended}
 use Rattle.ged_c.specs.declared.answering.Ended.TheVariants.{Answered, NoRoom, Refused, BadSettings, NotFound}

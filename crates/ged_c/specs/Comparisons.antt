@@ -4,11 +4,11 @@ use Rattle.ged_line.specs.Bytes.{Bytes}
 use Rattle.ged_schema.specs.declared.profile.Profile.{Profile}
 use Rattle.ged_canon.specs.declared.edition.Edition.{Edition}
 use Rattle.ged_tool.specs.Same.{AreCompared, IsSameRefusal}
-use Rattle.ged_tool.specs.Faults.{fault_number}
-use Rattle.ged_tool.specs.declared.faults.Which.{Which}
-use Rattle.ged_tool.specs.declared.faults.Which.TheVariants.{First, Second}
-use Rattle.ged_tool.specs.declared.faults.Fault.{Fault}
-use Rattle.ged_tool.specs.declared.faults.Fault.TheVariants.{TooLong}
+use Rattle.ged_faults.specs.Faults.{fault_number}
+use Rattle.ged_faults.specs.declared.faults.Which.{Which}
+use Rattle.ged_faults.specs.declared.faults.Which.TheVariants.{First, Second}
+use Rattle.ged_faults.specs.declared.faults.Fault.{Fault}
+use Rattle.ged_faults.specs.declared.faults.Fault.TheVariants.{TooLong}
 use Rattle.ged_c.specs.Settings.{settings_number, last_settings, limit}
 use Rattle.ged_c.specs.Calls.{line_of_fault}
 use Rattle.ged_c.specs.declared.comparing.Compared.{Compared}

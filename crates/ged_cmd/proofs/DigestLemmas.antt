@@ -6,10 +6,10 @@ use Rattle.std.proofs.lemmas.List.Sums.{count_by_more_no, count_by_more_yes, sum
 use Rattle.clap.specs.Words.{Text}
 use Rattle.ged_tool.specs.declared.Profile.{Profile}
 use Rattle.ged_tool.specs.declared.Edition.{Edition}
-use Rattle.ged_tool.specs.Faults.{status_of}
-use Rattle.ged_tool.specs.declared.faults.Fault.TheVariants.{InFile, TooLong, ReadFailed, WriteFailed, Memory}
-use Rattle.ged_tool.specs.declared.faults.Outcome.{Outcome}
-use Rattle.ged_tool.specs.declared.faults.Outcome.TheVariants.{Done, Different, Failed}
+use Rattle.ged_faults.specs.Faults.{status_of}
+use Rattle.ged_faults.specs.declared.faults.Fault.TheVariants.{InFile, TooLong, ReadFailed, WriteFailed, Memory}
+use Rattle.ged_faults.specs.declared.faults.Outcome.{Outcome}
+use Rattle.ged_faults.specs.declared.faults.Outcome.TheVariants.{Done, Different, Failed}
 use Rattle.ged_cmd.specs.Tasks.{is_input}
 use Rattle.ged_cmd.specs.Program.{AreDigested, and_file, and_input, and_nothing, Files, IsDigested, IsNotOpened, IsReadOn, IsWrittenOn, Reader, SomeFile, Writer, graver, read_in_all, written_in_all}
 use Rattle.ged_cmd.specs.inner.Tasks.{names_of}

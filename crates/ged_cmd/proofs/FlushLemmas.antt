@@ -9,13 +9,13 @@ use Rattle.ged_tool.specs.Answers.{Answers, FaultAt}
 use Rattle.ged_tool.specs.Same.{AreComparedBy, relation_of}
 use Rattle.ged_tool.specs.SameRun.{IsAllOf, same_line}
 use Rattle.ged_tool.specs.declared.comparison.Form.{Form}
-use Rattle.ged_tool.specs.declared.faults.FileFault.{FileFault}
-use Rattle.ged_tool.specs.declared.faults.Which.{Which}
-use Rattle.ged_tool.specs.declared.faults.Which.TheVariants.{First, Second}
-use Rattle.ged_tool.specs.declared.faults.Fault.{Fault}
-use Rattle.ged_tool.specs.declared.faults.Fault.TheVariants.{ReadFailed, WriteFailed}
-use Rattle.ged_tool.specs.declared.faults.Outcome.{Outcome}
-use Rattle.ged_tool.specs.declared.faults.Outcome.TheVariants.{Done, Different, Failed}
+use Rattle.ged_faults.specs.declared.faults.FileFault.{FileFault}
+use Rattle.ged_faults.specs.declared.faults.Which.{Which}
+use Rattle.ged_faults.specs.declared.faults.Which.TheVariants.{First, Second}
+use Rattle.ged_faults.specs.declared.faults.Fault.{Fault}
+use Rattle.ged_faults.specs.declared.faults.Fault.TheVariants.{ReadFailed, WriteFailed}
+use Rattle.ged_faults.specs.declared.faults.Outcome.{Outcome}
+use Rattle.ged_faults.specs.declared.faults.Outcome.TheVariants.{Done, Different, Failed}
 use Rattle.ged_tool.specs.declared.runs.answer.Command.{Command}
 use Rattle.ged_cmd.specs.Program.{Files, IsAnswerOf, IsCompared, IsOver, Reader, Writer, limit, reader as reader_of}
 use Rattle.ged_cmd.specs.inner.Flushes.{IsFlushed}

@@ -13,15 +13,15 @@ use Rattle.ged_tool.specs.Run.{IsRunOf}
 use Rattle.ged_tool.specs.Same.{relation_of}
 use Rattle.ged_tool.specs.SameRun.{IsSameRunOf}
 use Rattle.ged_tool.specs.declared.comparison.Form.{Form}
-use Rattle.ged_tool.specs.Faults.{status_of}
+use Rattle.ged_faults.specs.Faults.{status_of}
 use Rattle.ged_tool.specs.declared.runs.answer.Command.{Command}
-use Rattle.ged_tool.specs.declared.faults.FileFault.{FileFault}
-use Rattle.ged_tool.specs.declared.faults.Which.{Which}
-use Rattle.ged_tool.specs.declared.faults.Which.TheVariants.{First, Second}
-use Rattle.ged_tool.specs.declared.faults.Fault.{Fault}
-use Rattle.ged_tool.specs.declared.faults.Fault.TheVariants.{ReadFailed, WriteFailed, Memory}
-use Rattle.ged_tool.specs.declared.faults.Outcome.{Outcome}
-use Rattle.ged_tool.specs.declared.faults.Outcome.TheVariants.{Done, Failed}
+use Rattle.ged_faults.specs.declared.faults.FileFault.{FileFault}
+use Rattle.ged_faults.specs.declared.faults.Which.{Which}
+use Rattle.ged_faults.specs.declared.faults.Which.TheVariants.{First, Second}
+use Rattle.ged_faults.specs.declared.faults.Fault.{Fault}
+use Rattle.ged_faults.specs.declared.faults.Fault.TheVariants.{ReadFailed, WriteFailed, Memory}
+use Rattle.ged_faults.specs.declared.faults.Outcome.{Outcome}
+use Rattle.ged_faults.specs.declared.faults.Outcome.TheVariants.{Done, Failed}
 use Rattle.ged_cmd.specs.declared.drafts.Fate.{Fate}
 use Rattle.ged_cmd.specs.declared.drafts.Fate.TheVariants.{Placed, Dropped}
 use Rattle.ged_cmd.specs.CommandLine.{gedtool}

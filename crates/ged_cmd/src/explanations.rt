@@ -1,7 +1,7 @@
 // Faults and notices in words, behind the line of a fault and the answer of check.
 ghost use Rattle.std.specs.Prelude.{◌≡◌, false};
 ghost use Rattle.std.specs.Io.KnownBytes.{Keeps};
-ghost use Rattle.ged_tool.specs.Faults.{status_of};
+ghost use Rattle.ged_faults.specs.Faults.{status_of};
 
 use crate::tells::finish;
 use crate::words::Request;

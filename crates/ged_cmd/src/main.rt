@@ -7,7 +7,7 @@ ghost use Rattle.std.specs.Option.{option_map_or};
 ghost use Rattle.std.specs.Io.KnownBytes.{Keeps};
 ghost use Rattle.clap.specs.Words.{Row, Text, subcommand_rows_of};
 ghost use Rattle.ged_cmd.specs.Tasks.{explains, is_set, task_of_match};
-ghost use Rattle.ged_tool.specs.Faults.{status_of};
+ghost use Rattle.ged_faults.specs.Faults.{status_of};
 ghost use Rattle.ged_cmd.specs.inner.Obeying.{IsMistaken};
 ghost use Rattle.ged_cmd.specs.inner.Tasks.{IsReadOnce, wanted_task};
 ghost use Rattle.ged_cmd.specs.Program.{IsDone, IsUnread, Performs, reader as reader_of, writer as writer_of};

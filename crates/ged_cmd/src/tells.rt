@@ -3,7 +3,7 @@ ghost use Rattle.std.specs.Prelude.{◌≡◌, ◌≢◌, false, if◌then◌els
 ghost use Rattle.std.specs.Io.KnownBytes.{Keeps};
 ghost use Rattle.clap.specs.Words.{kind_of};
 ghost use Rattle.ged_tool.specs.Devices.{failed_after};
-ghost use Rattle.ged_tool.specs.Faults.{status_of};
+ghost use Rattle.ged_faults.specs.Faults.{status_of};
 ghost use Rattle.ged_cmd.specs.Program.{IsUnwritten, refusal_status, writer as writer_of};
 
 use crate::commands::failed;

@@ -1,10 +1,10 @@
 -- Each fault is found in the table by its number.
 use Rattle.std.proofs.Common.{◌≡◌, ℕ, Some, refl}
-use Rattle.ged_tool.specs.declared.faults.FileFault.{FileFault}
-use Rattle.ged_tool.specs.declared.faults.FileFault.TheVariants.{NotUtf8, BannedCharacter, EmptyLine, BadLevel, LevelTooLarge, BadXref, BadTag, BadValue, LevelJump, XrefNotAllowed, MisplacedCont, NoHeader, SecondHeader, TrailerNotEmpty, AfterTrailer, NoTrailer, DuplicateXref, DanglingPointer, WrongVersion, BadPayload, WrongTarget, TooMany, Missing, OneWayLink, UnlistedTag}
-use Rattle.ged_tool.specs.declared.faults.Fault.{Fault}
-use Rattle.ged_tool.specs.declared.faults.Fault.TheVariants.{InFile, TooLong, ReadFailed, WriteFailed, Memory}
-use Rattle.ged_tool.specs.Faults.{fault_number}
+use Rattle.ged_faults.specs.declared.faults.FileFault.{FileFault}
+use Rattle.ged_faults.specs.declared.faults.FileFault.TheVariants.{NotUtf8, BannedCharacter, EmptyLine, BadLevel, LevelTooLarge, BadXref, BadTag, BadValue, LevelJump, XrefNotAllowed, MisplacedCont, NoHeader, SecondHeader, TrailerNotEmpty, AfterTrailer, NoTrailer, DuplicateXref, DanglingPointer, WrongVersion, BadPayload, WrongTarget, TooMany, Missing, OneWayLink, UnlistedTag}
+use Rattle.ged_faults.specs.declared.faults.Fault.{Fault}
+use Rattle.ged_faults.specs.declared.faults.Fault.TheVariants.{InFile, TooLong, ReadFailed, WriteFailed, Memory}
+use Rattle.ged_faults.specs.Faults.{fault_number}
 use Rattle.ged_explain.specs.Names.{named_fault, named_faults, numbered}
 
 pub numbered_in_file : (line : ℕ) (kind : FileFault) → numbered (fault_number (InFile line kind)) named_faults ≡ Some (named_fault (InFile line kind))

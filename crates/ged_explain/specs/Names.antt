@@ -2,11 +2,11 @@
 use Rattle.std.specs.Prelude.{◌==◌, ℕ, List, [], ◌∷◌, Option, Some, None, codes, if◌then◌else◌}
 use Rattle.std.specs.Str.{bytes_eq}
 use Rattle.ged_line.specs.Bytes.{Bytes}
-use Rattle.ged_tool.specs.declared.faults.FileFault.{FileFault}
-use Rattle.ged_tool.specs.declared.faults.FileFault.TheVariants.{NotUtf8, BannedCharacter, EmptyLine, BadLevel, LevelTooLarge, BadXref, BadTag, BadValue, LevelJump, XrefNotAllowed, MisplacedCont, NoHeader, SecondHeader, TrailerNotEmpty, AfterTrailer, NoTrailer, DuplicateXref, DanglingPointer, WrongVersion, BadPayload, WrongTarget, TooMany, Missing, OneWayLink, UnlistedTag}
-use Rattle.ged_tool.specs.declared.faults.Fault.{Fault}
-use Rattle.ged_tool.specs.declared.faults.Fault.TheVariants.{InFile, TooLong, ReadFailed, WriteFailed, Memory}
-use Rattle.ged_tool.specs.Faults.{fault_number}
+use Rattle.ged_faults.specs.declared.faults.FileFault.{FileFault}
+use Rattle.ged_faults.specs.declared.faults.FileFault.TheVariants.{NotUtf8, BannedCharacter, EmptyLine, BadLevel, LevelTooLarge, BadXref, BadTag, BadValue, LevelJump, XrefNotAllowed, MisplacedCont, NoHeader, SecondHeader, TrailerNotEmpty, AfterTrailer, NoTrailer, DuplicateXref, DanglingPointer, WrongVersion, BadPayload, WrongTarget, TooMany, Missing, OneWayLink, UnlistedTag}
+use Rattle.ged_faults.specs.declared.faults.Fault.{Fault}
+use Rattle.ged_faults.specs.declared.faults.Fault.TheVariants.{InFile, TooLong, ReadFailed, WriteFailed, Memory}
+use Rattle.ged_faults.specs.Faults.{fault_number}
 use Rattle.ged_explain.specs.declared.faults.Meaning.{Meaning}
 
 -- the name of a fault of the file

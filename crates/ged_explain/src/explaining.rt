@@ -11,8 +11,8 @@ use crate::wrong_lines::say_wrong_line;
 use crate::wrong_links::say_wrong_link;
 use crate::wrong_structures::say_wrong_structure;
 use crate::wrong_tables::say_wrong_by_tables;
+use ged_faults::{Fault, FileFault};
 use ged_link::{Notice, NoticeKind};
-use ged_tool::{Fault, FileFault};
 use itoa::Buffer;
 use std::alloc::{AllocError, Global};
 

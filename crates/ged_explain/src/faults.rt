@@ -4,7 +4,7 @@ ghost use Rattle.std.specs.Option.{option_copied};
 ghost use Rattle.ged_explain.specs.Names.{as_named, named_fault, named_faults, numbered, with_name};
 
 use crate::table::MEANINGS;
-use ged_tool::Fault;
+use ged_faults::Fault;
 
 /// What a fault means. The texts are English, and of one line if nothing else is said.
 #[derive(Clone, Copy, Debug)]

@@ -1,7 +1,7 @@
 // What is wrong with a line by itself: faults 1 to 8.
 use crate::path::NAME_COLUMNS;
 use crate::told::Told;
-use ged_tool::FileFault;
+use ged_faults::FileFault;
 use std::str;
 
 pub(crate) fn say_wrong_line(kind: FileFault, piece: &[u8], told: &mut Told) {

@@ -3,7 +3,7 @@ use crate::kinds::wanted;
 use crate::path::{NAME_COLUMNS, Step, say_identifier};
 use crate::site::Site;
 use crate::told::Told;
-use ged_tool::FileFault;
+use ged_faults::FileFault;
 
 pub(crate) fn say_wrong_link(kind: FileFault, site: &Site<'_>, own: Step<'_>, told: &mut Told) {
     match kind {

@@ -2,7 +2,7 @@
 use crate::path::Step;
 use crate::site::Site;
 use crate::told::Told;
-use ged_tool::FileFault;
+use ged_faults::FileFault;
 
 pub(crate) fn say_wrong_structure(
     kind: FileFault,

@@ -3,9 +3,9 @@ use crate::kinds::wanted;
 use crate::path::{NAME_COLUMNS, Step, say_identifier};
 use crate::site::Site;
 use crate::told::Told;
+use ged_faults::FileFault;
 use ged_line::ValueView;
 use ged_schema::rows;
-use ged_tool::FileFault;
 
 pub(crate) fn say_wrong_by_tables(
     kind: FileFault,

@@ -11,11 +11,11 @@ use Rattle.ged_link.specs.declared.fault.LinkFault.TheVariants.{Duplicate, Dangl
 use Rattle.ged_schema.specs.declared.fault.SchemaAt.{SchemaAt}
 use Rattle.ged_schema.specs.declared.profile.Profile.{Profile}
 use Rattle.ged_schema.specs.Profiles.{CheckedAs, IsFirstFaultAs}
-use Rattle.ged_tool.specs.Faults.{file_fault_of_tree, file_fault_of_tables}
-use Rattle.ged_tool.specs.declared.faults.FileFault.{FileFault}
-use Rattle.ged_tool.specs.declared.faults.FileFault.TheVariants.{DuplicateXref, DanglingPointer}
-use Rattle.ged_tool.specs.declared.faults.Fault.{Fault}
-use Rattle.ged_tool.specs.declared.faults.Fault.TheVariants.{InFile, TooLong, ReadFailed, WriteFailed, Memory}
+use Rattle.ged_faults.specs.Faults.{file_fault_of_tree, file_fault_of_tables}
+use Rattle.ged_faults.specs.declared.faults.FileFault.{FileFault}
+use Rattle.ged_faults.specs.declared.faults.FileFault.TheVariants.{DuplicateXref, DanglingPointer}
+use Rattle.ged_faults.specs.declared.faults.Fault.{Fault}
+use Rattle.ged_faults.specs.declared.faults.Fault.TheVariants.{InFile, TooLong, ReadFailed, WriteFailed, Memory}
 
 -- the file has the document; its cross-references are resolved, and it is as the structure tables and the profile ask
 pub record IsAccepted (profile : Profile) (file : Bytes) (document : Trees) : Type 0 where

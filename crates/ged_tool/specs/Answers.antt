@@ -8,13 +8,13 @@ use Rattle.ged_schema.specs.declared.profile.Profile.{Profile}
 use Rattle.ged_canon.specs.declared.edition.Edition.{Edition}
 use Rattle.ged_tool.specs.Accepted.{IsAccepted, FileFaultAt}
 use Rattle.ged_tool.specs.Canon.{IsCanon}
-use Rattle.ged_tool.specs.Faults.{file_fault_of}
+use Rattle.ged_faults.specs.Faults.{file_fault_of}
 use Rattle.ged_tool.specs.Notices.{IsVerdict}
 use Rattle.ged_tool.specs.Shown.{IsShown}
 use Rattle.ged_tool.specs.Tidied.{IsTidied}
 use Rattle.ged_tool.specs.declared.runs.answer.Command.{Command}
 use Rattle.ged_tool.specs.declared.runs.answer.Command.TheVariants.{Lines, Check, Show, Canon, Tidy}
-use Rattle.ged_tool.specs.declared.faults.FileFault.{FileFault}
+use Rattle.ged_faults.specs.declared.faults.FileFault.{FileFault}
 
 -- The text is the command's answer to a file of these bytes, under the profile and in the edition. Lines judges lines alone,
 -- and only Canon and Tidy ask for the edition.

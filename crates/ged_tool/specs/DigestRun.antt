@@ -8,7 +8,7 @@ use Rattle.ged_canon.specs.declared.edition.Edition.{Edition}
 use Rattle.ged_tool.specs.Accepted.{FileFaultAt}
 use Rattle.ged_tool.specs.Digest.{IsDigest}
 use Rattle.ged_tool.specs.Kept.{IsKeptRunOf}
-use Rattle.ged_tool.specs.declared.faults.Outcome.{Outcome}
+use Rattle.ged_faults.specs.declared.faults.Outcome.{Outcome}
 
 abbrev pub backslash : ℕ
 backslash = 0x5C

@@ -3,10 +3,10 @@ use Rattle.std.specs.Prelude.{◌≡◌, ◌≢◌, ℕ, ◌++◌, Option, Some}
 use Rattle.ged_line.specs.Bytes.{Bytes}
 use Rattle.ged_line.specs.WholeLines.{EndsLine, IsWholeFront}
 use Rattle.ged_schema.specs.declared.profile.Profile.{Profile}
-use Rattle.ged_tool.specs.declared.faults.FileFault.{FileFault}
-use Rattle.ged_tool.specs.declared.faults.FileFault.TheVariants.{NoTrailer}
-use Rattle.ged_tool.specs.declared.faults.Fault.{Fault}
-use Rattle.ged_tool.specs.declared.faults.Fault.TheVariants.{InFile, TooLong, ReadFailed, WriteFailed, Memory}
+use Rattle.ged_faults.specs.declared.faults.FileFault.{FileFault}
+use Rattle.ged_faults.specs.declared.faults.FileFault.TheVariants.{NoTrailer}
+use Rattle.ged_faults.specs.declared.faults.Fault.{Fault}
+use Rattle.ged_faults.specs.declared.faults.Fault.TheVariants.{InFile, TooLong, ReadFailed, WriteFailed, Memory}
 use Rattle.ged_tool.specs.Accepted.{LinesFaultAt, FileFaultAt}
 
 -- what contracts see of a feed: the bytes that it has taken in, and the fault that it has told, if any

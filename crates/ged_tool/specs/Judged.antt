@@ -7,8 +7,8 @@ use Rattle.ged_line.specs.WholeLines.{IsWholeFront}
 use Rattle.ged_tree.specs.TreeFaults.{Pass}
 use Rattle.ged_tree.specs.Judging.{StandsFor}
 use Rattle.ged_tool.specs.declared.calls.judged_lines.Judged.{Judged}
-use Rattle.ged_tool.specs.declared.faults.Fault.{Fault}
-use Rattle.ged_tool.specs.declared.faults.Fault.TheVariants.{InFile, TooLong, ReadFailed, WriteFailed, Memory}
+use Rattle.ged_faults.specs.declared.faults.Fault.{Fault}
+use Rattle.ged_faults.specs.declared.faults.Fault.TheVariants.{InFile, TooLong, ReadFailed, WriteFailed, Memory}
 use Rattle.ged_tool.specs.Fed.{WholeLinesFaultAt}
 
 -- the bytes spell lines at which no fault stands, the judge stands for these, and they are counted

@@ -1,5 +1,4 @@
 pub mod Devices
-pub mod Faults
 pub mod Answers
 pub mod Run
 pub mod RunDevices

@@ -11,9 +11,9 @@ use Rattle.ged_tool.specs.Canon.{IsCanon}
 use Rattle.ged_tool.specs.Tidied.{IsTidied}
 use Rattle.ged_tool.specs.declared.comparison.Form.{Form}
 use Rattle.ged_tool.specs.declared.comparison.Form.TheVariants.{Canonical, Tidy}
-use Rattle.ged_tool.specs.declared.faults.Which.{Which}
-use Rattle.ged_tool.specs.declared.faults.Which.TheVariants.{First, Second}
-use Rattle.ged_tool.specs.declared.faults.Fault.{Fault}
+use Rattle.ged_faults.specs.declared.faults.Which.{Which}
+use Rattle.ged_faults.specs.declared.faults.Which.TheVariants.{First, Second}
+use Rattle.ged_faults.specs.declared.faults.Fault.{Fault}
 
 -- both files are accepted, and they are the same exactly where one's document becomes the other's in this way
 pub record AreComparedBy (profile : Profile) (Becomes : Trees → Trees → Type 0) (first second : Bytes) (same : Bool) : Type 0 where

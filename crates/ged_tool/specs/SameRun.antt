@@ -9,12 +9,12 @@ use Rattle.ged_canon.specs.declared.edition.Edition.{Edition}
 use Rattle.ged_canon.specs.Steps.{Equivalent}
 use Rattle.ged_tool.specs.Run.{IsWhole}
 use Rattle.ged_tool.specs.Same.{AreComparedBy, IsSameRefusal}
-use Rattle.ged_tool.specs.declared.faults.Which.{Which}
-use Rattle.ged_tool.specs.declared.faults.Which.TheVariants.{First, Second}
-use Rattle.ged_tool.specs.declared.faults.Fault.{Fault}
-use Rattle.ged_tool.specs.declared.faults.Fault.TheVariants.{InFile, TooLong, ReadFailed, WriteFailed, Memory}
-use Rattle.ged_tool.specs.declared.faults.Outcome.{Outcome}
-use Rattle.ged_tool.specs.declared.faults.Outcome.TheVariants.{Done, Different, Failed}
+use Rattle.ged_faults.specs.declared.faults.Which.{Which}
+use Rattle.ged_faults.specs.declared.faults.Which.TheVariants.{First, Second}
+use Rattle.ged_faults.specs.declared.faults.Fault.{Fault}
+use Rattle.ged_faults.specs.declared.faults.Fault.TheVariants.{InFile, TooLong, ReadFailed, WriteFailed, Memory}
+use Rattle.ged_faults.specs.declared.faults.Outcome.{Outcome}
+use Rattle.ged_faults.specs.declared.faults.Outcome.TheVariants.{Done, Different, Failed}
 
 -- what came of a file, and what its reader has left
 pub record Came : Type 0 where

@@ -3,7 +3,6 @@
 
 mod calls;
 mod comparison;
-mod faults;
 mod laws;
 mod runs;
 mod settings;
@@ -17,8 +16,8 @@ pub use calls::same::{SameFault, same, same_as, same_by};
 pub use calls::show::show_text;
 pub use calls::tidy::{tidy, tidy_as};
 pub use comparison::{Comparison, Form};
-pub use faults::{Fault, FileFault, Outcome, Which};
 pub use ged_canon::Edition;
+pub use ged_faults::{Fault, FileFault, Outcome, Which};
 pub use ged_schema::Profile;
 pub use laws::{
     accepted_is_faultless, accepted_or_faulty, headline, lines_from_one, lines_keep_the_file,

@@ -4,6 +4,7 @@
 
 mod canonical;
 mod explanations;
+mod faults;
 mod files;
 mod lines;
 mod links;
@@ -13,6 +14,7 @@ mod values;
 
 pub use canonical::canonical_if_checked;
 pub use explanations::say_fault;
+pub use faults::told_number;
 pub use files::strict_canon;
 pub use lines::{count_lines, respell};
 pub use links::first_link;

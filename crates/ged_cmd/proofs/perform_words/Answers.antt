@@ -1,7 +1,7 @@
 use Rattle.std.proofs.Common.{◌≡◌, ℕ, Bool, List, [], Option, Some, None, MatchOption, ap, sym, inl, inr, map, option_and_then, string_bytes}
 use Rattle.clap.specs.Words.{Text, fault_of}
-use Rattle.ged_tool.specs.Faults.{status_of}
-use Rattle.ged_tool.specs.declared.faults.Outcome.{Outcome}
+use Rattle.ged_faults.specs.Faults.{status_of}
+use Rattle.ged_faults.specs.declared.faults.Outcome.{Outcome}
 use Rattle.ged_cmd.specs.CommandLine.{gedtool}
 use Rattle.ged_cmd.specs.Program.{Files, IsDone, Performs, Reader, Writer}
 use Rattle.ged_cmd.specs.Tasks.{Task, asked, task_of_match}

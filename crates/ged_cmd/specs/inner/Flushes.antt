@@ -1,9 +1,9 @@
 -- Nothing here need be believed: only private contracts and proofs cite it.
 use Rattle.std.specs.Prelude.{◌≡◌, ◌⊎◌, Bool, true, None}
 use Rattle.std.specs.Io.KnownBytes.{Keeps}
-use Rattle.ged_tool.specs.declared.faults.Fault.TheVariants.{WriteFailed}
-use Rattle.ged_tool.specs.declared.faults.Outcome.{Outcome}
-use Rattle.ged_tool.specs.declared.faults.Outcome.TheVariants.{Done, Different, Failed}
+use Rattle.ged_faults.specs.declared.faults.Fault.TheVariants.{WriteFailed}
+use Rattle.ged_faults.specs.declared.faults.Outcome.{Outcome}
+use Rattle.ged_faults.specs.declared.faults.Outcome.TheVariants.{Done, Different, Failed}
 use Rattle.ged_cmd.specs.Program.{Writer}
 
 -- the bytes that the writer holds, if it tells them, stay, and so does whether it has failed

@@ -15,12 +15,12 @@ use Rattle.ged_tree.specs.declared.fault.TreeFault.{TreeFault}
 use Rattle.ged_tree.specs.declared.fault.TreeFault.TheVariants as of_tree
 use Rattle.ged_tree.proofs.CallerLemmas.{first_fault_stays, only_trailer}
 use Rattle.ged_schema.specs.declared.profile.Profile.{Profile}
-use Rattle.ged_tool.specs.declared.faults.FileFault.{FileFault}
-use Rattle.ged_tool.specs.declared.faults.FileFault.TheVariants.{NoTrailer}
-use Rattle.ged_tool.specs.declared.faults.Fault.{Fault}
-use Rattle.ged_tool.specs.declared.faults.Fault.TheVariants.{InFile, TooLong, ReadFailed, WriteFailed, Memory}
+use Rattle.ged_faults.specs.declared.faults.FileFault.{FileFault}
+use Rattle.ged_faults.specs.declared.faults.FileFault.TheVariants.{NoTrailer}
+use Rattle.ged_faults.specs.declared.faults.Fault.{Fault}
+use Rattle.ged_faults.specs.declared.faults.Fault.TheVariants.{InFile, TooLong, ReadFailed, WriteFailed, Memory}
 use Rattle.ged_tool.specs.declared.calls.judged_lines.Judged.{Judged}
-use Rattle.ged_tool.specs.Faults.{file_fault_of_tree}
+use Rattle.ged_faults.specs.Faults.{file_fault_of_tree}
 use Rattle.ged_tool.specs.Accepted.{FileFaultAt, IsRefusal}
 use Rattle.ged_tool.specs.Fed.{WholeLinesFaultAt}
 use Rattle.ged_tool.specs.Judged.{HasJudged, IsReady, IsToldOf}

@@ -12,8 +12,8 @@ use Rattle.ged_link.specs.declared.fault.LinkFault.TheVariants.{Duplicate, Dangl
 use Rattle.ged_link.proofs.CallerLemmas.{resolved_is_faultless, one_link_fault}
 use Rattle.ged_schema.specs.declared.fault.SchemaAt.{SchemaAt}
 use Rattle.ged_schema.proofs.CallerLemmas.{one_first_fault, no_fault_of_checked}
-use Rattle.ged_tool.specs.declared.faults.FileFault.{FileFault}
-use Rattle.ged_tool.specs.Faults.{file_fault_of_tree, file_fault_of_tables}
+use Rattle.ged_faults.specs.declared.faults.FileFault.{FileFault}
+use Rattle.ged_faults.specs.Faults.{file_fault_of_tree, file_fault_of_tables}
 use Rattle.ged_tool.specs.Accepted.{XrefFaultAt}
 use Rattle.ged_tool.specs.Laws.{OneAccepted, AcceptedIsFaultless, OneFileFault}
 

@@ -1,9 +1,9 @@
 -- Answers and refusals that say more than is asked.
 use Rattle.std.proofs.Common.{ℕ}
 use Rattle.std.specs.Prelude.{Result, Ok, Err, IfOk, MatchResult}
-use Rattle.ged_tool.specs.declared.faults.FileFault.{FileFault}
-use Rattle.ged_tool.specs.declared.faults.Fault.{Fault}
-use Rattle.ged_tool.specs.declared.faults.Fault.TheVariants.{InFile, TooLong, ReadFailed, WriteFailed, Memory}
+use Rattle.ged_faults.specs.declared.faults.FileFault.{FileFault}
+use Rattle.ged_faults.specs.declared.faults.Fault.{Fault}
+use Rattle.ged_faults.specs.declared.faults.Fault.TheVariants.{InFile, TooLong, ReadFailed, WriteFailed, Memory}
 use Rattle.ged_tool.specs.Accepted.{IsRefusal}
 
 -- a fault that stands in one way also stands in another

@@ -10,8 +10,8 @@ use Rattle.ged_link.specs.LinkFaults.{HasLinkFault}
 use Rattle.ged_link.proofs.CallerLemmas.{resolved_or_fault}
 use Rattle.ged_schema.specs.declared.profile.Profile.{Profile}
 use Rattle.ged_schema.proofs.CallerLemmas.{checked_or_fault}
-use Rattle.ged_tool.specs.declared.faults.FileFault.TheVariants.{DuplicateXref, DanglingPointer}
-use Rattle.ged_tool.specs.Faults.{file_fault_of_tree, file_fault_of_tables}
+use Rattle.ged_faults.specs.declared.faults.FileFault.TheVariants.{DuplicateXref, DanglingPointer}
+use Rattle.ged_faults.specs.Faults.{file_fault_of_tree, file_fault_of_tables}
 use Rattle.ged_tool.specs.Laws.{IsAcceptedOrFaulty}
 
 link_fault : (profile : Profile) (file : Bytes) (d : Trees) → HasFile d file → (fault : LinkFault) → HasLinkFault d fault → IsAcceptedOrFaulty profile file

@@ -10,7 +10,7 @@ use Rattle.ged_schema.specs.declared.fault.SchemaAt.{SchemaAt}
 use Rattle.ged_schema.specs.declared.profile.Profile.{Profile}
 use Rattle.ged_schema.specs.declared.profile.Profile.TheVariants.{Lenient, Strict}
 use Rattle.ged_schema.specs.Profiles.{IsFirstFaultAs}
-use Rattle.ged_tool.specs.declared.faults.FileFault.{FileFault}
+use Rattle.ged_faults.specs.declared.faults.FileFault.{FileFault}
 use Rattle.ged_tool.specs.Accepted.{XrefFaultAt}
 use Rattle.ged_tool.specs.Laws.{LinesFromOne}
 

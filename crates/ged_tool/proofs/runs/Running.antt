@@ -6,13 +6,13 @@ use Rattle.std.proofs.KnownBytes.{Consumes-nil, Appends-nil}
 use Rattle.ged_line.specs.Bytes.{Bytes}
 use Rattle.ged_tree.specs.Trees.{Trees}
 use Rattle.ged_schema.specs.declared.profile.Profile.{Profile}
-use Rattle.ged_tool.specs.declared.faults.Which.{Which}
-use Rattle.ged_tool.specs.declared.faults.Which.TheVariants.{First, Second}
-use Rattle.ged_tool.specs.declared.faults.FileFault.{FileFault}
-use Rattle.ged_tool.specs.declared.faults.Fault.{Fault}
-use Rattle.ged_tool.specs.declared.faults.Fault.TheVariants.{InFile, TooLong, ReadFailed, WriteFailed, Memory}
-use Rattle.ged_tool.specs.declared.faults.Outcome.{Outcome}
-use Rattle.ged_tool.specs.declared.faults.Outcome.TheVariants.{Done, Failed}
+use Rattle.ged_faults.specs.declared.faults.Which.{Which}
+use Rattle.ged_faults.specs.declared.faults.Which.TheVariants.{First, Second}
+use Rattle.ged_faults.specs.declared.faults.FileFault.{FileFault}
+use Rattle.ged_faults.specs.declared.faults.Fault.{Fault}
+use Rattle.ged_faults.specs.declared.faults.Fault.TheVariants.{InFile, TooLong, ReadFailed, WriteFailed, Memory}
+use Rattle.ged_faults.specs.declared.faults.Outcome.{Outcome}
+use Rattle.ged_faults.specs.declared.faults.Outcome.TheVariants.{Done, Failed}
 use Rattle.ged_tool.specs.Accepted.{IsRefusal}
 use Rattle.ged_tool.specs.Run.{IsWhole, Tells}
 use Rattle.ged_tool.specs.inner.Steps.{StopsReading, StopsAnswering, of_which}

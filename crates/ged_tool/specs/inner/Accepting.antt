@@ -13,7 +13,7 @@ use Rattle.ged_canon.specs.declared.edition.Edition.{Edition}
 use Rattle.ged_tool.specs.Accepted.{TablesFaultAt, XrefFaultAt}
 use Rattle.ged_tool.specs.declared.comparison.Form.{Form}
 use Rattle.ged_tool.specs.declared.comparison.Form.TheVariants.{Canonical, Tidy}
-use Rattle.ged_tool.specs.declared.faults.FileFault.{FileFault}
+use Rattle.ged_faults.specs.declared.faults.FileFault.{FileFault}
 
 -- the document is accepted
 abbrev pub IsAcceptable : Profile → Trees → Trees → Type 0

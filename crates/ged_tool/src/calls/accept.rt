@@ -14,8 +14,8 @@ ghost use Rattle.ged_tool.specs.Profiles.{profile_of};
 ghost use Rattle.ged_tool.specs.Accepted.{IsAccepted, FileFaultAt, IsRefusal, LinesFaultAt, TablesFaultAt, XrefFaultAt};
 ghost use Rattle.ged_tool.specs.inner.Accepting.{DocumentFaultAt, IsAcceptable};
 
-use crate::faults::{Fault, FileFault};
 use crate::settings::Settings;
+use ged_faults::{Fault, FileFault};
 use ged_link::{Index, LinkFault, resolve};
 use ged_schema::{Coverage, LineWalk, Profile, check_walked};
 use ged_tree::{BuildFault, Document, Flat, LineReader, document_of, flatten_with};

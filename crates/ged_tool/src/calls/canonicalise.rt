@@ -7,9 +7,9 @@ ghost use Rattle.ged_tool.specs.Headline.{Headline, AgreesWithFirst};
 
 use crate::calls::spell::bytes_in_form;
 use crate::comparison::Form;
-use crate::faults::Fault;
 use crate::settings::Settings;
 use ged_canon::Edition;
+use ged_faults::Fault;
 use ged_schema::Profile;
 use std::alloc::Global;
 

@@ -7,9 +7,9 @@ ghost use Rattle.ged_tool.specs.Digest.{IsDigest};
 
 use crate::calls::spell::spell_form;
 use crate::comparison::Form;
-use crate::faults::Fault;
 use crate::settings::Settings;
 use ged_canon::{Edition, FormReader};
+use ged_faults::Fault;
 use ged_schema::Profile;
 use sha2::{Digest, Sha256};
 use std::alloc::Global;

@@ -7,9 +7,9 @@ ghost use Rattle.ged_tool.specs.Same.{AreCompared, AreComparedBy, IsSameRefusal,
 use crate::calls::accept::accept_as;
 use crate::calls::spell::spell_form;
 use crate::comparison::{Comparison, Form};
-use crate::faults::{Fault, Which};
 use crate::settings::Settings;
 use ged_canon::{Edition, SpelledForm};
+use ged_faults::{Fault, Which};
 use ged_schema::Profile;
 use std::alloc::Global;
 

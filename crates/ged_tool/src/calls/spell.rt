@@ -7,9 +7,9 @@ ghost use Rattle.ged_tool.specs.inner.Accepting.{IsFormOf};
 
 use crate::calls::accept::{Accepted, accept_as};
 use crate::comparison::Form;
-use crate::faults::Fault;
 use crate::settings::Settings;
 use ged_canon::{Edition, SpelledForm, spell_canonical_in, spell_tidy_in};
+use ged_faults::Fault;
 use ged_schema::Profile;
 use std::alloc::Global;
 

@@ -6,13 +6,13 @@ ghost use Rattle.ged_tool.specs.Accepted.{FileFaultAt, IsRefusal};
 ghost use Rattle.ged_tool.specs.DigestRun.{IsKeptDigestRun, TellsDigest};
 
 use crate::calls::digest::digest_as;
-use crate::faults::{Fault, Outcome};
 use crate::runs::devices::{Failed, Sink, Source};
 use crate::runs::digest_line::digest_line;
 use crate::runs::one_file::read_whole;
 use crate::runs::told::{Told, told_with, told_without};
 use crate::runs::written::write_whole;
 use crate::settings::Settings;
+use ged_faults::{Fault, Outcome};
 use std::alloc::Global;
 
 /// Reads a file to the reader's end, and writes a line with its digest, under the profile and in the edition of the settings,

@@ -1,7 +1,7 @@
 // What a run tells, with what it read.
 ghost use Rattle.std.specs.Prelude.{◌≡◌, None, []};
 
-use crate::faults::{Fault, Outcome};
+use ged_faults::{Fault, Outcome};
 use std::alloc::Global;
 
 /// How a run ended, and the bytes of a file that it read, for a caller that has more to say of a fault than its line.

@@ -12,11 +12,11 @@ ghost use Rattle.ged_tool.specs.inner.Steps.{IsWritten, StopsAnswering};
 
 use crate::calls::spell::spell_form;
 use crate::comparison::Form;
-use crate::faults::Fault;
 use crate::runs::answer::{Command, answer};
 use crate::runs::devices::{Failed, Sink};
 use crate::settings::Settings;
 use ged_canon::{Edition, FormReader};
+use ged_faults::Fault;
 use ged_line::{RespellFault, SpelledPart, respell_parts};
 use ged_schema::Profile;
 use std::alloc::Global;

@@ -1,7 +1,7 @@
 // What a run can answer, and the numbers by which a program tells it.
 ghost use Rattle.std.specs.Prelude.{◌≡◌};
-ghost use Rattle.ged_tool.specs.Faults.{file_fault_of, file_fault_of_tree, file_fault_of_tables};
-ghost use Rattle.ged_tool.specs.Faults.{file_fault_number, fault_number, status_of};
+ghost use Rattle.ged_faults.specs.Faults.{file_fault_of, file_fault_of_tree, file_fault_of_tables};
+ghost use Rattle.ged_faults.specs.Faults.{file_fault_number, fault_number, status_of};
 
 use ged_line::LineFault;
 use ged_schema::SchemaFault;
