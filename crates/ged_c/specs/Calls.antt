@@ -3,7 +3,7 @@ use Rattle.std.specs.Prelude.{◌≡◌, ℕ, ◌≤◌, ◌<◌, ◌++◌, leng
 use Rattle.ged_line.specs.Bytes.{Bytes}
 use Rattle.ged_schema.specs.declared.profile.Profile.{Profile}
 use Rattle.ged_canon.specs.declared.edition.Edition.{Edition}
-use Rattle.ged_tool.specs.Accepted.{IsRefusal}
+use Rattle.ged_accept.specs.Accepted.{IsRefusal}
 use Rattle.ged_tool.specs.Answers.{Answers, FaultAt}
 use Rattle.ged_faults.specs.Faults.{fault_number}
 use Rattle.ged_tool.specs.declared.runs.answer.Command.{Command}

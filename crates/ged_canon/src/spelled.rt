@@ -59,6 +59,15 @@ impl<'a> SpelledForm<'a> {
         }
     }
 
+    /// How many bytes it has. It says for how many to take room, and no clause rests on it.
+    fn length(&self) -> usize {
+        let mut length = self.made.len();
+        for run in &self.runs {
+            length = length.saturating_add(run.length as usize);
+        }
+        length
+    }
+
     /// All the bytes in one vector. Takes memory where some are slices of the file.
     pub fn into_bytes(self, alloc: Global) -> Result<Vec<u8>, AllocError>
         ensures { IfOk result (λ bytes. bytes.items ≡ self.entry) }
@@ -71,7 +80,7 @@ impl<'a> SpelledForm<'a> {
             } = self;
             return Ok(made);
         }
-        let mut bytes = Vec::with_capacity(alloc, self.file.len())?;
+        let mut bytes = Vec::with_capacity(alloc, self.length())?;
         let mut pieces = self.pieces();
         loop {
             let piece = pieces.next_piece();

@@ -6,7 +6,7 @@ use Rattle.clap.specs.declared.error.kind.ErrorKind.{ErrorKind}
 use Rattle.clap.specs.declared.error.kind.ErrorKind.TheVariants.{DisplayHelp, DisplayVersion, OutOfMemory}
 use Rattle.ged_tool.specs.declared.Profile.{Profile}
 use Rattle.ged_tool.specs.declared.Edition.{Edition}
-use Rattle.ged_tool.specs.Accepted.{FileFaultAt}
+use Rattle.ged_accept.specs.Accepted.{FileFaultAt}
 use Rattle.ged_tool.specs.Answers.{Answers, FaultAt}
 use Rattle.ged_tool.specs.DigestRun.{TellsDigest}
 use Rattle.ged_tool.specs.Run.{IsRunOf}
@@ -22,8 +22,8 @@ use Rattle.ged_faults.specs.declared.faults.Fault.{Fault}
 use Rattle.ged_faults.specs.declared.faults.Fault.TheVariants.{ReadFailed, WriteFailed, Memory}
 use Rattle.ged_faults.specs.declared.faults.Outcome.{Outcome}
 use Rattle.ged_faults.specs.declared.faults.Outcome.TheVariants.{Done, Failed}
-use Rattle.ged_cmd.specs.declared.drafts.Fate.{Fate}
-use Rattle.ged_cmd.specs.declared.drafts.Fate.TheVariants.{Placed, Dropped}
+use Rattle.ged_devices.specs.declared.drafts.Fate.{Fate}
+use Rattle.ged_devices.specs.declared.drafts.Fate.TheVariants.{Placed, Dropped}
 use Rattle.ged_cmd.specs.CommandLine.{gedtool}
 use Rattle.ged_cmd.specs.Tasks.{Task, asked, digest, explain, input_same, is_input, run, same}
 

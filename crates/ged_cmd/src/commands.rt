@@ -9,9 +9,9 @@ ghost use Rattle.ged_cmd.specs.inner.Tasks.{task_of};
 use crate::meanings::tell_meanings;
 use crate::shelf::Shelf;
 use crate::words::Request;
+use ged_devices::{Failed, Output, Sink, Source};
 use ged_tool::{
-    Command, Comparison, Failed, Fault, Outcome, Output, Settings, Sink, Source, Told, Which,
-    run_same_told, run_told,
+    Command, Comparison, Fault, Outcome, Settings, Told, Which, run_same_told, run_told,
 };
 use std::alloc::Global;
 use std::io::Write;

@@ -6,8 +6,9 @@ ghost use Rattle.ged_cmd.specs.Tasks.{called};
 
 use crate::commands::failed;
 use crate::tells::print_all;
+use ged_devices::{Output, Sink};
 use ged_explain::{Meaning, meanings};
-use ged_tool::{Fault, Outcome, Output, Sink};
+use ged_tool::{Fault, Outcome};
 use itoa::Buffer;
 use std::fmt;
 use std::fmt::{Display, Formatter};

@@ -1,12 +1,11 @@
 // Where files are opened by their names, and replaced by new ones.
 ghost use Rattle.std.specs.Prelude.{◌≡◌, false, ⊤, IfErr, IfOk, OnErr, OnOk};
 ghost use Rattle.std.specs.Io.KnownBytes.{Keeps};
-ghost use Rattle.ged_tool.specs.Devices.{failed_after};
+ghost use Rattle.ged_devices.specs.Devices.{failed_after};
 ghost use Rattle.ged_cmd.specs.Program.{IsEmpty, Withholds};
 
-use crate::drafts::{Fate, NewFile};
-use crate::reasons::{Noted, Reason};
-use ged_tool::{Failed, Fault, Input, Sink, Source};
+use ged_devices::{Failed, Fate, Input, NewFile, Noted, Reason, Sink, Source};
+use ged_tool::Fault;
 use std::alloc::{AllocError, Global};
 use std::fs::File;
 use std::io;

@@ -2,7 +2,7 @@
 ghost use Rattle.std.specs.Prelude.{◌≡◌, ◌≢◌, false, if◌then◌else◌};
 ghost use Rattle.std.specs.Io.KnownBytes.{Keeps};
 ghost use Rattle.clap.specs.Words.{kind_of};
-ghost use Rattle.ged_tool.specs.Devices.{failed_after};
+ghost use Rattle.ged_devices.specs.Devices.{failed_after};
 ghost use Rattle.ged_faults.specs.Faults.{status_of};
 ghost use Rattle.ged_cmd.specs.Program.{IsUnwritten, refusal_status, writer as writer_of};
 
@@ -10,7 +10,8 @@ use crate::commands::failed;
 use crate::wanted::Mistake;
 use clap::Error;
 use clap::error::ErrorKind;
-use ged_tool::{Failed, Fault, Outcome, Output, Sink, Which};
+use ged_devices::{Failed, Output, Sink};
+use ged_tool::{Fault, Outcome, Which};
 use std::alloc::AllocError;
 use std::fmt::Display;
 use std::io;

@@ -3,12 +3,12 @@ use crate::answers::Answer;
 use crate::by_trees::{accept_by_parts, canon_by_trees};
 use crate::feeding::is_fed;
 use ged_canon::write_document;
+use ged_document::Document;
 use ged_link::{Notice, NoticeKind};
 use ged_tool::{
     Accepted, Command, Fault, FileFault, Input, Outcome, Output, Settings, Which, accept,
     accept_as, canonicalise, canonicalise_as, notices, run, run_as, show_text, tidy, tidy_as,
 };
-use ged_tree::Document;
 use std::alloc::{AllocError, Global};
 
 /// More bytes than any file here has.

@@ -5,11 +5,12 @@ ghost use Rattle.ged_schema.specs.Checked.{Checked};
 use crate::agreement::{Answered, Ways, answered, in_file};
 use crate::answers::Answer;
 use ged_canon::{Edition, canonical_bytes_in, canonical_in, write_document};
+use ged_document::{Document, build, to_lines};
 use ged_line::read_lines;
 use ged_link::{Index, LinkFault, resolve};
 use ged_schema::check_as;
 use ged_tool::{Accepted, Fault, FileFault, Profile, Settings, accept_as};
-use ged_tree::{BuildFault, Document, build, to_lines};
+use ged_tree::BuildFault;
 use std::alloc::{AllocError, Global};
 
 /// A file's document by its lines, or its fault, from the calls that read lines and build trees.

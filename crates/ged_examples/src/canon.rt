@@ -12,9 +12,10 @@ use ged_canon::{
     normal_form_of_tidy, steps, steps_in_place, tidy_bytes_in, tidy_form_exists,
     tidy_form_is_unique, write_document,
 };
+use ged_document::Document;
 use ged_link::{Index, LinkFault, resolve};
 use ged_schema::check;
-use ged_tree::{Document, Forest};
+use ged_tree::Forest;
 use std::alloc::{AllocError, Global};
 
 pub(crate) fn has_call(name: &str) -> bool {

@@ -11,10 +11,11 @@ use crate::growths::Marks;
 use crate::still::no_growth;
 use crate::whole::settings_of;
 use ged_canon::write_document;
+use ged_document::{Document, build, document_of};
 use ged_line::{Line, read_lines, write_lines};
 use ged_link::Notice;
 use ged_tool::{Fault, Which};
-use ged_tree::{BuildFault, Document, build, document_of, flatten};
+use ged_tree::{BuildFault, flatten};
 use std::alloc::{AllocError, Global};
 use std::io::Write;
 

@@ -9,13 +9,14 @@ use crate::growing::{
 };
 use crate::growths::Marks;
 use ged_canon::{canonical_bytes_in, canonical_in, write_document};
+use ged_document::{Document, document_of, to_lines};
 use ged_link::{Index, LinkFault, one_way, resolve};
 use ged_schema::unlisted;
 use ged_tool::{
     Accepted, Command, Edition, Fault, Input, Outcome, Output, SameFault, Settings, accept,
     accept_as, canonicalise_as, notices, run_as, run_same_as, same_as, show_text,
 };
-use ged_tree::{Document, Flat, document_of, flatten, to_lines};
+use ged_tree::{Flat, flatten};
 use std::alloc::Global;
 
 /// More bytes than any file here has.

@@ -1,11 +1,12 @@
 // The laws of `ged_line` and `ged_tree`, which are functions that do nothing and return.
 use crate::answers::Answer;
+use ged_document::one_place;
 use ged_line::{line_or_fault, one_cut, one_line, one_reading, spelling_spells, written_is_read};
 use ged_tree::{
     are_lines, begins_on_line, counted_lines, document_or_fault, document_or_fault_of_file,
     faulty_file_fails, faulty_file_has_none, faulty_has_none, file_fault_is_build_fault,
     listed_at_place, next_line, none_shared, one_document, one_fault_in_file, one_first_fault,
-    one_for_each_place, one_list, one_place, pass_is_document,
+    one_for_each_place, one_list, pass_is_document,
 };
 
 /// Answers a call on an argument; false where this module has no call of this name.

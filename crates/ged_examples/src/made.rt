@@ -3,8 +3,9 @@
 use crate::answers::Answer;
 use crate::forests::say_forest;
 use crate::trees::say_lines_of;
+use ged_document::{Document, Node, RecordNode};
 use ged_line::{Tag, Text, Xref};
-use ged_tree::{Document, Node, Payload, RecordNode, TextLines};
+use ged_tree::{Payload, TextLines};
 use std::alloc::{AllocError, Global};
 
 /// Answers a call on a text; false where this module has no call of this name.

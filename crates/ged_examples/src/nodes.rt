@@ -1,7 +1,8 @@
 // What copies of a document's nodes have.
 use crate::answers::Answer;
 use crate::forests::say_payload;
-use ged_tree::{Document, Node, Payload, RecordNode};
+use ged_document::{Document, Node, RecordNode};
+use ged_tree::Payload;
 use std::alloc::Global;
 
 /// A line for HEAD, each structure right below it and each record, with what copies of their nodes have.

@@ -1,8 +1,9 @@
 // Calls about a file that any forest answers: they are asked of its flat table and of its document.
 use crate::answers::Answer;
 use crate::{canon, links, tables};
+use ged_document::{Document, build};
 use ged_line::read_lines;
-use ged_tree::{BuildFault, Document, Forest, build, flatten};
+use ged_tree::{BuildFault, Forest, flatten};
 use std::alloc::{AllocError, Global};
 
 /// A call by its name, and the word behind the `/` in it.

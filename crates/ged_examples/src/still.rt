@@ -5,11 +5,12 @@ use crate::answers::Answer;
 use crate::growing::say_made_fault;
 use crate::growths::Marks;
 use ged_canon::{Edition, is_normal_in};
+use ged_document::Document;
 use ged_line::{LineFault, ParseFault, parse_line};
 use ged_link::Index;
 use ged_schema::check;
 use ged_tool::{Accepted, accept};
-use ged_tree::{Document, Flat, Forest, PayloadView, flatten};
+use ged_tree::{Flat, Forest, PayloadView, flatten};
 use ged_value::{Given, Kind, fits};
 use std::alloc::Global;
 

@@ -5,11 +5,9 @@ use crate::made;
 use crate::nodes::say_nodes;
 use crate::parts::{line_fault_number, say_line_fault};
 use crate::ways::say_each_way;
+use ged_document::{Document, build, document_of, line_of, to_lines};
 use ged_line::{read_lines, split_pieces, view_line, write_line};
-use ged_tree::{
-    BuildFault, Document, Flat, Forest, Judge, TreeFault, build, document_of, flatten, line_of,
-    to_lines,
-};
+use ged_tree::{BuildFault, Flat, Forest, Judge, TreeFault, flatten};
 use std::alloc::Global;
 use std::str;
 

@@ -2,8 +2,9 @@
 use crate::answers::Answer;
 use crate::forests::say_forest;
 use crate::trees::say_build_fault;
+use ged_document::{Document, build, document_of, to_lines};
 use ged_line::{Lines, read_lines};
-use ged_tree::{BuildFault, Document, Flat, Forest, build, document_of, flatten, to_lines};
+use ged_tree::{BuildFault, Flat, Forest, flatten};
 use std::alloc::Global;
 
 /// How many structures a file has or its fault, behind the name of each way that tells another answer.

@@ -5,8 +5,8 @@ use Rattle.std.proofs.lemmas.Bool.{cases_lt}
 use Rattle.ged_line.specs.Bytes.{Bytes}
 use Rattle.ged_tree.specs.Trees.{Trees, trees_count}
 use Rattle.ged_tree.specs.Places.{structure_at, line_at}
-use Rattle.ged_tree.specs.declared.owned.payload.Payload.{Payload}
-use Rattle.ged_tree.specs.declared.owned.payload.Payload.TheVariants.{Void, Pointer, Text}
+use Rattle.ged_tree.specs.declared.payload.Payload.{Payload}
+use Rattle.ged_tree.specs.declared.payload.Payload.TheVariants.{Void, Pointer, Text}
 use Rattle.ged_link.specs.declared.fault.LinkFault.TheVariants.{Duplicate, Dangling}
 use Rattle.ged_link.specs.LinkFaults.{HasXref, IsLowest, IsRepeated, IsDangling}
 use Rattle.ged_link.specs.ResolvedLaws.{ResolvedOrFault}

@@ -3,8 +3,8 @@ use Rattle.std.proofs.Common.{◌≡◌, cond, ℕ, ◌+◌, ◌<◌, true, fals
 use Rattle.ged_line.specs.Bytes.{Bytes}
 use Rattle.ged_tree.specs.Trees.{Structure, Trees, none, tree, trees_count}
 use Rattle.ged_link.specs.declared.pairs.Role.{Role}
-use Rattle.ged_tree.specs.declared.owned.payload.Payload.{Payload}
-use Rattle.ged_tree.specs.declared.owned.payload.Payload.TheVariants.{Void, Pointer, Text}
+use Rattle.ged_tree.specs.declared.payload.Payload.{Payload}
+use Rattle.ged_tree.specs.declared.payload.Payload.TheVariants.{Void, Pointer, Text}
 use Rattle.ged_link.specs.declared.names.Names.{Names}
 use Rattle.ged_link.specs.Indexes.{AreRecords, place_in}
 use Rattle.ged_link.specs.inner.LinkWalks.{role_under, role_eq, is_role, is_place, target, linked, has_link_to, has_pair, is_one_way_for, is_one_way, one_way_below, one_way_places}

@@ -3,8 +3,8 @@ use Rattle.std.specs.Prelude.{◌≡◌, ◌||◌, if◌then◌else◌, Option, 
 use Rattle.std.specs.Str.{bytes_eq}
 use Rattle.ged_line.specs.Bytes.{Bytes}
 use Rattle.ged_tree.specs.Trees.{Trees, none, tree}
-use Rattle.ged_tree.specs.declared.owned.payload.Payload.{Payload}
-use Rattle.ged_tree.specs.declared.owned.payload.Payload.TheVariants.{Pointer}
+use Rattle.ged_tree.specs.declared.payload.Payload.{Payload}
+use Rattle.ged_tree.specs.declared.payload.Payload.TheVariants.{Pointer}
 use Rattle.ged_link.specs.Links.{SomeTree}
 
 -- the tag of the records to which a pointer with this tag may lead; of REPO, as of any other tag, nothing is said

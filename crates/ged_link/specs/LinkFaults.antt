@@ -4,7 +4,7 @@ use Rattle.std.specs.Prelude.{◌≡◌, ℕ, ◌<◌, ◌≤◌, Some}
 use Rattle.ged_line.specs.Bytes.{Bytes}
 use Rattle.ged_tree.specs.Trees.{Trees, trees_count}
 use Rattle.ged_tree.specs.Places.{structure_at, line_at}
-use Rattle.ged_tree.specs.declared.owned.payload.Payload.TheVariants.{Pointer}
+use Rattle.ged_tree.specs.declared.payload.Payload.TheVariants.{Pointer}
 use Rattle.ged_link.specs.declared.fault.LinkFault.{LinkFault}
 use Rattle.ged_link.specs.declared.fault.LinkFault.TheVariants.{Duplicate, Dangling, Memory}
 

@@ -4,7 +4,7 @@ use Rattle.std.specs.Prelude.{◌≡◌, ℕ, ◌+◌, ◌<◌, List, [], ◌∷
 use Rattle.ged_line.specs.Bytes.{Bytes}
 use Rattle.ged_tree.specs.Trees.{Structure, Trees, none, tree, trees_count}
 use Rattle.ged_tree.specs.Places.{line_at}
-use Rattle.ged_tree.specs.declared.owned.payload.Payload.TheVariants.{Pointer}
+use Rattle.ged_tree.specs.declared.payload.Payload.TheVariants.{Pointer}
 use Rattle.ged_link.specs.Links.{IsAmong, SomeTree}
 use Rattle.ged_link.specs.declared.notices.Notice.{Notice}
 use Rattle.ged_link.specs.declared.notices.NoticeKind.TheVariants as kinds

@@ -3,8 +3,8 @@ use Rattle.std.proofs.Common.{[], ◌∷◌}
 use Rattle.ged_value.specs.Kinds.{takes_lines, takes_links}
 use Rattle.ged_value.specs.declared.kind.Kind.{Kind}
 use Rattle.ged_value.proofs.CallerLemmas.{line_decided}
-use Rattle.ged_tree.specs.declared.owned.payload.Payload.{Payload}
-use Rattle.ged_tree.specs.declared.owned.payload.Payload.TheVariants.{Void, Pointer, Text}
+use Rattle.ged_tree.specs.declared.payload.Payload.{Payload}
+use Rattle.ged_tree.specs.declared.payload.Payload.TheVariants.{Void, Pointer, Text}
 use Rattle.ged_schema.specs.Payloads.{IsOfKind}
 use Rattle.ged_schema.proofs.Decided.{IsDecided, true_decided}
 

@@ -4,7 +4,7 @@ use Rattle.std.specs.Prelude.{◌↔◌, Bool, IsTrue}
 use Rattle.std.specs.Bool.{OnTrue}
 use Rattle.ged_line.specs.Bytes.{Bytes}
 use Rattle.ged_tree.specs.Trees.{Trees}
-use Rattle.ged_tree.specs.declared.owned.payload.Payload.TheVariants.{Pointer}
+use Rattle.ged_tree.specs.declared.payload.Payload.TheVariants.{Pointer}
 use Rattle.ged_value.specs.Kinds.{takes_links}
 use Rattle.ged_value.specs.declared.kind.Kind.{Kind}
 use Rattle.ged_value.specs.declared.kind.Kind.TheVariants as kinds

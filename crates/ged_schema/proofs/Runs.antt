@@ -12,7 +12,7 @@ use Rattle.ged_schema.specs.declared.fault.FaultPlace.{FaultPlace}
 use Rattle.ged_schema.specs.Rows.{Row}
 use Rattle.ged_schema.specs.Tables.{rows, row, context_below}
 use Rattle.ged_schema.specs.Checked.{count_of, MeetsRow, AreChecked}
-use Rattle.ged_tree.specs.declared.owned.payload.Payload.{Payload}
+use Rattle.ged_tree.specs.declared.payload.Payload.{Payload}
 use Rattle.ged_schema.specs.declared.fault.SchemaFault.{SchemaFault}
 use Rattle.ged_schema.specs.declared.fault.SchemaFault.TheVariants.{WrongTarget, TooMany, Missing}
 use Rattle.ged_schema.specs.Faults.{fault_at, payload_fault, StandsAfter, IsOneTooMany, OwnFault, FirstFault, FirstCountFault}

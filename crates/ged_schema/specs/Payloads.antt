@@ -1,7 +1,7 @@
 -- Which payloads are of a kind (FamilySearch GEDCOM 7.0, "Data types").
 use Rattle.std.specs.Prelude.{◌≡◌, true, [], ◌∷◌, Option, IfSome}
-use Rattle.ged_tree.specs.declared.owned.payload.Payload.{Payload}
-use Rattle.ged_tree.specs.declared.owned.payload.Payload.TheVariants.{Text}
+use Rattle.ged_tree.specs.declared.payload.Payload.{Payload}
+use Rattle.ged_tree.specs.declared.payload.Payload.TheVariants.{Text}
 use Rattle.ged_value.specs.declared.kind.Kind.{Kind}
 use Rattle.ged_schema.specs.Rows.{Row}
 use Rattle.ged_value.specs.Kinds.{FitsLine, takes_lines, takes_links}

@@ -4,7 +4,7 @@ ghost use Rattle.ged_tree.specs.Trees.{Trees, trees_count, further_lines};
 ghost use Rattle.ged_tree.specs.Documents.{is_document};
 ghost use Rattle.ged_tree.specs.Places.{structure_at};
 ghost use Rattle.ged_tree.specs.Views.{payload_of};
-ghost use Rattle.ged_tree.specs.declared.owned.payload.Payload.TheVariants.{Pointer};
+ghost use Rattle.ged_tree.specs.declared.payload.Payload.TheVariants.{Pointer};
 ghost use Rattle.ged_value.specs.declared.kind.Kind.{Kind as AnyKind};
 ghost use Rattle.ged_value.specs.Kinds.{Fits as FitsGiven};
 ghost use Rattle.ged_link.specs.Links.{SomeTree};

@@ -4,7 +4,7 @@ ghost use Rattle.std.specs.Int.{bit_at};
 ghost use Rattle.std.specs.List.{AllByRecursion};
 ghost use Rattle.std.specs.Bool.{OnTrue};
 ghost use Rattle.ged_tree.specs.Trees.{Trees, trees_count, further_lines};
-ghost use Rattle.ged_tree.specs.declared.owned.payload.Payload.TheVariants.{Pointer, Text};
+ghost use Rattle.ged_tree.specs.declared.payload.Payload.TheVariants.{Pointer, Text};
 ghost use Rattle.ged_tree.specs.Documents.{is_document};
 ghost use Rattle.ged_tree.specs.Places.{structure_at};
 ghost use Rattle.ged_tree.specs.Runs.{IsRun, trees_between};

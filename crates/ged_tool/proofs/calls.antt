@@ -1,11 +1,7 @@
+pub mod Answered
 pub mod CanonLaws
 pub mod Feeding
-pub mod FileLaws
 pub mod Forms
 pub mod Judging
-pub mod Merging
 pub mod Pieces
-pub mod Refusals
-pub mod Noticing
 pub mod TidyLaws
-pub mod Told

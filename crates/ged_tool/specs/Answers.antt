@@ -6,11 +6,11 @@ use Rattle.ged_line.specs.declared.fault.LineFault.{LineFault}
 use Rattle.ged_tree.specs.Trees.{Trees}
 use Rattle.ged_schema.specs.declared.profile.Profile.{Profile}
 use Rattle.ged_canon.specs.declared.edition.Edition.{Edition}
-use Rattle.ged_tool.specs.Accepted.{IsAccepted, FileFaultAt}
+use Rattle.ged_accept.specs.Accepted.{IsAccepted, FileFaultAt}
 use Rattle.ged_tool.specs.Canon.{IsCanon}
 use Rattle.ged_faults.specs.Faults.{file_fault_of}
-use Rattle.ged_tool.specs.Notices.{IsVerdict}
-use Rattle.ged_tool.specs.Shown.{IsShown}
+use Rattle.ged_accept.specs.Notices.{IsVerdict}
+use Rattle.ged_accept.specs.Shown.{IsShown}
 use Rattle.ged_tool.specs.Tidied.{IsTidied}
 use Rattle.ged_tool.specs.declared.runs.answer.Command.{Command}
 use Rattle.ged_tool.specs.declared.runs.answer.Command.TheVariants.{Lines, Check, Show, Canon, Tidy}

@@ -7,7 +7,7 @@ use Rattle.ged_tree.specs.DocumentLines.{document_lines}
 use Rattle.ged_schema.specs.declared.profile.Profile.{Profile}
 use Rattle.ged_canon.specs.declared.edition.Edition.{Edition}
 use Rattle.ged_canon.specs.Normal.{IsNormalForm}
-use Rattle.ged_tool.specs.Accepted.{IsAccepted}
+use Rattle.ged_accept.specs.Accepted.{IsAccepted}
 
 -- the file is accepted, its document becomes a normal one by steps, and the bytes are the normal one's canonical spelling
 pub record IsCanon (profile : Profile) (edition : Edition) (file canonical : Bytes) : Type 0 where

@@ -5,7 +5,7 @@ use Rattle.hex.specs.Hex.{encode_lower}
 use Rattle.ged_line.specs.Bytes.{Bytes, carriage_return, line_feed}
 use Rattle.ged_schema.specs.declared.profile.Profile.{Profile}
 use Rattle.ged_canon.specs.declared.edition.Edition.{Edition}
-use Rattle.ged_tool.specs.Accepted.{FileFaultAt}
+use Rattle.ged_accept.specs.Accepted.{FileFaultAt}
 use Rattle.ged_tool.specs.Digest.{IsDigest}
 use Rattle.ged_tool.specs.Kept.{IsKeptRunOf}
 use Rattle.ged_faults.specs.declared.faults.Outcome.{Outcome}

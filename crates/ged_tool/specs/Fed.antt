@@ -7,7 +7,7 @@ use Rattle.ged_faults.specs.declared.faults.FileFault.{FileFault}
 use Rattle.ged_faults.specs.declared.faults.FileFault.TheVariants.{NoTrailer}
 use Rattle.ged_faults.specs.declared.faults.Fault.{Fault}
 use Rattle.ged_faults.specs.declared.faults.Fault.TheVariants.{InFile, TooLong, ReadFailed, WriteFailed, Memory}
-use Rattle.ged_tool.specs.Accepted.{LinesFaultAt, FileFaultAt}
+use Rattle.ged_accept.specs.Accepted.{LinesFaultAt, FileFaultAt}
 
 -- what contracts see of a feed: the bytes that it has taken in, and the fault that it has told, if any
 pub record Fed : Type 0 where

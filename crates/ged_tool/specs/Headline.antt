@@ -18,7 +18,7 @@ use Rattle.ged_canon.specs.declared.edition.Edition.{Edition}
 use Rattle.ged_canon.specs.declared.edition.Edition.TheVariants.{First, Second}
 use Rattle.ged_canon.specs.Steps.{Equivalent}
 use Rattle.ged_canon.specs.Normal.{Normal}
-use Rattle.ged_tool.specs.Accepted.{IsAccepted}
+use Rattle.ged_accept.specs.Accepted.{IsAccepted}
 use Rattle.ged_tool.specs.Canon.{IsCanon}
 
 -- the bytes are their own canonical bytes, and have no others

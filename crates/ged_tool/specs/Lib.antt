@@ -1,4 +1,3 @@
-pub mod Devices
 pub mod Answers
 pub mod Run
 pub mod RunDevices
@@ -11,12 +10,9 @@ pub mod Tidied
 pub mod Same
 pub mod SameRun
 pub mod Kept
-pub mod Shown
 pub mod Profiles
-pub mod Accepted
 pub mod Fed
 pub mod Judged
 pub mod Laws
 pub mod SameLaws
-pub mod Notices
 pub mod inner

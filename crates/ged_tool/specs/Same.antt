@@ -6,7 +6,7 @@ use Rattle.ged_schema.specs.declared.profile.Profile.{Profile}
 use Rattle.ged_canon.specs.declared.edition.Edition.{Edition}
 use Rattle.ged_canon.specs.Steps.{Equivalent}
 use Rattle.ged_canon.specs.Tidy.{EquivalentInPlace}
-use Rattle.ged_tool.specs.Accepted.{IsAccepted, FileFaultAt, IsRefusal}
+use Rattle.ged_accept.specs.Accepted.{IsAccepted, FileFaultAt, IsRefusal}
 use Rattle.ged_tool.specs.Canon.{IsCanon}
 use Rattle.ged_tool.specs.Tidied.{IsTidied}
 use Rattle.ged_tool.specs.declared.comparison.Form.{Form}

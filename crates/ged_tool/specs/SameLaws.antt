@@ -6,7 +6,7 @@ use Rattle.ged_tree.specs.Trees.{Trees}
 use Rattle.ged_schema.specs.declared.profile.Profile.{Profile}
 use Rattle.ged_canon.specs.declared.edition.Edition.{Edition}
 use Rattle.ged_faults.specs.declared.faults.FileFault.{FileFault}
-use Rattle.ged_tool.specs.Accepted.{IsAccepted, FileFaultAt}
+use Rattle.ged_accept.specs.Accepted.{IsAccepted, FileFaultAt}
 use Rattle.ged_tool.specs.Canon.{IsCanon}
 use Rattle.ged_tool.specs.Same.{AreCompared, AreComparedBy, IsInForm, relation_of}
 use Rattle.ged_tool.specs.declared.comparison.Form.{Form}

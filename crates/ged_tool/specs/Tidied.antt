@@ -13,7 +13,7 @@ use Rattle.ged_schema.specs.declared.profile.Profile.{Profile}
 use Rattle.ged_canon.specs.declared.edition.Edition.{Edition}
 use Rattle.ged_canon.specs.CanonText.{CanonText}
 use Rattle.ged_canon.specs.Tidy.{EquivalentInPlace, Tidy, IsTidyForm}
-use Rattle.ged_tool.specs.Accepted.{IsAccepted}
+use Rattle.ged_accept.specs.Accepted.{IsAccepted}
 use Rattle.ged_tool.specs.Canon.{IsCanon}
 
 -- the file is accepted, its document becomes a tidy one by steps at places, and the bytes are the tidy one's canonical spelling

@@ -1,3 +1,2 @@
-pub mod Accepting
-pub mod Merges
+pub mod Forms
 pub mod Steps

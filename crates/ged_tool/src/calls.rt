@@ -4,8 +4,6 @@ pub(crate) mod canonicalise;
 pub(crate) mod digest;
 pub(crate) mod feed;
 pub(crate) mod judged_lines;
-pub(crate) mod notices;
 pub(crate) mod same;
-pub(crate) mod show;
 pub(crate) mod spell;
 pub(crate) mod tidy;

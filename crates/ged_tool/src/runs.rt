@@ -1,11 +1,8 @@
 // Runs: a command between a reader and a writer.
 pub(crate) mod answer;
-pub(crate) mod devices;
 pub(crate) mod digest_file;
 pub(crate) mod digest_line;
-pub(crate) mod input;
 pub(crate) mod one_file;
-pub(crate) mod output;
 pub(crate) mod told;
 pub(crate) mod two_files;
 pub(crate) mod written;

@@ -22,9 +22,19 @@ use Rattle.ged_tree.proofs.laws.FileFaults as file_faults
 use Rattle.ged_tree.proofs.theory.OneDocument as lines
 use Rattle.ged_tree.proofs.theory.LineCounts as counts
 use Rattle.ged_tree.proofs.laws.LinesAtPlaces as numbers
-use Rattle.ged_tree.proofs.owned.LineTests as tests_of_lines
+use Rattle.ged_tree.proofs.theory.LinesAgain as again
 use Rattle.ged_tree.proofs.theory.Places as places
 use Rattle.ged_tree.proofs.laws.Shown as shown_lines
+-- what stands below a structure ends within the document
+pub use Rattle.ged_tree.proofs.theory.Places.{after_fits}
+-- the level and the line of a place follow from those of the trees; a document has fewer structures and lines than 2 ^ 63
+pub use Rattle.ged_tree.proofs.theory.Walks.{level_first, level_below, level_next, line_first, line_below, line_next, few_of_document}
+-- trees beside others
+pub use Rattle.ged_tree.proofs.theory.RowsAtPlaces.{beside, beside_none}
+-- what a document's trees are, structure by structure
+pub use Rattle.ged_tree.proofs.theory.LinesAgain.{TreeIs, tree_is, DocumentIs, document_is}
+-- what the file of some lines tells is told of the lines, and of the stop behind them
+pub use Rattle.ged_tree.proofs.theory.Building.{stop_first, written_fault, written_has, written_stop}
 
 -- ---- the trees from a place on
 
@@ -75,7 +85,7 @@ run_whole = places.run_whole
 
 -- the trees of a document may stand where they do
 pub at_of_document : (d : Trees) → is_document d ≡ true → are_at 0 d ≡ true
-at_of_document = tests_of_lines.at_of_document
+at_of_document = again.document_placed
 
 -- the line of a place follows from that of the place before it
 pub next_line : (d : Trees) (place : ℕ) → place < trees_count d → line_at 1 d (place + 1) ≡ line_at 1 d place + line_count (structure_at d place).payload

@@ -3,6 +3,5 @@ pub mod FaultsStay
 pub mod FileFaults
 pub mod FileLines
 pub mod LinesAtPlaces
-pub mod OneToOne
 pub mod Shown
 pub mod WholeFiles

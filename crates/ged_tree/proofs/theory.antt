@@ -8,7 +8,6 @@ pub mod LineParts
 pub mod LinesAgain
 pub mod LinesThatPass
 pub mod OneDocument
-pub mod Paths
 pub mod Places
 pub mod ReadLines
 pub mod RowsAtPlaces

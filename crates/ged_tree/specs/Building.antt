@@ -31,11 +31,6 @@ abbrev pub TellsFile : BuildFault → Bytes → Type 0
 TellsFile (At at) file = FirstFaultIn file at.line at.fault
 TellsFile (Memory error) file = Unit {0}
 
--- the first fault of the lines and of the stop behind them; of want of memory nothing is said
-abbrev pub TellsBuild : BuildFault → List LineParts → Option LineAt → Type 0
-TellsBuild (At at) lines stop = IsBuildFault lines stop at.line at.fault
-TellsBuild (Memory error) lines stop = Unit {0}
-
 -- reading the file gives these lines and this stop
 abbrev pub ReadsAs : Bytes → List LineParts → Option LineAt → Type 0
 ReadsAs file lines None = FileText lines file

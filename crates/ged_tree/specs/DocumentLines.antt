@@ -5,8 +5,8 @@ use Rattle.ged_line.specs.Lines.{Value, Empty, LineParts, line_parts}
 use Rattle.ged_line.specs.Lines.{Void as VoidValue, Pointer as PointerValue, Text as TextValue}
 use Rattle.ged_line.specs.Spelling.{value_part}
 use Rattle.ged_tree.specs.Trees.{Structure, Trees, none, tree, further_lines}
-use Rattle.ged_tree.specs.declared.owned.payload.Payload.{Payload}
-use Rattle.ged_tree.specs.declared.owned.payload.Payload.TheVariants.{Void, Pointer, Text}
+use Rattle.ged_tree.specs.declared.payload.Payload.{Payload}
+use Rattle.ged_tree.specs.declared.payload.Payload.TheVariants.{Void, Pointer, Text}
 
 -- the value of the line that shows one line of a text
 abbrev pub line_value : Bytes → Value

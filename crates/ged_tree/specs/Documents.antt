@@ -8,8 +8,8 @@ use Rattle.ged_line.specs.Characters.{is_plain}
 use Rattle.ged_line.specs.Names.{is_tag, is_xref}
 use Rattle.ged_tree.specs.Trees.{Structure, Trees, none, tree}
 use Rattle.ged_tree.specs.DocumentLines.{document_lines}
-use Rattle.ged_tree.specs.declared.owned.payload.Payload.{Payload}
-use Rattle.ged_tree.specs.declared.owned.payload.Payload.TheVariants.{Void, Pointer, Text}
+use Rattle.ged_tree.specs.declared.payload.Payload.{Payload}
+use Rattle.ged_tree.specs.declared.payload.Payload.TheVariants.{Void, Pointer, Text}
 
 -- a text has at least one line, and at level 99, below which no CONT can stand, one line only; each line is UTF-8, and its
 -- characters may stand in a line

@@ -1,12 +1,9 @@
 -- Laws of the structures of documents, each the contract of a public function.
-use Rattle.std.specs.Prelude.{◌≡◌, ℕ, ◌+◌, ◌-◌, ◌<◌, List, Some, length, slice_get}
+use Rattle.std.specs.Prelude.{◌≡◌, ℕ, ◌+◌, ◌-◌, ◌<◌, Some, length, slice_get}
 use Rattle.ged_line.specs.Lines.{LineParts, line_parts}
-use Rattle.ged_tree.specs.Trees.{Structure, Trees, Tree, trees_of, trees_count, line_count, lines_count}
+use Rattle.ged_tree.specs.Trees.{Structure, Trees, trees_count, line_count, lines_count}
 use Rattle.ged_tree.specs.Places.{structure_at, level_at, line_at}
 use Rattle.ged_tree.specs.Entries.{entries_of}
-use Rattle.ged_tree.specs.Paths.{LeadsTo}
-use Rattle.ged_tree.specs.Records.{record_trees, document_trees}
-use Rattle.ged_tree.specs.declared.owned.node.RecordNode.{RecordNode}
 use Rattle.ged_tree.specs.DocumentLines.{first_value, document_lines}
 
 -- a list of structures belongs to one document and no other
@@ -39,20 +36,3 @@ BeginsOnLine = (document : Trees) (place : ℕ) → place < trees_count document
 -- a document has as many lines as its structures have, and TRLR's
 abbrev pub CountedLines : Type 0
 CountedLines = (document : Trees) → length (document_lines document) ≡ lines_count document + 1
-
--- a path leads to one place
-abbrev pub OnePlace : Type 0
-OnePlace = (document : Trees) (path : List ℕ) (place other : ℕ) → LeadsTo path document place → LeadsTo path document other → place ≡ other
-
--- No two lists of nodes have the same trees: what is said of the trees says all of the nodes.
-abbrev pub NodesByTrees : Type 0
-NodesByTrees = (nodes others : List Tree) → trees_of nodes ≡ trees_of others → nodes ≡ others
-
--- no two lists of records have
-abbrev pub RecordsByTrees : Type 0
-RecordsByTrees = (records others : List RecordNode) → record_trees records ≡ record_trees others → records ≡ others
-
--- nor have HEAD and the records of two documents
-abbrev pub DocumentsByTrees : Type 0
-DocumentsByTrees = (head other : Tree) (records others : List RecordNode) → document_trees head records ≡ document_trees other others
-    → (head ≡ other) × (records ≡ others)

@@ -2,11 +2,9 @@ pub mod Trees
 pub mod Documents
 pub mod DocumentLines
 pub mod Views
-pub mod Records
 pub mod Places
 pub mod Runs
 pub mod Entries
-pub mod Paths
 pub mod Laws
 pub mod Spelled
 pub mod Rows

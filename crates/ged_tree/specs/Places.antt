@@ -1,7 +1,7 @@
 -- The structures of a document by their places, which count from 0 in the order in which a file has them.
 use Rattle.std.specs.Prelude.{ℕ, ◌+◌, ◌-◌, ◌==◌, nat_le, if◌then◌else◌, [], None}
 use Rattle.ged_tree.specs.Trees.{Structure, Trees, none, tree, trees_count, line_count, lines_count}
-use Rattle.ged_tree.specs.declared.owned.payload.Payload.TheVariants.{Void}
+use Rattle.ged_tree.specs.declared.payload.Payload.TheVariants.{Void}
 
 -- the tree whose first structure stands at a place, and the trees beside it that follow
 abbrev pub trees_from : Trees → ℕ → Trees

@@ -5,8 +5,8 @@ use Rattle.std.specs.Str.{bytes_eq}
 use Rattle.ged_line.specs.Bytes.{Bytes, at_sign}
 use Rattle.ged_line.specs.Faults.{word}
 use Rattle.ged_line.specs.Lines.{LineParts, line_parts, Value, Empty, Void, Pointer, Text}
-use Rattle.ged_tree.specs.declared.owned.payload.Payload.{Payload}
-use Rattle.ged_tree.specs.declared.owned.payload.Payload.TheVariants as payload
+use Rattle.ged_tree.specs.declared.payload.Payload.{Payload}
+use Rattle.ged_tree.specs.declared.payload.Payload.TheVariants as payload
 
 -- what stands up to a sign or the end
 abbrev pub before_sign : Bytes → Bytes

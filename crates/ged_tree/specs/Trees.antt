@@ -1,8 +1,8 @@
 -- The structures of a document, as trees (FamilySearch GEDCOM 7.0, "Structures").
 use Rattle.std.specs.Prelude.{ℕ, ◌+◌, List, [], ◌∷◌, Option, None, length}
 use Rattle.ged_line.specs.Bytes.{Bytes}
-use Rattle.ged_tree.specs.declared.owned.payload.Payload.{Payload}
-use Rattle.ged_tree.specs.declared.owned.payload.Payload.TheVariants.{Void, Text}
+use Rattle.ged_tree.specs.declared.payload.Payload.{Payload}
+use Rattle.ged_tree.specs.declared.payload.Payload.TheVariants.{Void, Text}
 
 -- one structure by itself: a record's cross-reference identifier, the tag, and the payload
 pub record Structure : Type 0 where

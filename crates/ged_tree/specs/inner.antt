@@ -1,12 +1,8 @@
-pub mod Copies
 pub mod DocumentParts
 pub mod Ends
 pub mod Judging
-pub mod PathLines
 pub mod Rows
 pub mod Tables
 pub mod Trailers
 pub mod TreeCodes
-pub mod TreeSizes
-pub mod Trees
 pub mod Walks

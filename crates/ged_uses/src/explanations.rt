@@ -2,7 +2,7 @@
 ghost use Rattle.std.specs.Prelude.{IfOk, MatchOption, string_bytes};
 ghost use Rattle.ged_tree.specs.Trees.{Trees};
 ghost use Rattle.ged_schema.specs.declared.profile.Profile.{Profile};
-ghost use Rattle.ged_tool.specs.Accepted.{FileFaultAt, IsAccepted, IsRefusal};
+ghost use Rattle.ged_accept.specs.Accepted.{FileFaultAt, IsAccepted, IsRefusal};
 ghost use Rattle.ged_faults.specs.declared.faults.Fault.{Fault};
 ghost use Rattle.ged_explain.specs.Openings.{Opens};
 

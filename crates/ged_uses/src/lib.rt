@@ -2,7 +2,10 @@
 //! part of the product.
 #![tactic(auto)]
 
+mod accepted;
 mod canonical;
+mod devices;
+mod documents;
 mod explanations;
 mod faults;
 mod files;
@@ -12,7 +15,10 @@ mod tables;
 mod trees;
 mod values;
 
+pub use accepted::notices_of;
 pub use canonical::canonical_if_checked;
+pub use devices::send;
+pub use documents::keep_document;
 pub use explanations::say_fault;
 pub use faults::told_number;
 pub use files::strict_canon;

@@ -1,7 +1,7 @@
 -- Trees that are made one by one, and then put in order.
 use Rattle.std.proofs.Common.{◌≡◌, List, [], ◌∷◌, map, None, refl, ap, ◌∙◌}
-use Rattle.ged_tree.specs.declared.owned.payload.Payload.{Payload}
-use Rattle.ged_tree.specs.declared.owned.payload.Payload.TheVariants.{Void, Pointer, Text}
+use Rattle.ged_tree.specs.declared.payload.Payload.{Payload}
+use Rattle.ged_tree.specs.declared.payload.Payload.TheVariants.{Void, Pointer, Text}
 use Rattle.ged_tree.specs.Trees.{tree, Tree, structure_of, trees_of}
 use Rattle.ged_schema.specs.declared.context.Context.{Context}
 use Rattle.ged_canon.specs.declared.edition.Edition.{Edition}

@@ -3,8 +3,8 @@ use Rattle.std.proofs.Common.{◌≡◌, Bool, true, false, [], ◌∷◌, Optio
 use Rattle.std.specs.Str.{bytes_eq, is_utf8, chars}
 use Rattle.std.proofs.lemmas.Bool.{true≢false, false≢true}
 use Rattle.ged_line.specs.Bytes.{Bytes}
-use Rattle.ged_tree.specs.declared.owned.payload.Payload.{Payload}
-use Rattle.ged_tree.specs.declared.owned.payload.Payload.TheVariants.{Pointer, Text}
+use Rattle.ged_tree.specs.declared.payload.Payload.{Payload}
+use Rattle.ged_tree.specs.declared.payload.Payload.TheVariants.{Pointer, Text}
 use Rattle.ged_tree.specs.Trees.{Structure, Trees, none, tree, records_of}
 use Rattle.ged_tree.specs.Documents.{is_document}
 use Rattle.ged_link.specs.Notices.{Link, OneWay}

@@ -7,10 +7,10 @@ use Rattle.std.specs.Fmt.{digits}
 use Rattle.std.specs.Str.{is_utf8, chars}
 use Rattle.ged_line.specs.Bytes.{Bytes, line_feed}
 use Rattle.ged_line.specs.Spelling.{spelled_lines}
-use Rattle.ged_tree.specs.declared.owned.payload.Payload.{Payload}
-use Rattle.ged_tree.specs.declared.owned.payload.Payload.TheVariants.{Pointer, Text}
+use Rattle.ged_tree.specs.declared.payload.Payload.{Payload}
+use Rattle.ged_tree.specs.declared.payload.Payload.TheVariants.{Pointer, Text}
 use Rattle.ged_tree.specs.Trees.{Tree, Trees, none, tree, records_of, structure_of, trees_of}
-use Rattle.ged_tree.specs.Records.{document_trees}
+use Rattle.ged_document.specs.Records.{document_trees}
 use Rattle.ged_tree.specs.DocumentLines.{document_lines}
 use Rattle.ged_value.specs.Words.{words_of}
 use Rattle.ged_value.specs.Dates.{DateParts, gregorian}

@@ -1,8 +1,8 @@
 -- What a change at one place leaves as it is.
 use Rattle.std.proofs.Common.{◌≡◌, Bool, true, false, ◌||◌, [], ◌∷◌, Option, refl, sym, ap, ◌∙◌}
 use Rattle.ged_line.specs.Bytes.{Bytes}
-use Rattle.ged_tree.specs.declared.owned.payload.Payload.{Payload}
-use Rattle.ged_tree.specs.declared.owned.payload.Payload.TheVariants.{Text}
+use Rattle.ged_tree.specs.declared.payload.Payload.{Payload}
+use Rattle.ged_tree.specs.declared.payload.Payload.TheVariants.{Text}
 use Rattle.ged_tree.specs.Trees.{Trees, tree}
 use Rattle.ged_tree.specs.Documents.{is_document}
 use Rattle.ged_schema.specs.declared.context.Context.{Context}

@@ -3,8 +3,8 @@ use Rattle.std.proofs.Common.{◌≡◌, ◌≢◌, ℕ, ◌+◌, Bool, true, fa
 use Rattle.std.specs.declared.cmp.Ordering.TheVariants.{Greater}
 use Rattle.ged_line.specs.Bytes.{Bytes}
 use Rattle.ged_line.specs.Names.{tag_order}
-use Rattle.ged_tree.specs.declared.owned.payload.Payload.{Payload}
-use Rattle.ged_tree.specs.declared.owned.payload.Payload.TheVariants.{Void, Pointer, Text}
+use Rattle.ged_tree.specs.declared.payload.Payload.{Payload}
+use Rattle.ged_tree.specs.declared.payload.Payload.TheVariants.{Void, Pointer, Text}
 use Rattle.ged_tree.specs.Trees.{Structure, Trees, none, tree, records_of}
 use Rattle.ged_tree.specs.Documents.{is_document}
 use Rattle.ged_link.specs.Links.{IsAmong, AreDistinct, xrefs, IsNamed, Resolved}

@@ -9,8 +9,8 @@ use Rattle.ged_line.specs.Bytes.{Bytes}
 use Rattle.ged_line.specs.Characters.{is_tag_character}
 use Rattle.std.specs.Char.{is_ascii_uppercase, is_ascii_digit}
 use Rattle.ged_line.specs.Names.{is_tag, is_xref}
-use Rattle.ged_tree.specs.declared.owned.payload.Payload.{Payload}
-use Rattle.ged_tree.specs.declared.owned.payload.Payload.TheVariants.{Void, Pointer, Text}
+use Rattle.ged_tree.specs.declared.payload.Payload.{Payload}
+use Rattle.ged_tree.specs.declared.payload.Payload.TheVariants.{Void, Pointer, Text}
 use Rattle.ged_tree.specs.Trees.{Structure, Trees, none, tree, line_count, lines_count}
 use Rattle.ged_tree.specs.DocumentLines.{document_lines}
 use Rattle.ged_tree.specs.Documents.{is_document, are_records, are_at, is_structure_at, is_payload_at}

@@ -1,6 +1,6 @@
 -- A checked document becomes its sorted document by steps.
 use Rattle.std.proofs.Common.{◌≡◌, Bool, true, false, cond, Option, Some, None, refl, sym, ◌∙◌}
-use Rattle.ged_tree.specs.declared.owned.payload.Payload.{Payload}
+use Rattle.ged_tree.specs.declared.payload.Payload.{Payload}
 use Rattle.ged_tree.specs.Trees.{Structure, Trees, none, tree}
 use Rattle.ged_tree.specs.Documents.{is_document}
 use Rattle.ged_schema.specs.declared.context.Context.{Context}

@@ -7,7 +7,7 @@ use Rattle.std.proofs.lemmas.List.Folds.{list_all-append}
 use Rattle.ged_line.specs.Bytes.{Bytes}
 use Rattle.ged_line.specs.Characters.{is_plain}
 use Rattle.ged_line.specs.Names.{is_tag}
-use Rattle.ged_tree.specs.declared.owned.payload.Payload.{Payload}
+use Rattle.ged_tree.specs.declared.payload.Payload.{Payload}
 use Rattle.ged_tree.specs.Trees.{Structure, Trees, tree, line_count, lines_count}
 use Rattle.ged_tree.specs.Documents.{is_payload_at, is_structure_at, are_at, are_records, is_document}
 use Rattle.ged_tree.specs.inner.DocumentParts.{is_xref_at, is_record_tag, is_head}

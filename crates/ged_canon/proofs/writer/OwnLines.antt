@@ -13,8 +13,8 @@ use Rattle.ged_line.specs.Characters.{is_plain}
 use Rattle.ged_line.specs.Lines.{LineParts, Value, Pointer as PointerValue, line_parts, is_line, is_value, may_be_xref}
 use Rattle.ged_line.specs.Names.{is_tag, is_xref}
 use Rattle.ged_line.specs.Spelling.{spelling, spelled_lines}
-use Rattle.ged_tree.specs.declared.owned.payload.Payload.{Payload}
-use Rattle.ged_tree.specs.declared.owned.payload.Payload.TheVariants.{Void, Pointer, Text}
+use Rattle.ged_tree.specs.declared.payload.Payload.{Payload}
+use Rattle.ged_tree.specs.declared.payload.Payload.TheVariants.{Void, Pointer, Text}
 use Rattle.ged_tree.specs.Trees.{Structure, further_lines}
 use Rattle.ged_tree.specs.Documents.{is_payload_at, is_structure_at}
 use Rattle.ged_tree.specs.inner.DocumentParts.{is_xref_at, continued}

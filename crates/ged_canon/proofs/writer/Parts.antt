@@ -6,8 +6,8 @@ use Rattle.std.proofs.lemmas.Bool.{false≢true, and_parts}
 use Rattle.ged_line.specs.Bytes.{Bytes}
 use Rattle.ged_tree.specs.Trees.{Trees, none, tree, Tree, structure_of, records_of}
 use Rattle.ged_tree.specs.Documents.{is_document}
-use Rattle.ged_tree.specs.Records.{record_trees, document_trees}
-use Rattle.ged_tree.specs.declared.owned.node.RecordNode.{RecordNode}
+use Rattle.ged_document.specs.Records.{record_trees, document_trees}
+use Rattle.ged_document.specs.declared.node.RecordNode.{RecordNode}
 use Rattle.ged_link.specs.declared.index.Index.{Index}
 use Rattle.ged_link.specs.Indexes.{IsIndexOf}
 use Rattle.ged_link.specs.Links.{IsAmong, AreDistinct, xrefs, Resolved}

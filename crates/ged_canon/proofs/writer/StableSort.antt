@@ -9,7 +9,7 @@ use Rattle.std.proofs.lemmas.Bool.{true≢false, cases_Bool}
 use Rattle.ged_line.specs.Bytes.{Bytes}
 use Rattle.ged_line.specs.Names.{tag_order}
 use Rattle.ged_tree.specs.Trees.{Structure, Trees, none, tree, structure_of, trees_of}
-use Rattle.ged_tree.specs.Records.{record_trees}
+use Rattle.ged_document.specs.Records.{record_trees}
 use Rattle.ged_schema.specs.declared.context.Context.{Context}
 use Rattle.ged_schema.specs.Tables.{context_below}
 use Rattle.ged_canon.specs.declared.edition.Edition.{Edition}

@@ -4,8 +4,8 @@ use Rattle.std.proofs.lemmas.Option.{slice_get-map}
 use Rattle.std.specs.Option.{option_map}
 use Rattle.ged_line.specs.Bytes.{Bytes}
 use Rattle.ged_tree.specs.Trees.{Trees, tree, Tree, structure_of, records_of}
-use Rattle.ged_tree.specs.Records.{record_trees}
-use Rattle.ged_tree.specs.declared.owned.node.RecordNode.{RecordNode}
+use Rattle.ged_document.specs.Records.{record_trees}
+use Rattle.ged_document.specs.declared.node.RecordNode.{RecordNode}
 use Rattle.ged_link.specs.Links.{IsNamed, identifiers, IsUsed}
 use Rattle.ged_schema.specs.declared.context.Context.TheVariants.{File}
 use Rattle.ged_canon.specs.declared.edition.Edition.{Edition}

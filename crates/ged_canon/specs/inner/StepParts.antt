@@ -3,7 +3,7 @@
 use Rattle.std.specs.Prelude.{Bool, List, Option, map}
 use Rattle.std.specs.Option.{option_map}
 use Rattle.ged_line.specs.Bytes.{Bytes}
-use Rattle.ged_tree.specs.declared.owned.payload.Payload.{Payload}
+use Rattle.ged_tree.specs.declared.payload.Payload.{Payload}
 use Rattle.ged_tree.specs.Trees.{Structure}
 use Rattle.ged_value.specs.ZeroKinds.{has_integers}
 use Rattle.ged_schema.specs.Rows.{Row}

@@ -1,7 +1,7 @@
 // The canonical form of a document.
 ghost use Rattle.std.specs.Prelude.{◌≡◌, true, IfOk};
 ghost use Rattle.ged_tree.specs.Documents.{is_document};
-ghost use Rattle.ged_tree.specs.Records.{document_trees};
+ghost use Rattle.ged_document.specs.Records.{document_trees};
 ghost use Rattle.ged_link.specs.Indexes.{IsIndexOf};
 ghost use Rattle.ged_schema.specs.Checked.{Checked};
 ghost use Rattle.ged_canon.specs.Normal.{Normal, IsNormalForm};
@@ -11,8 +11,8 @@ ghost use Rattle.ged_canon.specs.inner.Working.{canon};
 use crate::edition::Edition;
 use crate::owned::placing::placed_parts;
 use crate::owned::renaming::{new_numbers, renamed_node, renamed_records};
+use ged_document::{Document, Node, RecordNode};
 use ged_link::Index;
-use ged_tree::{Document, Node, RecordNode};
 use std::alloc::{AllocError, Global};
 
 /// HEAD and the records of the canonical form.

@@ -1,10 +1,10 @@
 // Trees in the order of their tags, with payloads that are brief.
 ghost use Rattle.std.specs.Prelude.{◌≡◌, [], ◌∷◌, Option, IfOk, MatchOption, option_map, Some, true, slice_get, string_bytes};
 ghost use Rattle.std.specs.Option.{option_copied};
-ghost use Rattle.ged_tree.specs.declared.owned.payload.Payload.TheVariants.{Text as TextPayload};
+ghost use Rattle.ged_tree.specs.declared.payload.Payload.TheVariants.{Text as TextPayload};
 ghost use Rattle.ged_tree.specs.Trees.{trees_of, records_of};
 ghost use Rattle.ged_tree.specs.Documents.{is_document};
-ghost use Rattle.ged_tree.specs.Records.{record_trees, document_trees};
+ghost use Rattle.ged_document.specs.Records.{record_trees, document_trees};
 ghost use Rattle.ged_link.specs.Links.{identifiers};
 ghost use Rattle.ged_link.specs.Indexes.{IsIndexOf};
 ghost use Rattle.ged_schema.specs.declared.context.Context.TheVariants.{File};
@@ -14,10 +14,11 @@ ghost use Rattle.ged_canon.specs.inner.Working.{brief, sorted, placed, is_named,
 
 use crate::edition::Edition;
 use crate::writer::brief::brief_line;
+use ged_document::{Document, Node, RecordNode};
 use ged_line::{Text, Xref};
 use ged_link::Index;
 use ged_schema::{Context, Rule, context_below, lookup};
-use ged_tree::{Document, Node, Payload, RecordNode, TextLines};
+use ged_tree::{Payload, TextLines};
 use std::alloc::{AllocError, Global};
 
 /// The text of one line.

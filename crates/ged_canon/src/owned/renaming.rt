@@ -2,16 +2,17 @@
 ghost use Rattle.std.specs.Prelude.{◌≡◌, List, IfOk};
 ghost use Rattle.ged_line.specs.Bytes.{Bytes};
 ghost use Rattle.ged_tree.specs.Trees.{trees_of, records_of};
-ghost use Rattle.ged_tree.specs.Records.{record_trees};
+ghost use Rattle.ged_document.specs.Records.{record_trees};
 ghost use Rattle.ged_link.specs.Links.{xrefs, AreDistinct, IsAmong};
 ghost use Rattle.ged_link.specs.Indexes.{IsIndexOf};
 ghost use Rattle.ged_canon.specs.Steps.{renamed, renamed_payload as gives_payload};
 ghost use Rattle.ged_canon.specs.inner.Working.{number_among, number_of, AreNumbersOf, IsNumbering, renamed_tree, renamed_record as gives_record};
 
 use crate::owned::identifiers::new_identifier;
+use ged_document::{Document, Node, RecordNode};
 use ged_line::Xref;
 use ged_link::Index;
-use ged_tree::{Document, Node, Payload, RecordNode};
+use ged_tree::Payload;
 use std::alloc::{AllocError, Global};
 
 /// The new numbers of a document's records, counted from 1, by the numbers that the records have in the document: those of

@@ -2,8 +2,8 @@
 ghost use Rattle.std.specs.Prelude.{IfOk};
 ghost use Rattle.ged_canon.specs.CanonText.{CanonText};
 
+use ged_document::{Document, to_lines};
 use ged_line::write_lines;
-use ged_tree::{Document, to_lines};
 use std::alloc::{AllocError, Global};
 
 /// The canonical spelling of a document: the byte order mark, and each line with LF, without a space after the tag of an empty

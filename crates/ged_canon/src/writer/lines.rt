@@ -5,7 +5,7 @@ ghost use Rattle.ged_line.specs.Bytes.{Bytes, line_feed};
 ghost use Rattle.ged_line.specs.Lines.{Pointer, is_line, line_parts};
 ghost use Rattle.ged_line.specs.Spelling.{spelling, spelled_lines};
 ghost use Rattle.ged_tree.specs.Trees.{Trees, trees_count};
-ghost use Rattle.ged_tree.specs.declared.owned.payload.Payload.TheVariants.{Pointer as PointerPayload};
+ghost use Rattle.ged_tree.specs.declared.payload.Payload.TheVariants.{Pointer as PointerPayload};
 ghost use Rattle.ged_tree.specs.DocumentLines.{line_value, first_value};
 ghost use Rattle.ged_tree.specs.Laws.{own_line};
 ghost use Rattle.ged_tree.specs.Places.{structure_at};

@@ -2,7 +2,7 @@
 ghost use Rattle.std.specs.Prelude.{◌≡◌, List};
 ghost use Rattle.ged_line.specs.Bytes.{Bytes};
 ghost use Rattle.ged_tree.specs.Trees.{Trees};
-ghost use Rattle.ged_tree.specs.declared.owned.payload.Payload.TheVariants.{Pointer as PointerPayload};
+ghost use Rattle.ged_tree.specs.declared.payload.Payload.TheVariants.{Pointer as PointerPayload};
 ghost use Rattle.ged_tree.specs.Places.{structure_at};
 ghost use Rattle.ged_link.specs.LinkFaults.{HasXref};
 ghost use Rattle.ged_canon.specs.inner.Working.{number_among, IsNumberingOf};

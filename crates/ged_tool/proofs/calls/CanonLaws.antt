@@ -21,10 +21,10 @@ use Rattle.ged_canon.specs.Steps.{Equivalent, done}
 use Rattle.ged_canon.specs.Normal.{Normal, IsNormalForm}
 use Rattle.ged_canon.specs.CanonText.{CanonText}
 use Rattle.ged_canon.proofs.CallerLemmas.{symmetric, transitive, normal_form_is_unique, document_kept, resolved_kept, checked_kept, no_notice_kept, one_second, normal_in_first}
-use Rattle.ged_tool.specs.Accepted.{IsAccepted}
+use Rattle.ged_accept.specs.Accepted.{IsAccepted}
 use Rattle.ged_tool.specs.Canon.{IsCanon}
 use Rattle.ged_tool.specs.Headline.{IsOwnCanon, Headline, AgreesWithFirst}
-use Rattle.ged_tool.proofs.calls.FileLaws.{one_of_file, of_document}
+use Rattle.ged_accept.proofs.CallerLemmas.{one_of_file, of_document}
 
 each_line : (lines : List LineParts) → list_all is_line lines ≡ true → AllByRecursion (λ line. is_line line ≡ true) lines
 each_line [] h = tt

@@ -21,7 +21,7 @@ use Rattle.ged_faults.specs.declared.faults.Fault.{Fault}
 use Rattle.ged_faults.specs.declared.faults.Fault.TheVariants.{InFile, TooLong, ReadFailed, WriteFailed, Memory}
 use Rattle.ged_tool.specs.declared.calls.judged_lines.Judged.{Judged}
 use Rattle.ged_faults.specs.Faults.{file_fault_of_tree}
-use Rattle.ged_tool.specs.Accepted.{FileFaultAt, IsRefusal}
+use Rattle.ged_accept.specs.Accepted.{FileFaultAt, IsRefusal}
 use Rattle.ged_tool.specs.Fed.{WholeLinesFaultAt}
 use Rattle.ged_tool.specs.Judged.{HasJudged, IsReady, IsToldOf}
 

@@ -7,7 +7,7 @@ use Rattle.ged_canon.specs.declared.edition.Edition.{Edition}
 use Rattle.ged_canon.specs.Steps.{done}
 use Rattle.ged_tool.specs.declared.comparison.Form.{Form}
 use Rattle.ged_tool.specs.declared.comparison.Form.TheVariants.{Canonical, Tidy}
-use Rattle.ged_tool.specs.Accepted.{IsAccepted}
+use Rattle.ged_accept.specs.Accepted.{IsAccepted}
 use Rattle.ged_tool.specs.Same.{AreComparedBy, IsInForm, relation_of}
 use Rattle.ged_tool.proofs.calls.CanonLaws.{headline}
 use Rattle.ged_tool.proofs.calls.TidyLaws.{headline as tidy_headline}

@@ -6,7 +6,7 @@ use Rattle.ged_canon.specs.Steps.{Equivalent, done}
 use Rattle.ged_canon.proofs.CallerLemmas.{symmetric, transitive, in_place_equivalent}
 use Rattle.ged_tool.specs.declared.comparison.Form.TheVariants.{Canonical}
 use Rattle.ged_tool.specs.SameLaws.{OneComparison, SameAsItself, SameBothWays, SameOnward, SameByBytes, SameByCanon, TidySameIsSame}
-use Rattle.ged_tool.proofs.calls.FileLaws.{one_accepted}
+use Rattle.ged_accept.proofs.CallerLemmas.{one_accepted}
 use Rattle.ged_tool.proofs.calls.Forms.{equal_in_form, are_compared}
 
 -- one truth value, by what it says

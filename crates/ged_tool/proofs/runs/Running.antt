@@ -13,7 +13,7 @@ use Rattle.ged_faults.specs.declared.faults.Fault.{Fault}
 use Rattle.ged_faults.specs.declared.faults.Fault.TheVariants.{InFile, TooLong, ReadFailed, WriteFailed, Memory}
 use Rattle.ged_faults.specs.declared.faults.Outcome.{Outcome}
 use Rattle.ged_faults.specs.declared.faults.Outcome.TheVariants.{Done, Failed}
-use Rattle.ged_tool.specs.Accepted.{IsRefusal}
+use Rattle.ged_accept.specs.Accepted.{IsRefusal}
 use Rattle.ged_tool.specs.Run.{IsWhole, Tells}
 use Rattle.ged_tool.specs.inner.Steps.{StopsReading, StopsAnswering, of_which}
 use Rattle.ged_tool.specs.Same.{IsSameRefusal}

@@ -1,7 +1,7 @@
 // The canonical bytes of a file.
 ghost use Rattle.std.specs.Prelude.{◌≡◌, IfOk, IfErr};
 ghost use Rattle.ged_tool.specs.Profiles.{profile_of, edition_of};
-ghost use Rattle.ged_tool.specs.Accepted.{FileFaultAt, IsRefusal};
+ghost use Rattle.ged_accept.specs.Accepted.{FileFaultAt, IsRefusal};
 ghost use Rattle.ged_tool.specs.Canon.{IsCanon};
 ghost use Rattle.ged_tool.specs.Headline.{Headline, AgreesWithFirst};
 

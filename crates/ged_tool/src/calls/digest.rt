@@ -2,7 +2,7 @@
 ghost use Rattle.std.specs.Prelude.{◌≡◌, IfOk, IfErr};
 ghost use Rattle.sha2.specs.Sha256.{sha256};
 ghost use Rattle.ged_tool.specs.Profiles.{profile_of, edition_of};
-ghost use Rattle.ged_tool.specs.Accepted.{FileFaultAt, IsRefusal};
+ghost use Rattle.ged_accept.specs.Accepted.{FileFaultAt, IsRefusal};
 ghost use Rattle.ged_tool.specs.Digest.{IsDigest};
 
 use crate::calls::spell::spell_form;

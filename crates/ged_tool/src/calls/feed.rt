@@ -3,12 +3,13 @@ ghost use Rattle.std.specs.Prelude.{◌≡◌, ◌++◌, ℕ, [], None, IfSome, 
 ghost use Rattle.ged_schema.specs.declared.profile.Profile.{Profile};
 ghost use Rattle.ged_faults.specs.declared.faults.FileFault.{FileFault};
 ghost use Rattle.ged_tool.specs.Profiles.{profile_of};
-ghost use Rattle.ged_tool.specs.Accepted.{IsAccepted, FileFaultAt, IsRefusal};
+ghost use Rattle.ged_accept.specs.Accepted.{IsAccepted, FileFaultAt, IsRefusal};
 ghost use Rattle.ged_tool.specs.Fed.{WholeLinesFaultAt, RefusesPiece};
 
-use crate::calls::accept::{Accepted, accept_as};
+use crate::calls::accept::accept_as;
 use crate::calls::judged_lines::Judged;
 use crate::settings::Settings;
+use ged_accept::Accepted;
 use ged_faults::Fault;
 use ged_line::split_whole;
 use std::alloc::Global;

@@ -1,13 +1,14 @@
 // The form of a file in slices of it.
 ghost use Rattle.std.specs.Prelude.{◌≡◌, IfOk, IfErr, MatchResult, alloc_error};
 ghost use Rattle.ged_tool.specs.Profiles.{profile_of, edition_of};
-ghost use Rattle.ged_tool.specs.Accepted.{FileFaultAt, IsRefusal};
+ghost use Rattle.ged_accept.specs.Accepted.{FileFaultAt, IsRefusal};
 ghost use Rattle.ged_tool.specs.Same.{IsInForm};
-ghost use Rattle.ged_tool.specs.inner.Accepting.{IsFormOf};
+ghost use Rattle.ged_tool.specs.inner.Forms.{IsFormOf};
 
-use crate::calls::accept::{Accepted, accept_as};
+use crate::calls::accept::accept_as;
 use crate::comparison::Form;
 use crate::settings::Settings;
+use ged_accept::Accepted;
 use ged_canon::{Edition, SpelledForm, spell_canonical_in, spell_tidy_in};
 use ged_faults::Fault;
 use ged_schema::Profile;

@@ -1,7 +1,7 @@
 // The tidy bytes of a file.
 ghost use Rattle.std.specs.Prelude.{IfOk, IfErr};
 ghost use Rattle.ged_tool.specs.Profiles.{profile_of, edition_of};
-ghost use Rattle.ged_tool.specs.Accepted.{FileFaultAt, IsRefusal};
+ghost use Rattle.ged_accept.specs.Accepted.{FileFaultAt, IsRefusal};
 ghost use Rattle.ged_tool.specs.Tidied.{IsTidied, TidyHeadline};
 
 use crate::calls::spell::bytes_in_form;

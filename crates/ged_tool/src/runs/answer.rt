@@ -1,15 +1,14 @@
 // What a command answers to the bytes of a file.
 ghost use Rattle.std.specs.Prelude.{◌≡◌, IfErr, IfOk, MatchResult, Result, alloc_error};
 ghost use Rattle.ged_tool.specs.Profiles.{profile_of, edition_of};
-ghost use Rattle.ged_tool.specs.Accepted.{IsRefusal};
+ghost use Rattle.ged_accept.specs.Accepted.{IsRefusal};
 ghost use Rattle.ged_tool.specs.Answers.{Answers, FaultAt};
 
 use crate::calls::accept::accept_as;
 use crate::calls::canonicalise::canonicalise_as;
-use crate::calls::notices::verdict;
-use crate::calls::show::show_text;
 use crate::calls::tidy::tidy_as;
 use crate::settings::Settings;
+use ged_accept::{show_text, verdict};
 use ged_canon::Edition;
 use ged_faults::Fault;
 use ged_line::{RespellFault, respell_lines};

@@ -2,16 +2,16 @@
 ghost use Rattle.std.specs.Prelude.{◌≡◌, ◌≤◌, false, MatchResult};
 ghost use Rattle.ged_tool.specs.Profiles.{profile_of, edition_of};
 ghost use Rattle.ged_tool.specs.RunDevices.{TellsDevices};
-ghost use Rattle.ged_tool.specs.Accepted.{FileFaultAt, IsRefusal};
+ghost use Rattle.ged_accept.specs.Accepted.{FileFaultAt, IsRefusal};
 ghost use Rattle.ged_tool.specs.DigestRun.{IsKeptDigestRun, TellsDigest};
 
 use crate::calls::digest::digest_as;
-use crate::runs::devices::{Failed, Sink, Source};
 use crate::runs::digest_line::digest_line;
 use crate::runs::one_file::read_whole;
 use crate::runs::told::{Told, told_with, told_without};
 use crate::runs::written::write_whole;
 use crate::settings::Settings;
+use ged_devices::{Failed, Sink, Source};
 use ged_faults::{Fault, Outcome};
 use std::alloc::Global;
 

@@ -9,11 +9,11 @@ ghost use Rattle.ged_tool.specs.Kept.{IsKeptRun};
 ghost use Rattle.ged_tool.specs.inner.Steps.{StopsReading};
 
 use crate::runs::answer::Command;
-use crate::runs::devices::{Failed, Sink, Source};
 use crate::runs::told::{Told, told_with, told_without};
 use crate::runs::written::write_answer;
 use crate::settings::Settings;
 use ged_canon::Edition;
+use ged_devices::{Failed, Sink, Source};
 use ged_faults::{Fault, Outcome};
 use ged_schema::Profile;
 use std::alloc::{AllocError, Global};

@@ -9,12 +9,12 @@ ghost use Rattle.ged_tool.specs.inner.Steps.{of_which};
 
 use crate::calls::same::{SameFault, same_by};
 use crate::comparison::{Comparison, Form};
-use crate::runs::devices::{Failed, Sink, Source};
 use crate::runs::one_file::read_whole;
 use crate::runs::told::{Told, told_without};
 use crate::runs::written::write_whole;
 use crate::settings::Settings;
 use ged_canon::Edition;
+use ged_devices::{Failed, Sink, Source};
 use ged_faults::{Fault, Outcome, Which};
 use ged_schema::Profile;
 use std::alloc::Global;

@@ -11,8 +11,8 @@ use Rattle.ged_line.specs.Lines.{LineParts, line_parts, is_line, is_value, may_b
 use Rattle.ged_tree.specs.Trees.{Trees, none, tree, further_lines}
 use Rattle.ged_tree.specs.Documents.{is_payload_at, are_at, is_document, HasLines}
 use Rattle.ged_tree.specs.inner.DocumentParts.{is_xref_at, continued}
-use Rattle.ged_tree.specs.declared.owned.payload.Payload.{Payload}
-use Rattle.ged_tree.specs.declared.owned.payload.Payload.TheVariants.{Void, Pointer, Text}
+use Rattle.ged_tree.specs.declared.payload.Payload.{Payload}
+use Rattle.ged_tree.specs.declared.payload.Payload.TheVariants.{Void, Pointer, Text}
 use Rattle.ged_tree.specs.DocumentLines.{line_value, first_value, structure_lines, lines_of, document_lines}
 use Rattle.ged_tree.specs.inner.Trailers.{trailer_line}
 use Rattle.ged_tree.proofs.theory.LinesAgain.{tree_is, document_is}

@@ -23,7 +23,7 @@ use Rattle.ged_tree.specs.Rows.{Row, row_of, rows_from, texts_of, places_of, fur
 use Rattle.ged_tree.specs.inner.Rows.{rest_of}
 use Rattle.ged_tree.specs.declared.forest.payload.PayloadView.{PayloadView}
 use Rattle.ged_tree.specs.declared.forest.payload.PayloadView.TheVariants as views
-use Rattle.ged_tree.specs.declared.owned.payload.Payload.TheVariants.{Text as Texts}
+use Rattle.ged_tree.specs.declared.payload.Payload.TheVariants.{Text as Texts}
 use Rattle.ged_tree.specs.declared.forest.continuations.FurtherTable.{FurtherTable}
 use Rattle.ged_tree.specs.declared.table.closing.Sizes.{Sizes}
 use Rattle.ged_tree.specs.declared.table.packed.KeptStructure.{KeptStructure}

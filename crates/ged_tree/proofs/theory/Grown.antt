@@ -14,7 +14,7 @@ use Rattle.ged_line.proofs.CallerLemmas.{nothing_plain}
 use Rattle.ged_tree.proofs.theory.LineParts.{line_is}
 use Rattle.ged_tree.specs.Documents.{is_payload_at, is_structure_at, are_at, are_records, is_document}
 use Rattle.ged_tree.specs.inner.DocumentParts.{is_xref_at, is_record_tag, is_head}
-use Rattle.ged_tree.specs.declared.owned.payload.Payload.TheVariants.{Text}
+use Rattle.ged_tree.specs.declared.payload.Payload.TheVariants.{Text}
 use Rattle.ged_tree.specs.DocumentLines.{lines_of, document_lines}
 use Rattle.ged_tree.specs.inner.Trailers.{trailer_line}
 use Rattle.ged_tree.specs.TreeFaults.{is_cont, is_header, is_trailer, has_trailer, has_forbidden_xref}

@@ -1,8 +1,5 @@
 -- How many lines a document has.
-use Rattle.std.proofs.Common.{◌≡◌, ℕ, ◌+◌, ◌<◌, ◌^◌, List, [], ◌∷◌, ◌++◌, Option, Some, None, length, length-append, refl, sym, ap, suc, arith}
-use Rattle.std.specs.Prelude.{nat_lt, is_some, SomeIff}
-use Rattle.std.proofs.lemmas.Bool.{lt-ltb}
-use Rattle.std.proofs.lemmas.Bool.Decides.{nat_tests}
+use Rattle.std.proofs.Common.{◌≡◌, ℕ, ◌+◌, List, [], ◌∷◌, ◌++◌, length, length-append, refl, ap, suc, arith}
 use Rattle.ged_line.specs.Bytes.{Bytes}
 use Rattle.ged_tree.specs.Trees.{Structure, Trees, none, tree, line_count, lines_count, further_lines}
 use Rattle.ged_tree.specs.DocumentLines.{structure_lines, lines_of, document_lines}
@@ -23,8 +20,3 @@ length_lines l (tree s b n) =
 
 pub counted : (w : Trees) → length (document_lines w) ≡ lines_count w + 1
 counted w = omega (arith, length-append (lines_of 0 w) (trailer_line ∷ []), length_lines 0 w)
-
--- lines are told where they are few
-pub told_few : (o : Option ℕ) (n : ℕ) → SomeIff o (n < 2 ^ 63) n → is_some o ≡ nat_lt n (2 ^ 63)
-told_few None n h = grind (arith, nat_tests)
-told_few (Some m) n h = sym (lt-ltb n (2 ^ 63) h.0)

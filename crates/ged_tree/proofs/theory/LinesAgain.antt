@@ -9,8 +9,8 @@ use Rattle.ged_line.specs.Lines.{LineParts, line_parts}
 use Rattle.ged_tree.specs.Trees.{Structure, Trees, none, tree, further_lines}
 use Rattle.ged_tree.specs.Documents.{is_payload_at, is_structure_at, are_at, are_records, is_document}
 use Rattle.ged_tree.specs.inner.DocumentParts.{is_xref_at, is_head, continued}
-use Rattle.ged_tree.specs.declared.owned.payload.Payload.{Payload}
-use Rattle.ged_tree.specs.declared.owned.payload.Payload.TheVariants.{Void, Pointer, Text}
+use Rattle.ged_tree.specs.declared.payload.Payload.{Payload}
+use Rattle.ged_tree.specs.declared.payload.Payload.TheVariants.{Void, Pointer, Text}
 use Rattle.ged_tree.specs.DocumentLines.{line_value, first_value, structure_lines, lines_of, document_lines}
 use Rattle.ged_tree.specs.TreeFaults.{is_cont}
 use Rattle.ged_tree.specs.Spelled.{payload_from}

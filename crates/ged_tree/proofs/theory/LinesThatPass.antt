@@ -12,8 +12,8 @@ use Rattle.ged_line.specs.Lines.{LineParts}
 use Rattle.ged_tree.specs.Trees.{Structure, Trees, none, tree, further_lines}
 use Rattle.ged_tree.specs.Documents.{are_at, are_records, is_document, HasLines}
 use Rattle.ged_tree.specs.inner.DocumentParts.{is_xref_at, is_record_tag, continued}
-use Rattle.ged_tree.specs.declared.owned.payload.Payload.{Payload}
-use Rattle.ged_tree.specs.declared.owned.payload.Payload.TheVariants.{Void, Pointer, Text}
+use Rattle.ged_tree.specs.declared.payload.Payload.{Payload}
+use Rattle.ged_tree.specs.declared.payload.Payload.TheVariants.{Void, Pointer, Text}
 use Rattle.ged_tree.specs.DocumentLines.{line_value, first_value, structure_lines, lines_of, document_lines}
 use Rattle.ged_tree.specs.inner.Trailers.{trailer_line}
 use Rattle.ged_tree.specs.TreeFaults.{is_cont, is_header, is_trailer, is_reference, is_empty, line_before, has_trailer, has_forbidden_xref, continues, is_misplaced_cont, fault_after, Pass, start, more}

@@ -1,6 +1,5 @@
 // Laws of the definitions that the contracts of this crate cite. The functions do nothing: their contracts are proved.
-ghost use Rattle.ged_tree.specs.Laws.{OneDocument, OneForEachPlace, ListedAtPlace, NextLine, BeginsOnLine, CountedLines, OnePlace};
-ghost use Rattle.ged_tree.specs.Laws.{NodesByTrees, RecordsByTrees, DocumentsByTrees};
+ghost use Rattle.ged_tree.specs.Laws.{OneDocument, OneForEachPlace, ListedAtPlace, NextLine, BeginsOnLine, CountedLines};
 
 /// The list of a document's structures, in the order of the file, belongs to no other document.
 pub fn one_document()
@@ -30,16 +29,4 @@ pub fn begins_on_line()
 /// The lines of a document are those of its structures, and TRLR's.
 pub fn counted_lines()
     ensures { CountedLines }
-{}
-
-/// A path leads to one structure at most.
-pub fn one_place()
-    ensures { OnePlace }
-{}
-
-/// Nodes, records and whole documents are known by their trees: no two have the same.
-pub fn known_by_trees()
-    ensures nodes { NodesByTrees }
-    ensures records { RecordsByTrees }
-    ensures documents { DocumentsByTrees }
 {}

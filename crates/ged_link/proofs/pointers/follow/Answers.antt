@@ -4,7 +4,7 @@ use Rattle.ged_line.specs.Bytes.{Bytes}
 use Rattle.ged_tree.specs.Trees.{further_lines}
 use Rattle.ged_tree.specs.Places.{structure_at}
 use Rattle.ged_tree.specs.Views.{payload_of}
-use Rattle.ged_tree.specs.declared.owned.payload.Payload.TheVariants.{Pointer}
+use Rattle.ged_tree.specs.declared.payload.Payload.TheVariants.{Pointer}
 use Rattle.ged_link.specs.declared.index.RecordPlace.{RecordPlace}
 use Rattle.ged_link.specs.LedByTags.{led_by}
 use Rattle.ged_link.specs.Indexes.{number_in, place_in}

@@ -1,5 +1,5 @@
 use Rattle.std.proofs.Common.{ap, ◌∙◌}
-use Rattle.ged_tree.specs.Records.{record_trees}
+use Rattle.ged_document.specs.Records.{record_trees}
 use Rattle.ged_link.specs.Links.{xrefs}
 use Rattle.ged_canon.proofs.writer.Parts.{sorted_known, sorted_distinct, as_numbering, numbered_parts}
 use Rattle.ged_canon.proofs.owned.documents.canonical_parts.Goals as goal

@@ -1,6 +1,6 @@
 use Rattle.std.proofs.Common.{None, ap, ◌∙◌}
 use Rattle.ged_tree.specs.Trees.{Tree, tree, structure_of}
-use Rattle.ged_tree.specs.Records.{record_trees}
+use Rattle.ged_document.specs.Records.{record_trees}
 use Rattle.ged_canon.proofs.writer.UseTests.{placed_whole}
 use Rattle.ged_canon.proofs.owned.placing.placed_parts.Goals as goal
 

@@ -5,8 +5,8 @@ use Rattle.std.proofs.lemmas.List.Sorted.{ranks_by, answers_always}
 use Rattle.std.proofs.lemmas.Option.{slice_get-get_or}
 use Rattle.ged_line.specs.Names.{tag_order}
 use Rattle.ged_tree.specs.Trees.{structure_of, records_of}
-use Rattle.ged_tree.specs.Records.{record_trees}
-use Rattle.ged_tree.specs.declared.owned.node.RecordNode.{RecordNode}
+use Rattle.ged_document.specs.Records.{record_trees}
+use Rattle.ged_document.specs.declared.node.RecordNode.{RecordNode}
 use Rattle.ged_link.specs.Links.{identifiers}
 use Rattle.ged_schema.specs.declared.context.Context.TheVariants.{File}
 use Rattle.ged_canon.specs.inner.Working.{grouped, is_named, sorted, used_trees}

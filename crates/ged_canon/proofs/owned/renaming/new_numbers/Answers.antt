@@ -5,8 +5,8 @@ use Rattle.std.proofs.lemmas.List.{append-nil, length_push, length-map, length-r
 use Rattle.std.proofs.lemmas.Option.{slice_get_within}
 use Rattle.ged_line.specs.Bytes.{Bytes}
 use Rattle.ged_tree.specs.Trees.{records_of}
-use Rattle.ged_tree.specs.Records.{record_trees}
-use Rattle.ged_tree.specs.declared.owned.node.RecordNode.{RecordNode}
+use Rattle.ged_document.specs.Records.{record_trees}
+use Rattle.ged_document.specs.declared.node.RecordNode.{RecordNode}
 use Rattle.ged_link.specs.Links.{xrefs, identifiers, IsRecordNumber}
 use Rattle.ged_link.specs.inner.Identifiers.{with_xref}
 use Rattle.ged_canon.proofs.writer.NewNumbers.{ArePlaces, places_more, names_more, fresh_name, name_among, numbered_among}

@@ -1,6 +1,6 @@
 use Rattle.std.proofs.Common.{◌≡◌, ◌≤◌, length, take}
 use Rattle.ged_tree.specs.Trees.{records_of}
-use Rattle.ged_tree.specs.Records.{record_trees}
+use Rattle.ged_document.specs.Records.{record_trees}
 use Rattle.ged_link.specs.Links.{xrefs, identifiers}
 use Rattle.ged_canon.proofs.writer.NewNumbers.{ArePlaces}
 use Rattle.ged_canon.proofs.owned.renaming.new_numbers.Given as goal

@@ -1,7 +1,7 @@
 use Rattle.std.proofs.Common.{◌≡◌, List, [], ◌∷◌, ◌++◌, map, sym, ap, ◌∙◌, arith}
 use Rattle.std.proofs.lemmas.List.{append-nil, append_assoc, map-append, nil_from_length}
-use Rattle.ged_tree.specs.Records.{record_trees}
-use Rattle.ged_tree.specs.declared.owned.node.RecordNode.{RecordNode}
+use Rattle.ged_document.specs.Records.{record_trees}
+use Rattle.ged_document.specs.declared.node.RecordNode.{RecordNode}
 use Rattle.ged_canon.specs.inner.Working.{number_of, renamed_record}
 use Rattle.ged_canon.proofs.writer.NewNames.{renamed_each_record}
 use Rattle.ged_canon.proofs.owned.renaming.renamed_records.Goals as goal

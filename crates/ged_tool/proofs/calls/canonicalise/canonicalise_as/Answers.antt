@@ -6,7 +6,7 @@ use Rattle.ged_canon.specs.declared.edition.Edition.{Edition}
 use Rattle.ged_canon.specs.declared.edition.Edition.TheVariants.{Second}
 use Rattle.ged_tool.specs.Canon.{IsCanon}
 use Rattle.ged_tool.specs.Headline.{AgreesWithFirst}
-use Rattle.ged_tool.proofs.calls.Refusals.{answered}
+use Rattle.ged_tool.proofs.calls.Answered.{answered}
 use Rattle.ged_tool.proofs.calls.CanonLaws.{headline, agrees_with_first}
 use Rattle.ged_tool.proofs.calls.canonicalise.canonicalise_as.Goals as goal
 

@@ -1,5 +1,5 @@
 -- What was made are the file's tidy bytes, of which the laws speak.
-use Rattle.ged_tool.proofs.calls.Refusals.{answered}
+use Rattle.ged_tool.proofs.calls.Answered.{answered}
 use Rattle.ged_tool.proofs.calls.TidyLaws.{headline}
 use Rattle.ged_tool.proofs.calls.tidy.tidy_as.Goals as goal
 

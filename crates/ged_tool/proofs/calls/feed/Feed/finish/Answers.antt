@@ -1,6 +1,6 @@
 use Rattle.std.proofs.Common.{IfOk, IfErr, subst}
 use Rattle.ged_schema.specs.declared.profile.Profile.{Profile}
-use Rattle.ged_tool.specs.Accepted.{IsAccepted, FileFaultAt, IsRefusal}
+use Rattle.ged_accept.specs.Accepted.{IsAccepted, FileFaultAt, IsRefusal}
 use Rattle.ged_tool.proofs.calls.feed.Feed.finish.Goals as goal
 
 pub returns : goal.returns

@@ -1,0 +1,6 @@
+pub mod CallerLemmas
+mod FileLaws
+mod Merging
+mod Noticing
+mod Refusals
+mod Told

@@ -1,0 +1,4 @@
+pub mod Accepting
+pub mod LineNumbers
+pub mod OneList
+pub mod Strict

@@ -1,0 +1,2 @@
+pub mod Accepting
+pub mod Merges

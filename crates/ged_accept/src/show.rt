@@ -1,0 +1,77 @@
+// A line for each structure of a document, with what the structure tables ask of its payload.
+ghost use Rattle.std.specs.Prelude.{◌≡◌, ◌≤◌, ◌+◌, ◌++◌, OnOk, IfOk, option_map};
+ghost use Rattle.ged_tree.specs.Runs.{IsRun, trees_between};
+ghost use Rattle.ged_schema.specs.Rows.{as_row};
+ghost use Rattle.ged_accept.specs.Shown.{row_word as word_of_row, shown_line, shown, IsShown};
+
+use crate::accepted::Accepted;
+use ged_schema::{Context, Rule, context_below, lookup_name};
+use ged_tree::{Forest, end_of_all, next_in_run};
+use itoa::Buffer;
+use std::alloc::{AllocError, Global};
+
+/// The word of a row's kind, or a hyphen where there is no row.
+fn row_word(rule: Option<Rule>) -> &'static str
+    ensures { result.now ≡ word_of_row (option_map as_row rule) }
+{
+    match rule {
+        Some(rule) => rule.kind.word(),
+        None => "-",
+    }
+}
+
+/// Appends the line of one structure.
+fn push_line(
+    level: usize,
+    tag: &str,
+    rule: Option<Rule>,
+    out: &mut Vec<u8>,
+) -> Result<(), AllocError>
+    ensures { OnOk result (out.new.items ≡ out.old.items ++ shown_line level tag.now (option_map as_row rule)) }
+{
+    let mut buffer = Buffer::new();
+    out.extend_from_slice(buffer.format(level).as_bytes())?;
+    out.push(b' ')?;
+    out.extend_from_slice(tag.as_bytes())?;
+    out.push(b' ')?;
+    out.extend_from_slice(row_word(rule).as_bytes())?;
+    out.push(b'\n')?;
+    Ok(())
+}
+
+/// Appends the lines of the structures of a run, and of those below them. The run stands at a level and in a context.
+fn push_shown<F: Forest>(
+    forest: &F,
+    level: usize,
+    context: Context,
+    start: usize,
+    end: usize,
+    out: &mut Vec<u8>,
+) -> Result<(), AllocError>
+    requires run { IsRun (F.trees forest.now) start end }
+    requires level { level ≤ start }
+    ensures { OnOk result (out.new.items ≡ out.old.items
+        ++ shown level context (trees_between (F.trees forest.now) start end)) }
+{
+    let mut place = start;
+    while let Some(after) = next_in_run(forest, place, end) {
+        let tag = forest.tag(place);
+        let rule = lookup_name(context, tag);
+        push_line(level, tag, rule, out)?;
+        let below = context_below(rule.as_ref());
+        push_shown(forest, level + 1, below, place + 1, after, out)?;
+        place = after;
+    }
+    Ok(())
+}
+
+/// A line for each structure of an accepted file, in order: its level, its tag and the word of its row's kind, or `-`
+/// where the structure tables have no row for it. TRLR has no line. Grows.
+pub fn show_text(alloc: Global, accepted: &Accepted<'_>) -> Result<Vec<u8>, AllocError>
+    ensures { IfOk result (λ text. IsShown accepted.now text.items) }
+{
+    let flat = accepted.flat();
+    let mut out = Vec::new(alloc);
+    push_shown(flat, 0, Context::File, 0, end_of_all(flat), &mut out)?;
+    Ok(out)
+}

@@ -1,0 +1,251 @@
+// New files, which are written beside the file whose place they take.
+ghost use Rattle.std.specs.Prelude.{◌≡◌, None, false, IfOk, OnOk, OnErr};
+ghost use Rattle.std.specs.Io.{WritesAtMost};
+ghost use Rattle.ged_devices.specs.Devices.{failed_after};
+
+use crate::devices::{Failed, Sink};
+use crate::reasons::Reason;
+use itoa::Buffer;
+use std::alloc::Global;
+use std::fs::{self, OpenFile, OpenOptions, Permissions};
+use std::io::{self, ErrorKind, Write};
+use std::os::unix::fs::{OpenOptionsExt, PermissionsExt};
+use std::rt::Files;
+
+/// How many names are tried for a new file.
+const TRIES: u64 = 100;
+
+/// The most bytes of a new file's name.
+const NAME_ROOM: usize = 40;
+
+/// Who may read and write a new file that is still to get the permissions of another: who runs the program.
+const OWN_MODE: u32 = 0o600;
+
+/// What has become of a new file.
+#[derive(Clone, Copy, PartialEq, Eq)]
+pub enum Fate {
+    /// It was not created yet, or stands beside the file whose place it is to take.
+    Pending,
+    /// It has taken that file's place.
+    Placed,
+    /// It was given up: it never was created, or the system was told to remove it.
+    Dropped,
+}
+
+/// A new file of the system, which is to take the place of another. It is created by its first write, beside the other one, and
+/// keeps the permissions of that.
+#[derive(Drop)]
+pub struct NewFile<'a, F: Files> {
+    files: &'a F,
+    reason: &'a Reason,
+    target: String,
+    folder: String,
+    path: String,
+    mode: Option<u32>,
+    file: Option<F::File>,
+    pub fate: Fate,
+    pub(crate) failed: bool,
+}
+
+impl<'a, F: Files> NewFile<'a, F> {
+    /// A new file for the place of the one of this name. Nothing is created yet. Answers an error where no file can take that
+    /// place: there is one that is no regular file, or may not be written; and where no memory was found. Grows.
+    pub fn new(
+        alloc: Global,
+        files: &'a F,
+        reason: &'a Reason,
+        name: &str,
+    ) -> io::Result<NewFile<'a, F>>
+        ensures no_failure { IfOk result (λ draft. draft.failed ≡ false) }
+    {
+        let target = target_of(alloc, files, name)?;
+        let mode = mode_of(files, target.as_str())?;
+        let folder = folder_of(alloc, target.as_str())?;
+        let path = String::with_capacity(alloc, folder.len() + NAME_ROOM)?;
+        Ok(NewFile {
+            files,
+            reason,
+            target,
+            folder,
+            path,
+            mode,
+            file: None,
+            fate: Fate::Pending,
+            failed: false,
+        })
+    }
+
+    /// Creates the file under the first name that no other has. It keeps the permissions of the file whose place it is to
+    /// take.
+    fn create(&mut self) -> io::Result<()>
+        ensures { self.new.failed ≡ self.old.failed }
+    {
+        let file = self.open_new()?;
+        let kept = match self.mode {
+            Some(mode) => file.set_permissions(Permissions::from_mode(mode)),
+            None => Ok(()),
+        };
+        self.file = Some(file);
+        kept
+    }
+
+    fn open_new(&mut self) -> io::Result<F::File>
+        ensures { self.new.failed ≡ self.old.failed }
+    {
+        for number in 0..TRIES {
+            self.name(number)?;
+            match self.options().open(self.files, self.path.as_str()) {
+                Err(error) if error.kind() == ErrorKind::AlreadyExists => {}
+                opened => return opened,
+            }
+        }
+        Err(io::Error::from(ErrorKind::AlreadyExists))
+    }
+
+    /// The path by which the file is created next. Its room is there, so that no memory is taken.
+    fn name(&mut self, number: u64) -> io::Result<()>
+        ensures { self.new.failed ≡ self.old.failed }
+    {
+        let mut buffer = Buffer::new();
+        self.path.clear();
+        self.path.push_str(self.folder.as_str())?;
+        self.path.push_str(".gedtool-")?;
+        self.path.push_str(buffer.format(number))?;
+        self.path.push_str(".new")?;
+        Ok(())
+    }
+
+    fn options(&self) -> OpenOptions {
+        let mut options = OpenOptions::new();
+        options.write(true).create_new(true);
+        if self.mode.is_some() {
+            options.mode(OWN_MODE);
+        }
+        options
+    }
+
+    fn write_some(&mut self, bytes: &[u8]) -> io::Result<usize>
+        ensures bound { WritesAtMost result bytes.now }
+        ensures failure { self.new.failed ≡ self.old.failed }
+    {
+        if self.file.is_none() {
+            self.create()?;
+        }
+        match &mut self.file {
+            Some(file) => file.write(bytes),
+            None => Ok(0),
+        }
+    }
+
+    /// Syncs the file, and lets it take the other's place.
+    fn rename(&mut self) -> io::Result<()>
+        ensures { self.new.failed ≡ self.old.failed }
+    {
+        if self.file.is_none() {
+            self.create()?;
+        }
+        match &self.file {
+            Some(file) => file.sync_all()?,
+            None => {}
+        }
+        fs::rename(self.files, self.path.as_str(), self.target.as_str())
+    }
+
+    /// Puts the file in the other's place once it is synced, or gives it up and answers Failed where that can't be. Takes no memory.
+    pub fn place(&mut self) -> Result<(), Failed>
+        ensures failure { self.new.failed ≡ failed_after self.old.failed result }
+        ensures placed { OnOk result (self.new.fate ≡ Fate.Placed) }
+        ensures dropped { OnErr result (self.new.fate ≡ Fate.Dropped) }
+    {
+        match self.rename() {
+            Ok(()) => {
+                self.fate = Fate::Placed;
+                Ok(())
+            }
+            Err(error) => {
+                self.reason.note(&error);
+                self.give_up();
+                self.failed = true;
+                Err(Failed)
+            }
+        }
+    }
+
+    /// Gives the file up. One that was created is removed; if the system refuses that too, nothing more can be done.
+    /// Takes no memory.
+    pub fn give_up(&mut self)
+        ensures failure { self.new.failed ≡ self.old.failed }
+        ensures dropped { self.new.fate ≡ Fate.Dropped }
+    {
+        if self.file.take().is_some() {
+            let _ = fs::remove_file(self.files, self.path.as_str());
+        }
+        self.fate = Fate::Dropped;
+    }
+}
+
+impl<F: Files> Sink for NewFile<'_, F> {
+    ghost failed = { λ s. s.failed };
+
+    // no contract can say what the system's files hold
+    ghost taken = { λ _. None };
+
+    fn write(&mut self, bytes: &[u8]) -> Result<usize, Failed> {
+        match self.write_some(bytes) {
+            Ok(count) if count > 0 || bytes.is_empty() => Ok(count),
+            Ok(_) => {
+                self.failed = true;
+                Err(Failed)
+            }
+            Err(error) => {
+                self.reason.note(&error);
+                self.failed = true;
+                Err(Failed)
+            }
+        }
+    }
+
+    fn failed(&self) -> bool {
+        self.failed
+    }
+}
+
+/// The path of the file that a name is of: where it is of a symbolic link, the file that this leads to.
+fn target_of<F: Files>(alloc: Global, files: &F, name: &str) -> io::Result<String> {
+    match fs::symlink_metadata(files, name) {
+        Ok(metadata) if metadata.is_symlink() => {
+            Ok(files.canonicalize(alloc, name)?.into_string())
+        }
+        _ => Ok(String::from_str(alloc, name)?),
+    }
+}
+
+/// The permissions of the file of this path, or `None` where there is none. One that is no regular file, or may not be
+/// written, is an error, so that no device is replaced, and no file that is protected.
+fn mode_of<F: Files>(files: &F, path: &str) -> io::Result<Option<u32>> {
+    let metadata = match fs::metadata(files, path) {
+        Ok(metadata) => metadata,
+        Err(error) if error.kind() == ErrorKind::NotFound => return Ok(None),
+        Err(error) => return Err(error),
+    };
+    if metadata.is_dir() {
+        return Err(io::Error::from(ErrorKind::IsADirectory));
+    }
+    if !metadata.is_file() {
+        return Err(io::Error::from(ErrorKind::Unsupported));
+    }
+    OpenOptions::new().write(true).open(files, path)?;
+    Ok(Some(metadata.permissions().mode()))
+}
+
+/// The folder of the file of this path, with its slash; nothing where the path has none.
+fn folder_of(alloc: Global, path: &str) -> io::Result<String> {
+    match path.rsplit_once('/') {
+        Some((folder, _)) => {
+            let mut folder = String::from_str(alloc, folder)?;
+            folder.push_str("/")?;
+            Ok(folder)
+        }
+        None => Ok(String::new(alloc)),
+    }
+}

@@ -1,0 +1,96 @@
+// Why a device failed, as the system says it.
+ghost use Rattle.std.specs.Prelude.{ℕ};
+
+use std::cell::Cell;
+use std::io;
+use std::io::{ErrorKind, Read, Write};
+
+/// The reason of the last failure of a device. It is kept for explanations alone: no contract speaks of it.
+#[derive(Drop)]
+pub struct Reason {
+    words: Cell<&'static str>,
+}
+
+impl Reason {
+    /// No device has failed. Takes no memory.
+    pub const fn new() -> Reason {
+        Reason {
+            words: Cell::new(""),
+        }
+    }
+
+    /// Keeps the reason of an error. Takes no memory.
+    pub fn note(&self, error: &io::Error) {
+        self.words.set(words_of(error.kind()));
+    }
+
+    /// The reason in words; empty where no device has failed, or the system gave a reason that has no words here.
+    /// Takes no memory.
+    pub fn words(&self) -> &'static str {
+        self.words.get()
+    }
+}
+
+fn words_of(kind: ErrorKind) -> &'static str {
+    match kind {
+        ErrorKind::NotFound => "no such file",
+        ErrorKind::PermissionDenied => "permission denied",
+        ErrorKind::IsADirectory => "is a directory",
+        ErrorKind::NotADirectory => "not a directory",
+        ErrorKind::StorageFull => "no space left",
+        ErrorKind::QuotaExceeded => "no space left for this user",
+        ErrorKind::FileTooLarge => "file too large",
+        ErrorKind::ReadOnlyFilesystem => "read-only file system",
+        ErrorKind::FilesystemLoop => "too many symbolic links",
+        ErrorKind::InvalidFilename => "file name too long",
+        ErrorKind::BrokenPipe => "broken pipe",
+        ErrorKind::Unsupported => "not a regular file",
+        _ => "",
+    }
+}
+
+/// A device that notes why it failed. What it reads and writes are the device's own bytes.
+#[derive(Drop)]
+pub struct Noted<'a, D> {
+    device: D,
+    reason: &'a Reason,
+}
+
+impl<'a, D> Noted<'a, D> {
+    /// The device, whose failures are noted as this reason. Takes no memory.
+    pub fn new(device: D, reason: &'a Reason) -> Noted<'a, D> {
+        Noted { device, reason }
+    }
+}
+
+impl<R: Read> Read for Noted<'_, R> {
+    ghost remaining = { λ s. R.remaining s.device };
+
+    fn read(&mut self, buf: &mut [u8]) -> io::Result<usize> {
+        let result = self.device.read(buf);
+        if let Err(error) = &result {
+            self.reason.note(error);
+        }
+        result
+    }
+}
+
+impl<W: Write> Write for Noted<'_, W> {
+    ghost contents = { λ s. W.contents s.device };
+
+    fn write(&mut self, buf: &[u8]) -> io::Result<usize> {
+        let result = self.device.write(buf);
+        if let Err(error) = &result {
+            self.reason.note(error);
+        }
+        result
+    }
+
+    fn flush(&mut self) -> io::Result<()> {
+        let result = self.device.flush();
+        if let Err(error) = &result {
+            self.reason.note(error);
+        }
+        result
+    }
+}

@@ -1,0 +1,5 @@
+mod Copies
+mod Leading
+mod LineTests
+mod OneToOne
+mod Steps

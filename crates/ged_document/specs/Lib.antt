@@ -1,0 +1,5 @@
+pub mod Records
+pub mod Paths
+pub mod Building
+pub mod Laws
+pub mod inner

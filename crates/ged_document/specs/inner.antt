@@ -1,0 +1,4 @@
+pub mod Copies
+pub mod PathLines
+pub mod TreeSizes
+pub mod Trees

@@ -1,6 +1,0 @@
-use Rattle.std.proofs.Common.{◌≡◌, take}
-use Rattle.ged_tool.specs.Notices.{notice_lines}
-use Rattle.ged_tool.proofs.calls.notices.verdict.Given as goal
-
-abbrev pub invariant-loop-notice : goal.invariant-loop-notice
-invariant-loop-notice l = l.out.items ≡ notice_lines (take l.notice-index l.notice-items)

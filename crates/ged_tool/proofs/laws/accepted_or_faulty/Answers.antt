@@ -1,5 +1,0 @@
-use Rattle.ged_tool.proofs.laws.Accepting.{accepted_or_faulty}
-use Rattle.ged_tool.proofs.laws.accepted_or_faulty.Goals as goal
-
-pub returns : goal.returns
-returns c = accepted_or_faulty c.args.profile c.args.file.now c.document_or_fault_of_file.ensures

@@ -1,5 +1,0 @@
-use Rattle.ged_tool.proofs.laws.LineNumbers.{lines_from_one}
-use Rattle.ged_tool.proofs.laws.lines_from_one.Goals as goal
-
-pub returns : goal.returns
-returns c = lines_from_one

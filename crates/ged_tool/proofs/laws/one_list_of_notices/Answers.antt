@@ -1,5 +1,0 @@
-use Rattle.ged_tool.proofs.laws.OneList.{one_list}
-use Rattle.ged_tool.proofs.laws.one_list_of_notices.Goals as goal
-
-pub returns : goal.returns
-returns c = one_list

@@ -1,5 +1,0 @@
-use Rattle.ged_tool.proofs.laws.Strict.{strict_refuses}
-use Rattle.ged_tool.proofs.laws.strict_refuses_notices.Goals as goal
-
-pub returns : goal.returns
-returns c = strict_refuses

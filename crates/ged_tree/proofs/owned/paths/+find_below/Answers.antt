@@ -1,7 +1,0 @@
-use Rattle.std.proofs.Common.{arith}
-use Rattle.std.proofs.lemmas.Grind.{common_steps}
-use Rattle.ged_tree.proofs.theory.Paths.{path_steps}
-use Rattle.ged_tree.proofs.owned.paths.+find_below.Goals as goal
-
-pub returns-then-left-eq0 : goal.returns-then-left-eq0
-returns-then-left-eq0 t c = grind (arith, common_steps, path_steps)

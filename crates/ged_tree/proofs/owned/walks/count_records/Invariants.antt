@@ -1,7 +1,0 @@
-use Rattle.std.proofs.Common.{◌≡◌, drop, ◌+◌}
-use Rattle.ged_tree.specs.Trees.{trees_count}
-use Rattle.ged_tree.specs.Records.{record_trees}
-use Rattle.ged_tree.proofs.owned.walks.count_records.Given as goal
-
-abbrev pub invariant-loop-each : goal.invariant-loop-each
-invariant-loop-each l = l.total + trees_count (record_trees (drop l.each-index l.records)) ≡ trees_count (record_trees l.records)
