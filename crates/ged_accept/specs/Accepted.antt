@@ -38,13 +38,16 @@ abbrev pub TablesFaultAt : Profile → Trees → ℕ → FileFault → Type 0
 TablesFaultAt profile document line kind =
     (at : SchemaAt) × IsFirstFaultAs profile document at × (line ≡ at.line) × (kind ≡ file_fault_of_tables at.fault)
 
--- The fault of a file under a profile, and its line. Its lines are judged first; then, where they are a document's, its
--- cross-references; then, where these are resolved, its structures.
+-- the fault of a document under a profile, in its cross-references; or where these are resolved, in its structures
+abbrev pub DocumentFaultAt : Profile → Trees → ℕ → FileFault → Type 0
+DocumentFaultAt profile document line kind =
+    XrefFaultAt document line kind ⊎ (Resolved document × TablesFaultAt profile document line kind)
+
+-- The fault of a file under a profile, and its line. Its lines are judged first, and then, where they are a document's, that.
 abbrev pub FileFaultAt : Profile → Bytes → ℕ → FileFault → Type 0
 FileFaultAt profile file line kind =
     LinesFaultAt file line kind
-    ⊎ ((document : Trees) × HasFile document file
-    × (XrefFaultAt document line kind ⊎ (Resolved document × TablesFaultAt profile document line kind)))
+    ⊎ ((document : Trees) × HasFile document file × DocumentFaultAt profile document line kind)
 
 -- why there is no answer: a fault of the file at a line where it stands, or want of memory
 abbrev pub IsRefusal : (ℕ → FileFault → Type 0) → Fault → Type 0

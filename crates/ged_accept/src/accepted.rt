@@ -10,8 +10,8 @@ ghost use Rattle.ged_link.specs.Indexes.{IsIndexOf};
 ghost use Rattle.ged_schema.specs.Checked.{Checked};
 ghost use Rattle.ged_schema.specs.Profiles.{CheckedAs};
 ghost use Rattle.ged_schema.specs.Unlisted.{IsCoverage};
-ghost use Rattle.ged_accept.specs.Accepted.{IsAccepted, FileFaultAt, IsRefusal, LinesFaultAt, TablesFaultAt, XrefFaultAt};
-ghost use Rattle.ged_accept.specs.inner.Accepting.{DocumentFaultAt, IsAcceptable};
+ghost use Rattle.ged_accept.specs.Accepted.{IsAccepted, FileFaultAt, IsRefusal, DocumentFaultAt, LinesFaultAt, TablesFaultAt, XrefFaultAt};
+ghost use Rattle.ged_accept.specs.inner.Accepting.{IsAcceptable};
 
 use ged_document::{Document, document_of};
 use ged_faults::{Fault, FileFault};

@@ -1,9 +1,8 @@
 -- The canonical spelling of a file's lines has at most four bytes more than the file: a mark, and an end after the last line.
-use Rattle.std.proofs.Common.{◌≡◌, ℕ, ◌+◌, ◌<◌, ◌≤◌, List, [], ◌∷◌, ◌++◌, ◌∙◌, inl, inr, length, decimal, ap, arith, length-append}
+use Rattle.std.proofs.Common.{◌≡◌, ℕ, ◌+◌, ◌<◌, ◌≤◌, List, [], ◌∷◌, ◌++◌, ◌∙◌, inl, inr, length, ap, arith, length-append}
 use Rattle.ged_line.specs.Bytes.{Bytes, space, line_feed}
-use Rattle.ged_line.specs.Lines.{Value, Empty, Void, Pointer, Text, LineParts, xref_part}
-use Rattle.ged_line.specs.inner.LineTexts.{IsValuePart}
-use Rattle.ged_line.specs.Spelling.{LineText, value_part, spelling, spelled_lines}
+use Rattle.ged_line.specs.Lines.{LineParts}
+use Rattle.ged_line.specs.Spelling.{LineText, spelling, spelled_lines}
 use Rattle.ged_line.specs.Pieces.{IsEnd, IsBehindMark}
 use Rattle.ged_line.specs.Files.{SpellLines, IsRespelling}
 use Rattle.ged_tool.specs.declared.runs.answer.Command.TheVariants.{Lines}

@@ -1,5 +1,5 @@
 -- What is known of digests that are told one after the other.
-use Rattle.std.proofs.Common.{◌≡◌, ℕ, ◌+◌, ◌<◌, ◌≤◌, Bool, true, false, cond, IsTrue, List, [], ◌∷◌, ◌++◌, take, drop, map, length, get_or, slice_index_or, count_by, nat_lt, Option, Some, None, Bor, ◌⊎◌, refl, sym, subst, ap, ◌∙◌, arith, append_assoc, append-nil, take-append-drop}
+use Rattle.std.proofs.Common.{◌≡◌, ℕ, ◌+◌, ◌<◌, ◌≤◌, Bool, true, false, cond, IsTrue, List, [], ◌∷◌, ◌++◌, take, drop, length, get_or, slice_index_or, count_by, nat_lt, Option, None, Bor, ◌⊎◌, refl, sym, subst, ap, ◌∙◌, arith, append_assoc, append-nil, take-append-drop}
 use Rattle.std.proofs.lemmas.Bool.{ltb-true, ltb-false}
 use Rattle.std.proofs.lemmas.List.{get_or-map, length-map, take_more}
 use Rattle.std.proofs.lemmas.List.Sums.{count_by_more_no, count_by_more_yes, sum_by-take-le}
