@@ -8,7 +8,7 @@ pub fn faulty_file_has_none()
 {}
 
 /// The first fault of a file is that of the lines and the stop that reading it gives: [`crate::flatten`] answers what
-/// [`crate::build`] answers for what [`ged_line::read_lines`] reads.
+/// `build` of ged_document answers for what [`ged_line::read_lines`] reads.
 pub fn file_fault_is_build_fault()
     ensures { FileFaultIsBuildFault }
 {}

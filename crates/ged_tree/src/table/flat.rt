@@ -19,7 +19,7 @@ use crate::table::structure::FlatStructure;
 use std::marker::Model;
 
 /// A document as a vector of its structures, in the order of the file, and a vector of the further lines of their
-/// payloads. All texts are slices of the file. Contracts see it as they see a [`crate::Document`].
+/// payloads. All texts are slices of the file. Contracts see it as its trees.
 #[derive(Drop)]
 pub struct Flat<'a> {
     file: &'a str,
