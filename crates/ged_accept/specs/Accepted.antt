@@ -43,7 +43,7 @@ abbrev pub DocumentFaultAt : Profile → Trees → ℕ → FileFault → Type 0
 DocumentFaultAt profile document line kind =
     XrefFaultAt document line kind ⊎ (Resolved document × TablesFaultAt profile document line kind)
 
--- The fault of a file under a profile, and its line. Its lines are judged first, and then, where they are a document's, that.
+-- the fault of a file under a profile, and its line: that of its lines; or where these are a document's, that of the document
 abbrev pub FileFaultAt : Profile → Bytes → ℕ → FileFault → Type 0
 FileFaultAt profile file line kind =
     LinesFaultAt file line kind

@@ -43,6 +43,7 @@ pub struct NewFile<'a, F: Files> {
     path: String,
     mode: Option<u32>,
     file: Option<F::File>,
+    /// What has become of it.
     pub fate: Fate,
     pub(crate) failed: bool,
 }
@@ -57,6 +58,7 @@ impl<'a, F: Files> NewFile<'a, F> {
         name: &str,
     ) -> io::Result<NewFile<'a, F>>
         ensures no_failure { IfOk result (λ draft. draft.failed ≡ false) }
+        ensures pending { IfOk result (λ draft. draft.fate ≡ Fate.Pending) }
     {
         let target = target_of(alloc, files, name)?;
         let mode = mode_of(files, target.as_str())?;
