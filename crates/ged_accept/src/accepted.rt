@@ -13,9 +13,10 @@ ghost use Rattle.ged_schema.specs.Unlisted.{IsCoverage};
 ghost use Rattle.ged_accept.specs.Accepted.{IsAccepted, FileFaultAt, IsRefusal, DocumentFaultAt, LinesFaultAt, TablesFaultAt, XrefFaultAt};
 ghost use Rattle.ged_accept.specs.inner.Accepting.{IsAcceptable};
 
+use crate::readers::Readers;
 use ged_document::{Document, document_of};
 use ged_faults::{Fault, FileFault};
-use ged_link::{Index, LinkFault, resolve};
+use ged_link::{Index, LinkFault, resolve_with};
 use ged_schema::{Coverage, LineWalk, Profile, check_walked};
 use ged_tree::{BuildFault, Flat, LineReader, flatten_with};
 use std::alloc::{AllocError, Global};
@@ -86,26 +87,29 @@ pub fn accept(alloc: Global, profile: Profile, bytes: &[u8]) -> Result<Accepted<
     ensures accepted { IfOk result (λ accepted. IsAccepted profile bytes.now accepted) }
     ensures refused { IfErr result (IsRefusal (FileFaultAt profile bytes.now)) }
 {
-    let mut walk = LineWalk::new();
-    match flatten_with(alloc, bytes, &mut walk) {
-        Ok(flat) => accept_table(alloc, profile, flat, &walk),
+    let Ok(mut readers) = Readers::new(alloc) else {
+        return Err(Fault::Memory(AllocError));
+    };
+    match flatten_with(alloc, bytes, &mut readers) {
+        Ok(flat) => accept_table(alloc, profile, flat, readers),
         Err(fault) => Err(told_of_lines(fault)),
     }
 }
 
-/// A document that is accepted, whose lines a walk has read, or why it is not.
+/// A document that is accepted, whose lines were read, or why it is not.
 fn accept_table<'a>(
     alloc: Global,
     profile: Profile,
     flat: Flat<'a>,
-    walk: &LineWalk,
+    readers: Readers,
 ) -> Result<Accepted<'a>, Fault>
-    requires { ⟦<LineWalk as LineReader>⟧.has_read walk.now (document_lines flat) }
+    requires { ⟦<Readers as LineReader>⟧.has_read readers (document_lines flat) }
     ensures accepted { IfOk result (IsAcceptable profile flat.entry) }
     ensures refused { IfErr result (IsRefusal (DocumentFaultAt profile flat.entry)) }
 {
-    match resolve(alloc, &flat) {
-        Ok(index) => accept_resolved(profile, flat, index, walk),
+    let Readers { walk, records } = readers;
+    match resolve_with(alloc, &flat, records) {
+        Ok(index) => accept_resolved(profile, flat, index, &walk),
         Err(fault) => Err(told_of_links(fault)),
     }
 }

@@ -4,6 +4,7 @@
 mod accepted;
 mod laws;
 mod noticed;
+mod readers;
 mod show;
 
 pub use accepted::{Accepted, accept};

@@ -1,15 +1,16 @@
 // Calls of `ged_link`, which any forest answers.
+ghost use Rattle.std.specs.Prelude.{IfOk};
 ghost use Rattle.ged_link.specs.Indexes.{IsIndexOf};
 
 use crate::answers::Answer;
 use crate::questions::Question;
 use ged_line::Xref;
 use ged_link::{
-    Index, LinkFault, Notice, NoticeKind, PointerCursor, RecordCursor, RecordType, first_one_way,
-    identifiers_have_places, one_link_fault, one_record_has_name, one_way, one_way_has_place,
-    resolve, resolved_is_faultless, resolved_or_fault,
+    Index, LinkFault, Notice, NoticeKind, PointerCursor, RecordCursor, RecordReader, RecordType,
+    first_one_way, identifiers_have_places, one_link_fault, one_record_has_name, one_way,
+    one_way_has_place, resolve, resolve_with, resolved_is_faultless, resolved_or_fault,
 };
-use ged_tree::{Forest, PayloadView};
+use ged_tree::{BuildFault, Forest, PayloadView, flatten_with};
 use std::alloc::Global;
 
 pub(crate) fn has_call(name: &str) -> bool {
@@ -44,7 +45,34 @@ pub(crate) fn tell<F: Forest>(
     forest: &F,
     told: &mut Answer,
 ) {
-    match resolve(alloc, forest) {
+    tell_resolved(alloc, question, forest, resolve(alloc, forest), told);
+}
+
+/// Tells what a call answers for the table of a file whose records a reader has listed while it was made.
+pub(crate) fn tell_listed(alloc: Global, question: Question<'_>, file: &[u8], told: &mut Answer) {
+    let Ok(mut records) = RecordReader::new(alloc) else {
+        return told.lack_memory();
+    };
+    match flatten_with(alloc, file, &mut records) {
+        Ok(flat) => {
+            let resolved = resolve_with(alloc, &flat, records);
+            tell_resolved(alloc, question, &flat, resolved, told);
+        }
+        Err(BuildFault::At(_)) => told.say("no document"),
+        Err(BuildFault::Memory(_)) => told.lack_memory(),
+    }
+}
+
+fn tell_resolved<F: Forest>(
+    alloc: Global,
+    question: Question<'_>,
+    forest: &F,
+    resolved: Result<Index, LinkFault>,
+    told: &mut Answer,
+)
+    requires { IfOk resolved (λ index. IsIndexOf (F.trees forest.now) index) }
+{
+    match resolved {
         Ok(index) => tell_index(alloc, question, forest, &index, told),
         Err(LinkFault::Duplicate(line)) => told.say_fault(17, line),
         Err(LinkFault::Dangling(line)) => told.say_fault(18, line),

@@ -36,9 +36,9 @@ pub(crate) fn answer(alloc: Global, call: &str, argument: &[u8], answer: &mut An
             answer.append(&told);
         }
     }
-    if question.name == "check_tables" {
+    if is_told_by_lines(question.name) {
         let mut told = Answer::new(alloc);
-        tables::tell_walked(alloc, question, argument, &mut told);
+        say_by_lines(alloc, question, argument, &mut told);
         if told.differs(answer) {
             answer.say(" by the lines ");
             answer.append(&told);
@@ -49,6 +49,19 @@ pub(crate) fn answer(alloc: Global, call: &str, argument: &[u8], answer: &mut An
 
 fn is_about_forests(name: &str) -> bool {
     links::has_call(name) || tables::has_call(name) || canon::has_call(name)
+}
+
+/// Whether what reads the lines of a file has an answer to a call, too.
+fn is_told_by_lines(name: &str) -> bool {
+    name == "check_tables" || links::has_call(name)
+}
+
+fn say_by_lines(alloc: Global, question: Question<'_>, file: &[u8], told: &mut Answer) {
+    if links::has_call(question.name) {
+        links::tell_listed(alloc, question, file, told)
+    } else {
+        tables::tell_walked(alloc, question, file, told)
+    }
 }
 
 fn say_of_table(alloc: Global, question: Question<'_>, file: &[u8], told: &mut Answer) {

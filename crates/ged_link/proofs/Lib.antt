@@ -7,6 +7,7 @@ pub mod ListingLemmas
 pub mod TypeLemmas
 pub mod LawLemmas
 pub mod RecordLemmas
+pub mod RecordLineLemmas
 pub mod TargetLemmas
 pub mod KeptPlaces
 pub mod UseLemmas

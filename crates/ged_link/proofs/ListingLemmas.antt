@@ -94,14 +94,15 @@ types_next types k left s below next is are = go (drop k types) refl (subst (Are
 
 -- what is listed of the next record, by the halves of its number
 pub listed_here : (names : List (ℕ × ℕ)) (digits : List ℕ) (k : ℕ) (xref : Option Bytes) (more : List (Option Bytes)) → drop k names ≡ map listed_halves (xref ∷ more) → drop k digits ≡ map listed_digits (xref ∷ more)
-    → (number read : ℕ) (at : ℕ × ℕ) → at ≡ slice_index_or names k (0, 0) → number ≡ at.0 + at.1 * 4294967296 → read ≡ slice_index_or digits k 0 → ◌≡◌ {A = ListedName} (record { number = number; digits = read }) (listed_name xref)
-listed_here names digits k xref more left left_digits number read at at_is joins read_is =
+    → (number read : ℕ) (at beyond : ℕ × ℕ) → at ≡ slice_index_or names k beyond → number ≡ at.0 + at.1 * 4294967296 → (lacking : ℕ) → read ≡ slice_index_or digits k lacking
+    → ◌≡◌ {A = ListedName} (record { number = number; digits = read }) (listed_name xref)
+listed_here names digits k xref more left left_digits number read at beyond at_is joins lacking read_is =
     let whole = (listed_name xref).number in
-    let pair : at ≡ (whole % 4294967296, whole / 4294967296) = at_is ∙ left_first names k (listed_halves xref) (map listed_halves more) left (0, 0) in
+    let pair : at ≡ (whole % 4294967296, whole / 4294967296) = at_is ∙ left_first names k (listed_halves xref) (map listed_halves more) left beyond in
     let low : at.0 ≡ whole % 4294967296 = ap (λ (p : ℕ × ℕ). p.0) pair in
     let high : at.1 ≡ whole / 4294967296 = ap (λ (p : ℕ × ℕ). p.1) pair in
     let same : number ≡ whole = whole_of number whole at.0 at.1 joins low high in
-    let same_digits : read ≡ (listed_name xref).digits = read_is ∙ left_first digits k (listed_digits xref) (map listed_digits more) left_digits 0 in
+    let same_digits : read ≡ (listed_name xref).digits = read_is ∙ left_first digits k (listed_digits xref) (map listed_digits more) left_digits lacking in
     ap (λ (n : ℕ). record { number = n; digits = read }) same ∙ ap (λ (r : ℕ). record { number = whole; digits = r }) same_digits
   where
     whole_of : (number whole low high : ℕ) → number ≡ low + high * 4294967296 → low ≡ whole % 4294967296 → high ≡ whole / 4294967296 → number ≡ whole

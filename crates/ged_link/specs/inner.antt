@@ -5,5 +5,6 @@ pub mod Layout
 pub mod LinkWalks
 pub mod Listing
 pub mod PairSets
+pub mod RecordLines
 pub mod Resolving
 pub mod Slots

@@ -15,6 +15,7 @@ mod notices;
 mod pairs;
 mod places;
 mod pointers;
+mod record_reader;
 mod record_type;
 mod resolving;
 mod slots;
@@ -28,6 +29,7 @@ pub use laws::{
 };
 pub use notices::{Notice, NoticeKind, first_one_way, one_way};
 pub use places::RecordCursor;
+pub use record_reader::RecordReader;
 pub use record_type::RecordType;
-pub use resolving::resolve;
+pub use resolving::{resolve, resolve_with};
 pub use targets::PointerCursor;

@@ -1,16 +1,14 @@
-// What one walk over the records tells of all of them: enough to keep each in its slot without another look at its text.
+// What is listed of the records: enough to keep each in its slot without another look at its text.
 ghost use Rattle.std.specs.Prelude.{◌≡◌, ◌+◌, ◌*◌, ◌/◌, ◌%◌, ◌++◌, ◌∷◌, [], IfOk, OnOk, fold, map, replicate};
 ghost use Rattle.std.specs.Option.{option_copied};
-ghost use Rattle.ged_tree.specs.Trees.{records_of};
+ghost use Rattle.ged_tree.specs.Trees.{records_of, trees_count};
 ghost use Rattle.ged_tree.specs.Runs.{trees_between, IsRun};
 ghost use Rattle.ged_link.specs.Links.{identifiers};
-ghost use Rattle.ged_link.specs.Places.{ArePlaces};
 ghost use Rattle.ged_link.specs.inner.Layout.{counted, no_names};
-ghost use Rattle.ged_link.specs.inner.Listing.{listed_name, listed_halves, listed_digits, AreTypesOf};
+ghost use Rattle.ged_link.specs.inner.Listing.{listed_name, listed_halves, listed_digits, AreTypesOf, IsRecordList};
 
 use crate::layout::{Tally, count_name, no_tallies};
 use crate::names::number_of;
-use crate::places::kept_place;
 use crate::record_type::{RecordType, type_of};
 use crate::slots::read_number;
 use ged_tree::{Forest, next_in_run};
@@ -49,8 +47,6 @@ pub(crate) struct RecordList {
     /// The numbers behind their first bytes.
     pub(crate) digits: Vec<u32>,
     pub(crate) types: Vec<Option<RecordType>>,
-    /// As they are kept ([`kept_place`]).
-    pub(crate) places: Vec<u32>,
 }
 
 /// Counts the name of a record. The answer is what is listed of it.
@@ -94,48 +90,55 @@ pub(crate) fn joined(halves: (u32, u32)) -> u64
 }
 
 impl RecordList {
-    /// Of no records.
-    fn new(alloc: Global) -> Result<RecordList, AllocError>
+    /// Of no records. Grows.
+    pub(crate) fn new(alloc: Global) -> Result<RecordList, AllocError>
         ensures tallies { IfOk result (λ list. list.tallies.items ≡ replicate 256 no_names) }
         ensures names { IfOk result (λ list. list.names.items ≡ []) }
         ensures digits { IfOk result (λ list. list.digits.items ≡ []) }
         ensures types { IfOk result (λ list. list.types.items ≡ []) }
-        ensures places { IfOk result (λ list. list.places.items ≡ []) }
     {
         Ok(RecordList {
             tallies: no_tallies(alloc)?,
             names: Vec::new(alloc),
             digits: Vec::new(alloc),
             types: Vec::new(alloc),
-            places: Vec::new(alloc),
         })
     }
 
     /// One more record. Grows.
     #[inline(always)]
-    fn push(
+    pub(crate) fn push(
         &mut self,
         xref: Option<&str>,
         record_type: Option<RecordType>,
-        place: u32,
     ) -> Result<(), AllocError>
         ensures tallies { OnOk result (self.new.tallies.items ≡ counted self.old.tallies.items (option_copied xref.entry)) }
         ensures names { OnOk result (self.new.names.items ≡ self.old.names.items ++ listed_halves (option_copied xref.entry) ∷ []) }
         ensures digits { OnOk result (self.new.digits.items ≡ self.old.digits.items ++ listed_digits (option_copied xref.entry) ∷ []) }
         ensures types { OnOk result (self.new.types.items ≡ self.old.types.items ++ record_type ∷ []) }
-        ensures places { OnOk result (self.new.places.items ≡ self.old.places.items ++ place ∷ []) }
     {
         let name = list_name(&mut self.tallies, xref);
         self.names.push(halves(name.number))?;
         self.digits.push(name.digits)?;
         self.types.push(record_type)?;
-        self.places.push(place)?;
         Ok(())
     }
 }
 
+/// The place of the first record. The run of records goes on to the end of all.
+pub(crate) fn first_record<F: Forest>(forest: &F, end: usize) -> usize
+    requires end { end ≡ trees_count (F.trees forest.now) }
+    ensures run { IsRun (F.trees forest.now) result end }
+    ensures records { trees_between (F.trees forest.now) result end ≡ records_of (F.trees forest.now) }
+{
+    match next_in_run(forest, 0, end) {
+        Some(first) => first,
+        None => end,
+    }
+}
+
 /// The list of the records, which are from a place up to an end. Grows.
-pub(crate) fn list_records<F: Forest>(
+fn list_between<F: Forest>(
     alloc: Global,
     forest: &F,
     start: usize,
@@ -147,17 +150,25 @@ pub(crate) fn list_records<F: Forest>(
     ensures names { IfOk result (λ list. list.names.items ≡ map listed_halves (identifiers (records_of (F.trees forest.now)))) }
     ensures digits { IfOk result (λ list. list.digits.items ≡ map listed_digits (identifiers (records_of (F.trees forest.now)))) }
     ensures types { IfOk result (λ list. AreTypesOf list.types.items (records_of (F.trees forest.now))) }
-    ensures places { IfOk result (λ list. ArePlaces (F.trees forest.now) list.places.items) }
 {
     let mut list = RecordList::new(alloc)?;
     let mut place = start;
     while let Some(after) = next_in_run(forest, place, end) {
-        list.push(
-            forest.xref(place),
-            type_of(forest.tag(place)),
-            kept_place(place),
-        )?;
+        list.push(forest.xref(place), type_of(forest.tag(place)))?;
         place = after;
     }
     Ok(list)
+}
+
+/// The list of all records of a document, of which this is the end. Grows.
+pub(crate) fn list_records<F: Forest>(
+    alloc: Global,
+    forest: &F,
+    end: usize,
+) -> Result<RecordList, AllocError>
+    requires { end ≡ trees_count (F.trees forest.now) }
+    ensures { IfOk result (IsRecordList (F.trees forest.now)) }
+{
+    let start = first_record(forest, end);
+    list_between(alloc, forest, start, end)
 }

@@ -1,10 +1,12 @@
 // The places of a document's records, by the numbers of the records.
-ghost use Rattle.std.specs.Prelude.{◌≡◌, ◌<◌, ◌≤◌, ℕ, Some};
+ghost use Rattle.std.specs.Prelude.{◌≡◌, ◌<◌, ◌≤◌, ◌+◌, ℕ, Some, OnOk, length};
 ghost use Rattle.ged_line.specs.Bytes.{Bytes};
 ghost use Rattle.ged_tree.specs.Trees.{Trees};
 ghost use Rattle.ged_link.specs.Links.{IsRecordNumber};
 ghost use Rattle.ged_link.specs.LinkFaults.{HasXref};
 ghost use Rattle.ged_link.specs.Places.{ArePlaces};
+
+use std::alloc::AllocError;
 
 /// Where an [`crate::Index`] looks for a record first: behind the one that it found last.
 #[derive(Clone, Copy, Debug)]
@@ -31,6 +33,17 @@ pub(crate) fn kept_place(place: usize) -> u32
     } else {
         u32::MAX
     }
+}
+
+/// Adds the place of the next record, as it is kept. Grows.
+#[inline(always)]
+pub(crate) fn push_place(places: &mut Vec<u32>, place: usize) -> Result<(), AllocError>
+    ensures count { OnOk result (length places.new.items ≡ length places.old.items + 1) }
+    ensures kept { OnOk result ((document : Trees) → ((name : Bytes) → HasXref document place name → IsRecordNumber document (length places.old.items) name)
+        → ArePlaces document places.old.items → ArePlaces document places.new.items) }
+{
+    places.push(kept_place(place))?;
+    Ok(())
 }
 
 /// The number of the record at a place, if it is that at which the cursor stands, which then goes on.

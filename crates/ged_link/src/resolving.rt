@@ -2,6 +2,7 @@
 ghost use Rattle.std.specs.Prelude.{◌≡◌, ◌<◌, ◌⊎◌, ℕ, true, false, IfOk, IfErr, OnOk, List, Option, None, map, length, alloc_error, is_none};
 ghost use Rattle.ged_tree.specs.Trees.{records_of, trees_count};
 ghost use Rattle.ged_tree.specs.Documents.{is_document};
+ghost use Rattle.ged_tree.specs.DocumentLines.{document_lines};
 ghost use Rattle.ged_tree.specs.Places.{structure_at};
 ghost use Rattle.ged_tree.specs.Runs.{trees_between, IsRun};
 ghost use Rattle.ged_link.specs.Links.{Resolved, identifiers};
@@ -9,7 +10,7 @@ ghost use Rattle.ged_link.specs.LinkFaults.{HasLinkFault, IsRepeated};
 ghost use Rattle.ged_link.specs.Places.{ArePlaces};
 ghost use Rattle.ged_link.specs.Indexes.{IsIndexOf, AreRecords, AreTyped, found_in};
 ghost use Rattle.ged_link.specs.inner.Indexes.{HasNoOthers, IsKeyed};
-ghost use Rattle.ged_link.specs.inner.Listing.{listed_name, listed_halves, listed_digits, AreTypesOf};
+ghost use Rattle.ged_link.specs.inner.Listing.{listed_name, listed_halves, listed_digits, AreTypesOf, IsRecordList};
 ghost use Rattle.ged_link.specs.inner.PairSets.{lists_have};
 ghost use Rattle.ged_link.specs.inner.Resolving.{AddsName, AddsRecord};
 ghost use Rattle.ged_link.specs.inner.Slots.{HasNoSlot};
@@ -22,21 +23,60 @@ use crate::keys::names_key;
 use crate::layout::slots_for;
 use crate::link_lists::LinkLists;
 use crate::links::find_one_way;
-use crate::listing::{ListedName, RecordList, joined, list_records};
+use crate::listing::{ListedName, RecordList, first_record, joined, list_records};
 use crate::names::Names;
+use crate::places::push_place;
 use crate::pointers::{Records, follow_pointers};
+use crate::record_reader::RecordReader;
 use crate::record_type::RecordType;
-use ged_tree::{Forest, end_of_all, next_in_run};
+use ged_tree::{Forest, LineReader, end_of_all, next_in_run};
 use std::alloc::{AllocError, Global};
 
 /// The index of a document whose identifiers are distinct and each of whose pointers names one of them; else its fault,
-/// or that a growth was refused. Grows.
+/// or that a growth was refused. Grows (FamilySearch GEDCOM 7.0, "Lines").
 pub fn resolve<F: Forest>(alloc: Global, forest: &F) -> Result<Index, LinkFault>
     ensures resolved { IfOk result (λ _. Resolved (F.trees forest.now)) }
     ensures index { IfOk result (λ index. IsIndexOf (F.trees forest.now) index) }
     ensures fault { IfErr result (λ fault. (fault ≡ Memory alloc_error) ⊎ HasLinkFault (F.trees forest.now) fault) }
 {
-    let (records, types, places, none) = find_records(alloc, forest)?;
+    let end = end_of_all(forest);
+    match list_records(alloc, forest, end) {
+        Ok(list) => resolve_listed(alloc, forest, end, list),
+        Err(error) => Err(LinkFault::Memory(error)),
+    }
+}
+
+/// The same index or fault as [`resolve`] answers, for a caller whose reader has listed the records while the document's lines were
+/// read. Grows (FamilySearch GEDCOM 7.0, "Lines").
+pub fn resolve_with<F: Forest>(
+    alloc: Global,
+    forest: &F,
+    records: RecordReader,
+) -> Result<Index, LinkFault>
+    requires { ⟦<RecordReader as LineReader>⟧.has_read records (document_lines (F.trees forest.now)) }
+    ensures resolved { IfOk result (λ _. Resolved (F.trees forest.now)) }
+    ensures index { IfOk result (λ index. IsIndexOf (F.trees forest.now) index) }
+    ensures fault { IfErr result (λ fault. (fault ≡ Memory alloc_error) ⊎ HasLinkFault (F.trees forest.now) fault) }
+{
+    let end = end_of_all(forest);
+    resolve_listed(alloc, forest, end, records.list)
+}
+
+/// The same, where the records are listed.
+fn resolve_listed<F: Forest>(
+    alloc: Global,
+    forest: &F,
+    end: usize,
+    list: RecordList,
+) -> Result<Index, LinkFault>
+    requires end { end ≡ trees_count (F.trees forest.now) }
+    requires document { is_document (F.trees forest.now) ≡ true }
+    requires list { IsRecordList (F.trees forest.now) list }
+    ensures resolved { IfOk result (λ _. Resolved (F.trees forest.now)) }
+    ensures index { IfOk result (λ index. IsIndexOf (F.trees forest.now) index) }
+    ensures fault { IfErr result (λ fault. (fault ≡ Memory alloc_error) ⊎ HasLinkFault (F.trees forest.now) fault) }
+{
+    let (records, types, places, none) = find_records(alloc, forest, end, list)?;
     let known = Records {
         names: &records,
         types: &types,
@@ -52,18 +92,6 @@ pub fn resolve<F: Forest>(alloc: Global, forest: &F) -> Result<Index, LinkFault>
         followed,
         one_way,
     })
-}
-
-/// The place of the first record. The run of records goes on to the end of all.
-fn first_record<F: Forest>(forest: &F, end: usize) -> usize
-    requires end { end ≡ trees_count (F.trees forest.now) }
-    ensures run { IsRun (F.trees forest.now) result end }
-    ensures records { trees_between (F.trees forest.now) result end ≡ records_of (F.trees forest.now) }
-{
-    match next_in_run(forest, 0, end) {
-        Some(first) => first,
-        None => end,
-    }
 }
 
 /// Adds a record by its name, which has no slot. The first such record gives the maps their key, of all names from its own on.
@@ -136,8 +164,8 @@ fn add_record<F: Forest>(
     add_by_xref(alloc, forest, end, records, found)
 }
 
-/// Adds all records, which are from a place up to the end, by what is listed of their identifiers; or the fault of the first record
-/// whose identifier an earlier one has. Only a record whose identifier finds no slot is looked at again.
+/// Adds all records, which are from a place up to the end, by what is listed of their identifiers, and answers their places; or the
+/// fault of the first record whose identifier an earlier one has. Only a record whose identifier finds no slot is looked at again.
 fn add_records<F: Forest>(
     alloc: Global,
     forest: &F,
@@ -145,7 +173,7 @@ fn add_records<F: Forest>(
     end: usize,
     list: &RecordList,
     records: &mut Names,
-) -> Result<(), LinkFault>
+) -> Result<Vec<u32>, LinkFault>
     requires run { IsRun (F.trees forest.now) start end }
     requires all { trees_between (F.trees forest.now) start end ≡ records_of (F.trees forest.now) }
     requires end { end ≡ trees_count (F.trees forest.now) }
@@ -157,9 +185,13 @@ fn add_records<F: Forest>(
     ensures records { OnOk result (AreRecords (F.trees forest.now) records.new) }
     ensures keyed { OnOk result (IsKeyed (F.trees forest.now) end records.new) }
     ensures types { (types : List (Option RecordType)) → AreTypesOf types (records_of (F.trees forest.now)) → OnOk result (AreTyped (F.trees forest.now) records.new types) }
+    ensures places { IfOk result (λ places. ArePlaces (F.trees forest.now) places.items) }
     ensures distinct { OnOk result ((place : ℕ) → IsRepeated (F.trees forest.now) place → ⊥) }
     ensures fault { IfErr result (λ fault. (fault ≡ Memory alloc_error) ⊎ HasLinkFault (F.trees forest.now) fault) }
 {
+    let Ok(mut places) = Vec::with_capacity(alloc, list.types.len()) else {
+        return Err(LinkFault::Memory(AllocError));
+    };
     let mut place = start;
     let mut number: usize = 0;
     while let Some(after) = next_in_run(forest, place, end) {
@@ -173,40 +205,45 @@ fn add_records<F: Forest>(
             Ok(false) => return Err(LinkFault::Duplicate(forest.line(place))),
             Err(_) => return Err(LinkFault::Memory(AllocError)),
         }
+        let Ok(()) = push_place(&mut places, place) else {
+            return Err(LinkFault::Memory(AllocError));
+        };
         place = after;
         number += 1;
     }
-    Ok(())
+    Ok(places)
 }
 
-/// The records by their identifiers, the type and the place of each record, and lists of no links, in the memory that the search took;
-/// or the fault of the first record whose identifier an earlier one has.
+/// The listed records by their identifiers, the type and the place of each record, and lists of no links, in the memory of the list; or the
+/// fault of the first record whose identifier an earlier one has.
 fn find_records<F: Forest>(
     alloc: Global,
     forest: &F,
+    end: usize,
+    list: RecordList,
 ) -> Result<(Names, Vec<Option<RecordType>>, Vec<u32>, LinkLists), LinkFault>
+    requires end { end ≡ trees_count (F.trees forest.now) }
+    requires document { is_document (F.trees forest.now) ≡ true }
+    requires list { IsRecordList (F.trees forest.now) list }
     ensures records { IfOk result (λ found. AreRecords (F.trees forest.now) found.0) }
     ensures keyed { IfOk result (λ found. IsKeyed (F.trees forest.now) (trees_count (F.trees forest.now)) found.0) }
     ensures types { IfOk result (λ found. AreTyped (F.trees forest.now) found.0 found.1.items) }
     ensures places { IfOk result (λ found. ArePlaces (F.trees forest.now) found.2.items) }
     ensures none { IfOk result (λ found. (role : Role) (pair : ℕ × ℕ) → lists_have found.3 role pair ≡ false) }
     ensures count { IfOk result (λ found. length found.1.items ≡ length (identifiers (records_of (F.trees forest.now)))) }
-    ensures document { is_document (F.trees forest.now) ≡ true }
     ensures distinct { IfOk result (λ _. (place : ℕ) → IsRepeated (F.trees forest.now) place → ⊥) }
     ensures fault { IfErr result (λ fault. (fault ≡ Memory alloc_error) ⊎ HasLinkFault (F.trees forest.now) fault) }
 {
-    let end = end_of_all(forest);
     let start = first_record(forest, end);
-    let Ok(list) = list_records(alloc, forest, start, end) else {
-        return Err(LinkFault::Memory(AllocError));
-    };
     let Ok(slots) = slots_for(alloc, &list.tallies) else {
         return Err(LinkFault::Memory(AllocError));
     };
     let mut records = Names::new(alloc, slots);
-    if let Err(fault) = add_records(alloc, forest, start, end, &list, &mut records) {
-        return Err(fault);
+    match add_records(alloc, forest, start, end, &list, &mut records) {
+        Ok(places) => {
+            let none = LinkLists::over(alloc, list.names, list.digits);
+            Ok((records, list.types, places, none))
+        }
+        Err(fault) => Err(fault),
     }
-    let none = LinkLists::over(alloc, list.names, list.digits);
-    Ok((records, list.types, list.places, none))
 }

@@ -1,5 +1,5 @@
 -- The line of a structure is taken as its row asks, or without one.
-use Rattle.std.proofs.Common.{◌≡◌, ℕ, zero, suc, ◌+◌, ◌<◌, sym, ◌∙◌, ap, refl, arith, Bool, false, List, [], ◌∷◌, ◌++◌, ◌≤◌, map, inl, inr, Some, None, get_or, slice_get, slice_set, replicate, length, subst}
+use Rattle.std.proofs.Common.{◌≡◌, ℕ, zero, suc, ◌+◌, ◌<◌, ◌==◌, ◌&&◌, sym, ◌∙◌, ap, refl, arith, Bool, true, false, T, codes, bytes_eq, eqb→eq, List, [], ◌∷◌, ◌++◌, ◌≤◌, map, inl, inr, Some, None, get_or, slice_get, slice_set, replicate, length, subst}
 use Rattle.std.specs.Prelude.{◌⊎◌, IsTrue}
 use Rattle.std.specs.Bool.{OnTrue}
 use Rattle.std.specs.Int.{bit_at}
@@ -7,6 +7,7 @@ use Rattle.std.proofs.lemmas.List.{get_or-set_same, get_or-set_other}
 use Rattle.std.proofs.lemmas.List.{length-map}
 use Rattle.ged_line.specs.Bytes.{Bytes}
 use Rattle.ged_line.specs.Lines.{LineParts, Value}
+use Rattle.ged_tree.specs.TreeFaults.{is_cont, is_trailer}
 use Rattle.ged_schema.specs.declared.context.Context.{Context}
 use Rattle.ged_schema.specs.declared.context.Context.TheVariants.{File, Unchecked}
 use Rattle.ged_schema.specs.declared.line_walk.Open.{Open}
@@ -15,7 +16,7 @@ use Rattle.ged_schema.specs.declared.rule.Rule.{Rule}
 use Rattle.ged_schema.specs.Rows.{Row, as_row}
 use Rattle.ged_schema.specs.Tables.{rows, row}
 use Rattle.ged_schema.specs.inner.Marks.{AreMarkedAsNeeded}
-use Rattle.ged_schema.specs.inner.LineWalks.{open_at, IsClosed, IsFirst, HasWalked, Walks, Takes, Opens, OpensListed, OpensUnlisted}
+use Rattle.ged_schema.specs.inner.LineWalks.{open_at, IsClosed, IsFirst, HasWalked, Walks, Takes, opens, Opens, OpensListed, OpensUnlisted}
 use Rattle.ged_schema.proofs.Numbers.{row_found, rule_stands}
 use Rattle.ged_schema.proofs.Runs.{IsOnlyNumber}
 use Rattle.ged_schema.proofs.Marking.{true_on}
@@ -152,3 +153,26 @@ walks_on line (next ∷ lines) first old new (walk, one, rest) takes = (walk, on
 
 pub has_walked_on : (line : LineParts) (lines : List LineParts) (old new : LineWalk) → IsTrue old.holds → HasWalked old lines → Takes line old new → HasWalked new (lines ++ line ∷ [])
 has_walked_on line lines old new held walked takes _ = let (first, is_first, walks) = walked held in (first, is_first, walks_on line lines first old new walks takes)
+
+-- what a structure's line opens is the same, whatever is kept beside it
+opened_beside : (context : Context) (line : LineParts) (old new : LineWalk) (holds : Bool) → Opens context line.level line old new
+    → Opens context line.level line old (record new { holds = holds })
+opened_beside context line old new holds opened = record {
+  closed = opened.closed;
+  others = opened.others;
+  here = opened.here;
+  marked = opened.marked;
+  below = opened.below;
+  fits = opened.fits;
+  goes_on = opened.goes_on;
+  noted = opened.noted;
+}
+
+-- a line below level 0 that is no CONT is a structure's
+pub takes_below : (line : LineParts) (old new : LineWalk) (holds : Bool) → 0 < line.level → is_cont line ≡ false → Opens (open_at old line.level).context line.level line old new
+    → Takes line old (record new { holds = holds })
+takes_below line old new holds below no_cont opened = opens no_cont (no_trailer (line.level == 0) refl) (opened_beside (open_at old line.level).context line old new holds opened)
+  where
+    no_trailer : (b : Bool) → (line.level == 0) ≡ b → is_trailer line ≡ false
+    no_trailer true is = (let top : line.level ≡ 0 = eqb→eq line.level 0 (subst T (sym is) tt) in absurd (omega (arith, top, below)))
+    no_trailer false is = ap (λ (b : Bool). b && bytes_eq line.tag (codes "TRLR")) is

@@ -1,11 +1,12 @@
 // Whether the structures of a document are as the tables ask, told from its lines while they are read.
-ghost use Rattle.std.specs.Prelude.{◌≡◌, ◌<◌, ◌≤◌, ◌++◌, ◌∷◌, [], List, ℕ, IfSome, IsTrue, true};
+ghost use Rattle.std.specs.Prelude.{◌≡◌, ◌<◌, ◌≤◌, ◌++◌, ◌∷◌, [], List, ℕ, IfSome, IsTrue, true, false};
 ghost use Rattle.std.specs.Bool.{OnTrue};
 ghost use Rattle.std.specs.Int.{bit_at};
 ghost use Rattle.ged_line.specs.Lines.{LineParts, Value};
 ghost use Rattle.ged_line.specs.Names.{is_tag};
 ghost use Rattle.ged_line.specs.Views.{viewed_value};
 ghost use Rattle.ged_value.specs.Kinds.{takes_lines};
+ghost use Rattle.ged_tree.specs.TreeFaults.{is_cont};
 ghost use Rattle.ged_tree.specs.Trees.{Trees};
 ghost use Rattle.ged_tree.specs.Documents.{is_document};
 ghost use Rattle.ged_tree.specs.DocumentLines.{document_lines};
@@ -25,6 +26,7 @@ use ged_line::{LineView, ValueView, is_same_tag};
 use ged_link::Index;
 use ged_tree::LineReader;
 use ged_value::Kind;
+use std::alloc::AllocError;
 
 /// What stands open at a level while lines are read.
 #[derive(Clone, Copy)]
@@ -219,6 +221,28 @@ impl LineWalk {
         self.open_structure(line)
     }
 
+    /// Takes one more line, and keeps whether all lines so far are as the tables ask.
+    #[inline(always)]
+    fn keep(&mut self, line: &LineView<'_>)
+        ensures { (lines : List LineParts) → HasWalked self.old lines → HasWalked self.new (lines ++ line.now ∷ []) }
+    {
+        if self.holds && !self.take(line) {
+            self.holds = false;
+        }
+    }
+
+    /// The same for a line that is known to begin a substructure: whether it is CONT or TRLR is not asked.
+    #[inline(always)]
+    fn keep_substructure(&mut self, line: &LineView<'_>)
+        requires below { 0 < line.now.level }
+        requires no_cont { is_cont line.now ≡ false }
+        ensures { (lines : List LineParts) → HasWalked self.old lines → HasWalked self.new (lines ++ line.now ∷ []) }
+    {
+        if self.holds {
+            self.holds = self.open_structure(line);
+        }
+    }
+
     /// Whether each line was as the tables ask, and nothing is missing where the last line stands.
     fn is_complete(&self) -> bool
         ensures holds { OnTrue result (IsTrue self.now.holds) }
@@ -257,11 +281,17 @@ impl LineReader for LineWalk {
 
     ghost has_read = { HasWalked };
 
-    /// Takes one more line, and keeps whether all lines so far are as the tables ask.
+    /// Takes one more line, and keeps whether all lines so far are as the tables ask. Takes no memory.
     #[inline(always)]
-    fn line(&mut self, line: &LineView<'_>) {
-        if self.holds && !self.take(line) {
-            self.holds = false;
-        }
+    fn line(&mut self, line: &LineView<'_>) -> Result<(), AllocError> {
+        self.keep(line);
+        Ok(())
+    }
+
+    /// The same for a line that begins a substructure.
+    #[inline(always)]
+    fn substructure(&mut self, line: &LineView<'_>) -> Result<(), AllocError> {
+        self.keep_substructure(line);
+        Ok(())
     }
 }

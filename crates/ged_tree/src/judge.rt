@@ -1,5 +1,5 @@
 // The faults of a document's lines, found line by line.
-ghost use Rattle.std.specs.Prelude.{◌≡◌, ◌++◌, ◌∷◌, [], List, Some, None, false, IfOk, IfErr, option_map, Option};
+ghost use Rattle.std.specs.Prelude.{◌≡◌, ◌<◌, ◌++◌, ◌∷◌, [], List, Some, None, false, IfOk, IfErr, option_map, Option};
 ghost use Rattle.std.specs.Bool.{OnTrue};
 ghost use Rattle.std.specs.List.{find};
 ghost use Rattle.ged_line.specs.Lines.{LineParts};
@@ -102,6 +102,7 @@ impl Judge {
     pub(crate) fn is_plain(&self, line: &LineView<'_>) -> bool
         ensures faultless { (lines : List LineParts) → StandsFor self.now lines → OnTrue result (fault_after lines line.now ≡ None) }
         ensures begins { OnTrue result ((tests_cont line.now ≡ false) × (tests_trailer line.now ≡ false)) }
+        ensures below { OnTrue result (0 < line.now.level) }
     {
         match self.previous {
             None => false,

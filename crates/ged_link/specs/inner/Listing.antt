@@ -1,12 +1,15 @@
 -- Nothing here need be believed: only private contracts and proofs cite it.
--- What the walk over the records lists of each of them.
-use Rattle.std.specs.Prelude.{ℕ, ◌/◌, ◌%◌, List, [], ◌∷◌, Option, Some, None, ⊤}
+-- What is listed of each of the records.
+use Rattle.std.specs.Prelude.{◌≡◌, ℕ, ◌/◌, ◌%◌, List, [], ◌∷◌, Option, Some, None, ⊤, fold, map, replicate}
 use Rattle.ged_line.specs.Bytes.{Bytes}
-use Rattle.ged_tree.specs.Trees.{Trees, none, tree}
+use Rattle.ged_tree.specs.Trees.{Trees, none, tree, records_of}
+use Rattle.ged_link.specs.Links.{identifiers}
+use Rattle.ged_link.specs.inner.Layout.{counted, no_names}
 use Rattle.ged_link.specs.NameNumbers.{short_number}
 use Rattle.ged_link.specs.Slots.{number_read}
 use Rattle.ged_link.specs.RecordTypes.{IsTypeOf}
 use Rattle.ged_link.specs.declared.listing.ListedName.{ListedName}
+use Rattle.ged_link.specs.declared.listing.RecordList.{RecordList}
 use Rattle.ged_link.specs.declared.record_type.RecordType.{RecordType}
 
 -- of a record without a name, and of a name that spells no number
@@ -42,3 +45,10 @@ AreTypesOf [] none = ⊤
 AreTypesOf [] (tree s below next) = ⊥
 AreTypesOf (known ∷ more) none = ⊥
 AreTypesOf (known ∷ more) (tree s below next) = IsTypeOf known s.tag × AreTypesOf more next
+
+-- the list has the records of a document
+pub record IsRecordList (d : Trees) (list : RecordList) : Type 0 where
+  pub tallies : list.tallies.items ≡ fold counted (replicate 256 no_names) (identifiers (records_of d))
+  pub names : list.names.items ≡ map listed_halves (identifiers (records_of d))
+  pub digits : list.digits.items ≡ map listed_digits (identifiers (records_of d))
+  pub types : AreTypesOf list.types.items (records_of d)

@@ -126,13 +126,13 @@ impl<'a> TableBuilder<'a> {
     }
 
     /// Takes one more line, or answers the lowest fault that stands at it. `start` tells where in the builder's file the
-    /// line begins, in bytes; without it the line's text is kept apart.
+    /// line begins, in bytes; without it the line's text is kept apart. The answer may tell that the line begins a substructure.
     #[inline(always)]
     pub(crate) fn take(
         &mut self,
         spelled: &SpelledLine<'a>,
         start: Option<usize>,
-    ) -> Result<(), BuildFault>
+    ) -> Result<bool, BuildFault>
         requires few { self.now.count < 2 ^ 63 }
         requires text { LineText spelled.now.line spelled.now.text.now }
         requires slice { IfSome start (λ at. IsSliceAt self.now.file.now at spelled.now.text.now) }
@@ -140,6 +140,7 @@ impl<'a> TableBuilder<'a> {
             (λ _. HoldsLines self.new (lines ++ spelled.now.line ∷ []))
             (λ fault. TellsLine fault lines spelled.now.line) }
         ensures file { IfOk result (λ _. self.new.file.now ≡ self.old.file.now) }
+        ensures begins { IfOk result (λ begins. OnTrue begins ((0 < spelled.now.line.level) × (tests_cont spelled.now.line ≡ false))) }
     {
         let line = &spelled.line;
         // That its parts are a line's is what `level` tells.
@@ -151,7 +152,7 @@ impl<'a> TableBuilder<'a> {
             return Err(BuildFault::At(TreeAt { line, fault }));
         }
         match self.push(spelled, start, begins) {
-            Ok(()) => Ok(()),
+            Ok(()) => Ok(begins),
             Err(error) => Err(BuildFault::Memory(error)),
         }
     }

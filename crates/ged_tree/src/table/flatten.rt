@@ -1,16 +1,19 @@
 // The flat table of a file.
-ghost use Rattle.std.specs.Prelude.{IfOk, IfErr, []};
+ghost use Rattle.std.specs.Prelude.{◌≡◌, ◌<◌, ◌++◌, ◌∷◌, IfOk, IfErr, OnOk, [], List, false};
+ghost use Rattle.std.specs.Bool.{OnTrue};
 ghost use Rattle.ged_line.specs.Bytes.{Bytes};
+ghost use Rattle.ged_line.specs.Lines.{LineParts};
 ghost use Rattle.ged_line.specs.Pieces.{IsBehindMark};
 ghost use Rattle.ged_tree.specs.Building.{HasFile, TellsFile};
 ghost use Rattle.ged_tree.specs.DocumentLines.{document_lines};
+ghost use Rattle.ged_tree.specs.TreeFaults.{is_cont};
 
 use crate::fault::{BuildFault, TreeAt, TreeFault};
 use crate::table::builder::TableBuilder;
 use crate::table::flat::Flat;
 use crate::table::line_reader::LineReader;
 use ged_line::{LineView, first_line, text_behind_mark, view_lines};
-use std::alloc::Global;
+use std::alloc::{AllocError, Global};
 
 /// The reader of a table that is made for itself alone. It reads no line, so nothing is told of what it has read.
 #[derive(Drop)]
@@ -20,7 +23,9 @@ impl LineReader for NoReader {
     ghost has_read = { λ _ _. Unit {0} };
 
     #[inline(always)]
-    fn line(&mut self, _line: &LineView<'_>) {}
+    fn line(&mut self, _line: &LineView<'_>) -> Result<(), AllocError> {
+        Ok(())
+    }
 }
 
 /// The document of a file as a table, whose texts are slices of the file. A byte order mark at the start is skipped.
@@ -37,8 +42,8 @@ pub fn flatten(alloc: Global, bytes: &[u8]) -> Result<Flat<'_>, BuildFault>
 /// The same document or fault as [`flatten`] answers, for a caller that reads each line while the table is being made.
 ///
 /// The reader gets every line of the file once and in order, TRLR too, each after it passed; where the file has a fault, the
-/// lines before the first one. Grows by the table alone: no payload is copied (FamilySearch GEDCOM 7.0, "Lines" and
-/// "Structures").
+/// lines before the first one. Where the reader answers an error, that a growth was refused is the answer, and no more lines are read.
+/// Grows by the table, and by what the reader takes: no payload is copied (FamilySearch GEDCOM 7.0, "Lines" and "Structures").
 pub fn flatten_with<'a, R: LineReader>(
     alloc: Global,
     bytes: &'a [u8],
@@ -51,6 +56,23 @@ pub fn flatten_with<'a, R: LineReader>(
     match text_behind_mark(bytes) {
         Some(text) => flatten_text(alloc, text, reader),
         None => flatten_lines(alloc, bytes, reader),
+    }
+}
+
+/// Hands a line that passed to the reader. `begins` may tell that it begins a substructure.
+#[inline(always)]
+fn hand_over<R: LineReader>(
+    reader: &mut R,
+    line: &LineView<'_>,
+    begins: bool,
+) -> Result<(), AllocError>
+    requires { OnTrue begins ((0 < line.now.level) × (is_cont line.now ≡ false)) }
+    ensures { OnOk result ((lines : List LineParts) → R.has_read reader.old lines → R.has_read reader.new (lines ++ line.now ∷ [])) }
+{
+    if begins {
+        reader.substructure(line)
+    } else {
+        reader.line(line)
     }
 }
 
@@ -71,10 +93,13 @@ fn flatten_text<'a, R: LineReader>(
         rest = after;
         match line {
             Ok(line) => {
-                if let Err(fault) = table.take(&line, Some(start)) {
-                    return Err(fault);
+                let begins = match table.take(&line, Some(start)) {
+                    Ok(begins) => begins,
+                    Err(fault) => return Err(fault),
+                };
+                if let Err(error) = hand_over(reader, &line.line, begins) {
+                    return Err(BuildFault::Memory(error));
                 }
-                reader.line(&line.line);
             }
             Err(fault) => {
                 let line = table.count + 1;
@@ -105,10 +130,13 @@ fn flatten_lines<'a, R: LineReader>(
     for line in view_lines(bytes) {
         match line {
             Ok(line) => {
-                if let Err(error) = table.take(&line, None) {
-                    return Err(error);
+                let begins = match table.take(&line, None) {
+                    Ok(begins) => begins,
+                    Err(error) => return Err(error),
+                };
+                if let Err(error) = hand_over(reader, &line.line, begins) {
+                    return Err(BuildFault::Memory(error));
                 }
-                reader.line(&line.line);
             }
             Err(fault) => {
                 let line = table.count + 1;

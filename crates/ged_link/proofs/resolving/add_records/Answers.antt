@@ -1,4 +1,5 @@
-use Rattle.std.proofs.Common.{◌+◌, None, true, false, inr, inl, sym, ap, ◌∙◌, refl, arith, subst, map, slice_index_or, drop}
+use Rattle.std.proofs.Common.{◌≡◌, ◌+◌, ◌∷◌, ℕ, Option, List, length, None, true, false, inr, inl, sym, ap, ◌∙◌, refl, arith, subst, map, slice_index_or, drop}
+use Rattle.ged_line.specs.Bytes.{Bytes}
 use Rattle.ged_tree.specs.Places.{structure_at}
 use Rattle.ged_tree.specs.Trees.{Trees}
 use Rattle.ged_tree.specs.Documents.{are_at}
@@ -9,8 +10,9 @@ use Rattle.ged_link.specs.declared.index.RecordPlace.{RecordPlace}
 use Rattle.ged_link.specs.RecordTypes.{IsTypeOf}
 use Rattle.ged_link.specs.inner.Listing.{listed_halves, listed_digits, AreTypesOf}
 use Rattle.ged_link.specs.inner.Resolving.{AddsRecord}
-use Rattle.ged_link.proofs.ListingLemmas.{types_next}
-use Rattle.ged_link.proofs.RecordLemmas.{left_next, left_after, level_next, number_within, records_start, records_level, records_next, records_all, repeated_here, none_repeated_all, typed_start, typed_next}
+use Rattle.ged_link.proofs.KeptPlaces.{none_placed}
+use Rattle.ged_link.proofs.ListingLemmas.{types_next, listed_here}
+use Rattle.ged_link.proofs.RecordLemmas.{left_next, left_after, level_next, number_within, numbered_here, records_start, records_level, records_next, records_all, repeated_here, none_repeated_all, typed_start, typed_next}
 use Rattle.ged_link.proofs.resolving.add_records.Goals as goal
 
 pub loop-after-init : goal.loop-after-init
@@ -28,6 +30,8 @@ loop-after-init g c =
       found = records_start w c.requires.document c.args.start c.args.end c.requires.end c.requires.run is c.args.records.now c.requires.none;
       typed = λ types are. (subst (AreTypesOf types) (sym is) are, typed_start w c.args.records.now types c.requires.none);
       keyed = inl c.requires.others;
+      count = ap (λ (ps : List ℕ). length ps) c.in-Ok.ensures.items;
+      placed = none_placed w _ c.in-Ok.ensures.items;
     }
 
 pub returns-in-Ok-false-clause-fault : goal.returns-in-Ok-false-clause-fault
@@ -70,13 +74,15 @@ loop-after-preserved g c =
           types_next types k (trees_between w p e) here (trees_between w (p + 1) a) (trees_between w a e) step.first before.0 in
           (next.1, typed_next w p e a k step inv.left inv.level old new types one refl refl next.0 adds before.1);
       keyed = c.in-Ok-true.ensures.keyed inv.keyed;
+      count = omega (arith, c.in-Ok-push_place.ensures.count, inv.count);
+      placed = c.in-Ok-push_place.ensures.kept w (λ name has. rw inv.count (numbered_here w p e a k step inv.left name has)) inv.placed;
     }
 
 pub returns-clause-records : goal.returns-clause-records
 returns-clause-records g c =
     let w = g.F.Forest.trees c.args.forest.now in
     let inv = c.loop-after.invariant in
-    records_all w c.loop-after.place c.loop-after.number c.args.end c.loop-after.records c.requires.end inv.run c.in_default.ensures inv.left inv.found
+    records_all w c.loop-after.place c.loop-after.number c.args.end c.loop-after.records c.requires.end inv.run c.in_default-next_in_run.ensures inv.left inv.found
 
 pub returns-clause-types : goal.returns-clause-types
 returns-clause-types g c types are = (c.loop-after.invariant.typed types are).1
@@ -85,4 +91,17 @@ pub returns-clause-distinct : goal.returns-clause-distinct
 returns-clause-distinct g c =
     let w = g.F.Forest.trees c.args.forest.now in
     let inv = c.loop-after.invariant in
-    none_repeated_all w c.loop-after.place c.loop-after.number c.args.end c.loop-after.records c.requires.end inv.run c.in_default.ensures inv.found
+    none_repeated_all w c.loop-after.place c.loop-after.number c.args.end c.loop-after.records c.requires.end inv.run c.in_default-next_in_run.ensures inv.found
+
+pub add_record-requires-clause-listed : goal.add_record-requires-clause-listed
+add_record-requires-clause-listed g c =
+    let w = g.F.Forest.trees c.args.forest.now in
+    let p = c.loop-after.place in
+    let inv = c.loop-after.invariant in
+    let step : IsStep w p c.args.end c.in-Some.after = c.in-Some.ensures in
+    let more = identifiers (trees_between w c.in-Some.after c.args.end) in
+    let ids : identifiers (trees_between w p c.args.end) ≡ (structure_at w p).xref ∷ more = ap identifiers step.first in
+    listed_here c.args.list.now.names.items c.args.list.now.digits.items c.loop-after.number (structure_at w p).xref more
+    (inv.names ∙ ap (λ (xs : List (Option Bytes)). map listed_halves xs) ids)
+    (inv.digits ∙ ap (λ (xs : List (Option Bytes)). map listed_digits xs) ids)
+    c.joined.result c.index-in-Some.result.now c.index.result.now c.index.result.now c.index.ensures c.joined.ensures c.index-in-Some.result.now c.index-in-Some.ensures

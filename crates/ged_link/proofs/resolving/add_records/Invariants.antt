@@ -4,6 +4,7 @@ use Rattle.ged_tree.specs.Documents.{are_at}
 use Rattle.ged_tree.specs.Runs.{trees_between, IsRun}
 use Rattle.ged_link.specs.Links.{identifiers}
 use Rattle.ged_link.specs.Indexes.{AreTyped}
+use Rattle.ged_link.specs.Places.{ArePlaces}
 use Rattle.ged_link.specs.declared.record_type.RecordType.{RecordType}
 use Rattle.ged_link.specs.inner.Indexes.{IsKeyed}
 use Rattle.ged_link.specs.inner.Listing.{listed_halves, listed_digits, AreTypesOf}
@@ -24,6 +25,8 @@ invariant-loop-after g l =
       found : AreRecordsBefore trees l.place l.number l.records;
       typed : (types : List (Option RecordType)) → AreTypesOf types (records_of trees) → AreTypesOf (drop l.number types) (trees_between trees l.place l.end) × AreTyped trees l.records types;
       keyed : IsKeyed trees l.end l.records;
+      count : length l.places.items ≡ l.number;
+      placed : ArePlaces trees l.places.items;
     }
 
 abbrev pub decreases-loop-after : goal.decreases-loop-after

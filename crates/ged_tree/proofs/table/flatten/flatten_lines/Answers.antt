@@ -33,8 +33,8 @@ loop-line-preserved g c =
     let step = c.in-Some.ensures.steps in
     let text = rw c.in-Ok.is at step.2 in
     record {
-      taken = taken_more c.args.bytes.now c.loop-line.table c.take.new.self c.loop-line.line-iterator c.next.new.self step.0 c.in-Ok.line.line taken step.1 text.0 (c.in_default.ensures.lines taken.lines taken.holds);
-      read = λ h. c.line.ensures taken.lines (c.loop-line.invariant.read h);
+      taken = taken_more c.args.bytes.now c.loop-line.table c.take.new.self c.loop-line.line-iterator c.next.new.self step.0 c.in-Ok.line.line taken step.1 text.0 (c.in-Ok-take.ensures.lines taken.lines taken.holds);
+      read = λ h. c.in_default.ensures taken.lines (c.loop-line.invariant.read h);
     }
 
 pub overflow_add-line : goal.overflow_add-line

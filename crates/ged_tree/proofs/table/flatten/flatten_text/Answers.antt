@@ -50,8 +50,8 @@ loop-line-preserved g c =
     let spelled : LineText line.line line.text.now = rw text.1 text.0 in
     record {
       utf8 = c.in-Some.ensures.utf8;
-      taken = taken_more_in c.args.text.now c.loop-line.table rest line.text.now after line.line taken first spelled c.take.new.self c.in_default-take.ensures.file (c.in_default-take.ensures.lines taken.lines taken.holds);
-      read = λ h. c.line.ensures taken.lines (c.loop-line.invariant.read h);
+      taken = taken_more_in c.args.text.now c.loop-line.table rest line.text.now after line.line taken first spelled c.take.new.self c.in-Ok-take.ensures.file (c.in-Ok-take.ensures.lines taken.lines taken.holds);
+      read = λ h. c.in_default-hand_over.ensures taken.lines (c.loop-line.invariant.read h);
     }
 
 pub finish-requires-clause-few : goal.finish-requires-clause-few

@@ -1,24 +1,21 @@
-use Rattle.std.proofs.Common.{◌≡◌, ◌-◌, ◌++◌, List, Option, drop, fold, length, map, replicate}
+use Rattle.std.proofs.Common.{◌≡◌, ◌-◌, ◌++◌, List, Option, fold, map, replicate}
 use Rattle.ged_tree.specs.Trees.{records_of}
 use Rattle.ged_tree.specs.Runs.{trees_between, IsRun}
 use Rattle.ged_link.specs.Links.{identifiers}
-use Rattle.ged_link.specs.Places.{ArePlaces}
 use Rattle.ged_link.specs.declared.record_type.RecordType.{RecordType}
 use Rattle.ged_link.specs.inner.Layout.{counted, no_names}
 use Rattle.ged_link.specs.inner.Listing.{listed_halves, listed_digits, AreTypesOf}
-use Rattle.ged_link.proofs.listing.list_records.Given as goal
+use Rattle.ged_link.proofs.listing.list_between.Given as goal
 
 abbrev pub invariant-loop-after : goal.invariant-loop-after
 invariant-loop-after g l =
     let trees = g.F.Forest.trees l.forest in
     record {
       run : IsRun trees l.place l.end;
-      left : drop (length l.list.places.items) (identifiers (records_of trees)) ≡ identifiers (trees_between trees l.place l.end);
       tallies : fold counted l.list.tallies.items (identifiers (trees_between trees l.place l.end)) ≡ fold counted (replicate 256 no_names) (identifiers (records_of trees));
       names : l.list.names.items ++ map listed_halves (identifiers (trees_between trees l.place l.end)) ≡ map listed_halves (identifiers (records_of trees));
       digits : l.list.digits.items ++ map listed_digits (identifiers (trees_between trees l.place l.end)) ≡ map listed_digits (identifiers (records_of trees));
       types : (more : List (Option RecordType)) → AreTypesOf more (trees_between trees l.place l.end) → AreTypesOf (l.list.types.items ++ more) (records_of trees);
-      at_places : ArePlaces trees l.list.places.items;
     }
 
 abbrev pub decreases-loop-after : goal.decreases-loop-after

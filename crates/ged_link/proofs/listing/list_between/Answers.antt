@@ -1,4 +1,4 @@
-use Rattle.std.proofs.Common.{◌≡◌, ◌+◌, ◌++◌, ◌∷◌, [], List, Option, ap, ◌∙◌, length, ℕ, length-append}
+use Rattle.std.proofs.Common.{◌≡◌, ◌+◌, ◌∷◌, Option, ap}
 use Rattle.std.specs.Option.{option_copied}
 use Rattle.ged_line.specs.Bytes.{Bytes}
 use Rattle.ged_tree.specs.Places.{structure_at}
@@ -6,10 +6,8 @@ use Rattle.ged_tree.specs.Trees.{records_of}
 use Rattle.ged_tree.specs.Runs.{trees_between, IsStep}
 use Rattle.ged_link.specs.Links.{identifiers}
 use Rattle.ged_link.specs.inner.Listing.{listed_halves, listed_digits}
-use Rattle.ged_link.proofs.RecordLemmas.{left_after, numbered_here}
-use Rattle.ged_link.proofs.KeptPlaces.{placed_more}
 use Rattle.ged_link.proofs.ListingLemmas.{tallies_more, listed_more, types_more, types_all}
-use Rattle.ged_link.proofs.listing.list_records.Goals as goal
+use Rattle.ged_link.proofs.listing.list_between.Goals as goal
 
 pub loop-after-preserved : goal.loop-after-preserved
 loop-after-preserved g c =
@@ -22,22 +20,17 @@ loop-after-preserved g c =
     let new = c.push.new.self in
     let pushes = c.in_ok-push.ensures in
     let step : IsStep w p e a = c.in-Some.ensures in
-    let k = length list.places.items in
     let here = structure_at w p in
     let pushed : Option Bytes = option_copied c.xref.result in
     let left = identifiers (trees_between w p e) in
     let more = identifiers (trees_between w a e) in
     let ids : left ≡ here.xref ∷ more = ap identifiers step.first in
-    let placed : new.places.items ≡ list.places.items ++ c.kept_place.result ∷ [] = pushes.places in
-    let long : length new.places.items ≡ k + 1 = ap (λ (ps : List ℕ). length ps) placed ∙ length-append list.places.items (c.kept_place.result ∷ []) in
     record {
       run = step.rest;
-      left = rw long (left_after w p e a k step inv.left);
       tallies = tallies_more pushed here.xref c.xref.ensures left more ids list.tallies.items new.tallies.items _ pushes.tallies inv.tallies;
       names = listed_more pushed here.xref c.xref.ensures left more ids listed_halves list.names.items new.names.items _ pushes.names inv.names;
       digits = listed_more pushed here.xref c.xref.ensures left more ids listed_digits list.digits.items new.digits.items _ pushes.digits inv.digits;
       types = rw pushes.types (types_more list.types.items c.type_of.result c.tag.result.now (trees_between w p e) here (trees_between w (p + 1) a) (trees_between w a e) (records_of w) step.first c.type_of.ensures c.tag.ensures inv.types);
-      at_places = rw placed (placed_more w list.places.items c.kept_place.result p c.kept_place.ensures (numbered_here w p e a k step inv.left) inv.at_places);
     }
 
 pub returns-clause-types : goal.returns-clause-types

@@ -4,8 +4,8 @@ use Rattle.ged_schema.specs.declared.line_walk.LineWalk.{LineWalk}
 use Rattle.ged_schema.specs.inner.LineWalks.{Takes}
 use Rattle.ged_schema.proofs.LineOpening.{has_walked_on}
 use Rattle.ged_schema.proofs.Marking.{on_true}
-use Rattle.ged_schema.proofs.line_walk.LineWalkLineReader.line.Goals as goal
-use Rattle.ged_schema.proofs.line_walk.LineWalkLineReader.line.Goals.{else-self-via-then-self+else-not-take, else-self-via-else-self}
+use Rattle.ged_schema.proofs.line_walk.LineWalk.keep.Goals as goal
+use Rattle.ged_schema.proofs.line_walk.LineWalk.keep.Goals.{else-self-via-then-self+else-not-take, else-self-via-else-self}
 
 pub returns-else-self : goal.returns-else-self
 returns-else-self c lines walked held = elim c.else-self.branch [

@@ -1,5 +1,5 @@
 use Rattle.ged_link.proofs.RecordLemmas.{whole_run, records_after, records_none, empty_run}
-use Rattle.ged_link.proofs.resolving.first_record.Goals as goal
+use Rattle.ged_link.proofs.listing.first_record.Goals as goal
 
 pub next_in_run-requires : goal.next_in_run-requires
 next_in_run-requires g c = record { run = whole_run (g.F.Forest.trees c.args.forest.now) c.args.end c.requires.end }
