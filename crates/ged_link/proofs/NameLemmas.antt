@@ -1,6 +1,8 @@
 -- No two short names have one number, so a record that is added by its number is added by its name.
-use Rattle.std.proofs.Common.{◌≡◌, is_none, subst, ◌⊎◌, inl, inr, ℕ, zero, suc, ◌+◌, ◌*◌, ◌^◌, ◌%◌, ◌<◌, ◌≤◌, Bool, true, false, cond, nat_eq, nat_le, nat_lt, ◌&&◌, [], ◌∷◌, Option, Some, None, refl, sym, ap, ◌∙◌, arith, rules, List, length}
+use Rattle.std.proofs.Common.{◌≡◌, is_none, subst, ℕ, zero, suc, ◌+◌, ◌-◌, ◌*◌, ◌^◌, ◌%◌, ◌<◌, ◌≤◌, Bool, true, false, cond, nat_eq, nat_le, nat_lt, ◌&&◌, [], ◌∷◌, Option, Some, None, option_map, refl, sym, ap, ◌∙◌, arith, rules, List, length}
 use Rattle.std.specs.Bool.{if◌then◌else◌, Decides}
+use Rattle.std.specs.Char.{is_ascii_digit}
+use Rattle.std.specs.Option.{option_or}
 use Rattle.std.specs.List.{list_all}
 use Rattle.std.specs.Str.{bytes_eq}
 use Rattle.std.specs.HashMap.{get, get_by_text}
@@ -9,7 +11,7 @@ use Rattle.std.proofs.lemmas.Bool.Decides.{nat_tests}
 use Rattle.ged_line.specs.Bytes.{Bytes}
 use Rattle.ged_link.specs.declared.index.RecordPlace.{RecordPlace}
 use Rattle.ged_link.specs.declared.names.Names.{Names}
-use Rattle.ged_link.specs.NameNumbers.{name_number, digits_number, number_up_to, is_up_to, is_full, short_number}
+use Rattle.ged_link.specs.NameNumbers.{name_number, digits_number, number_up_to, is_up_to, is_full, count_read, counted_number, short_number}
 use Rattle.ged_link.specs.declared.slots.Slots.{Slots}
 use Rattle.ged_link.specs.Indexes.{found_in, found_by, found_short, first_of}
 use Rattle.ged_link.specs.inner.Indexes.{HasNoOthers}
@@ -77,23 +79,58 @@ record IsFull (name : Bytes) (number : ℕ) : Type 0 where
   long : length name ≡ 8
   is : number ≡ digits_number name
   least : 2 * 256 ^ 7 ≤ number
+  most : number < 2 ^ 63
 
-numbered : (name : Bytes) (number : ℕ) → short_number name ≡ Some number → IsShorter name number ⊎ IsFull name number
-numbered name number e = full (is_full 8 name) refl e
+-- or it is counted
+record IsCounted (name : Bytes) (number : ℕ) : Type 0 where
+  first : ℕ
+  digits : Bytes
+  count : ℕ
+  parts : name ≡ first ∷ digits
+  byte : first < 256
+  few : length digits < 16
+  read : count_read 0 digits ≡ Some count
+  is : number ≡ 2 ^ 63 + (first + 256 * (16 * count + length digits))
+
+data IsNumbered (name : Bytes) (number : ℕ) : Type 0 where
+  shorter : IsShorter name number → IsNumbered name number
+  full : IsFull name number → IsNumbered name number
+  counted : IsCounted name number → IsNumbered name number
+
+is_counted : (name : Bytes) (number : ℕ) → counted_number name ≡ Some number → IsCounted name number
+is_counted [] number e = cc
+is_counted (b ∷ digits) number e = go (nat_lt b 256 && nat_lt (length digits) 16) refl e
   where
-    shorter : (short : Bool) → is_up_to 7 name ≡ short → cond short (Some (name_number name)) None ≡ Some number → IsShorter name number
-    shorter true h k =
-        let parts : (nat_le (length name) 7 ≡ true) × (are_bytes name ≡ true) = both _ _ h in
-        record { bytes = parts.1; long = grind (arith, nat_tests); is = cc }
-    shorter false h k = cc
+    number_from : ℕ → ℕ
+    number_from count = 2 ^ 63 + (b + 256 * (16 * count + length digits))
 
-    full : (full : Bool) → is_full 8 name ≡ full → cond full (Some (digits_number name)) (number_up_to 7 name) ≡ Some number → IsShorter name number ⊎ IsFull name number
-    full true h k =
-        let parts : (nat_eq (length name) 8 ≡ true) × (are_bytes name && nat_le (2 * 256 ^ 7) (digits_number name) ≡ true) = both _ _ h in
-        let more : (are_bytes name ≡ true) × (nat_le (2 * 256 ^ 7) (digits_number name) ≡ true) = both _ _ parts.1 in
+    told : (o : Option ℕ) → count_read 0 digits ≡ o → b < 256 → length digits < 16 → option_map number_from o ≡ Some number → IsCounted (b ∷ digits) number
+    told None read byte few e = cc
+    told (Some count) read byte few e = record { first = b; digits = digits; count = count; parts = refl; byte = byte; few = few; read = read; is = cc }
+
+    go : (fits : Bool) → nat_lt b 256 && nat_lt (length digits) 16 ≡ fits → cond fits (option_map number_from (count_read 0 digits)) None ≡ Some number → IsCounted (b ∷ digits) number
+    go true h k =
+        let parts : (nat_lt b 256 ≡ true) × (nat_lt (length digits) 16 ≡ true) = both _ _ h in
+        told (count_read 0 digits) refl (below b parts.0) (grind (arith, nat_tests)) k
+    go false h k = cc
+
+numbered : (name : Bytes) (number : ℕ) → short_number name ≡ Some number → IsNumbered name number
+numbered name number e = in_full (is_full 8 name) refl e
+  where
+    in_shorter : (short : Bool) → is_up_to 7 name ≡ short → option_or (cond short (Some (name_number name)) None) (counted_number name) ≡ Some number → IsNumbered name number
+    in_shorter true h k =
+        let parts : (nat_le (length name) 7 ≡ true) × (are_bytes name ≡ true) = both _ _ h in
+        shorter (record { bytes = parts.1; long = grind (arith, nat_tests); is = cc })
+    in_shorter false h k = counted (is_counted name number k)
+
+    in_full : (is : Bool) → is_full 8 name ≡ is → option_or (cond is (Some (digits_number name)) (number_up_to 7 name)) (counted_number name) ≡ Some number → IsNumbered name number
+    in_full true h k =
+        let parts : (nat_eq (length name) 8 ≡ true) × (are_bytes name && (nat_le (2 * 256 ^ 7) (digits_number name) && nat_lt (digits_number name) (128 * 256 ^ 7)) ≡ true) = both _ _ h in
+        let more : (are_bytes name ≡ true) × (nat_le (2 * 256 ^ 7) (digits_number name) && nat_lt (digits_number name) (128 * 256 ^ 7) ≡ true) = both _ _ parts.1 in
+        let bounds : (nat_le (2 * 256 ^ 7) (digits_number name) ≡ true) × (nat_lt (digits_number name) (128 * 256 ^ 7) ≡ true) = both _ _ more.1 in
         let same : number ≡ digits_number name = cc in
-        inr (record { bytes = more.0; long = grind (arith, nat_tests); is = same; least = grind (arith, nat_tests) })
-    full false h k = inl (shorter (is_up_to 7 name) refl k)
+        full (record { bytes = more.0; long = grind (arith, nat_tests); is = same; least = grind (arith, nat_tests); most = grind (arith, nat_tests) })
+    in_full false h k = in_shorter (is_up_to 7 name) refl k
 
 apart : (a b : Bytes) (m n : ℕ) → IsShorter a m → IsFull b n → m ≡ n → ⊥
 apart a b m n x y e =
@@ -102,14 +139,65 @@ apart a b m n x y e =
     let number = x.is in
     omega (arith, most, least, number, e)
 
+-- no other name reaches the highest of 64 bits
+shorter_apart : (a b : Bytes) (m n : ℕ) → IsShorter a m → IsCounted b n → m ≡ n → ⊥
+shorter_apart a b m n x y e = let most = bounded 7 a x.bytes x.long in omega (arith, most, x.is, y.is, e)
+
+full_apart : (a b : Bytes) (m n : ℕ) → IsFull a m → IsCounted b n → m ≡ n → ⊥
+full_apart a b m n x y e = omega (arith, x.most, y.is, e)
+
+digit_bounds : (b : ℕ) → is_ascii_digit b ≡ true → (48 ≤ b) × (b ≤ 57)
+digit_bounds b e = let parts : (nat_le 48 b ≡ true) × (nat_le b 57 ≡ true) = both _ _ e in (grind (arith, nat_tests), grind (arith, nat_tests))
+
+one_more : (s t a b : ℕ) → (48 ≤ a) × (a ≤ 57) → (48 ≤ b) × (b ≤ 57) → s * 10 + (a - 48) ≡ t * 10 + (b - 48) → (s ≡ t) × (a ≡ b)
+one_more s t a b h k e = (omega (arith, h.0, h.1, k.0, k.1, e), omega (arith, h.0, h.1, k.0, k.1, e))
+
+-- as many digits spell one count in one way
+count_same : (s t : ℕ) (a b : Bytes) (m n : ℕ) → length a ≡ length b → count_read s a ≡ Some m → count_read t b ≡ Some n → m ≡ n → (s ≡ t) × (a ≡ b)
+count_same s t [] [] m n long h k e = (cc, refl)
+count_same s t [] (b ∷ bs) m n long h k e = absurd (omega (arith, long))
+count_same s t (a ∷ xs) [] m n long h k e = absurd (omega (arith, long))
+count_same s t (a ∷ xs) (b ∷ bs) m n long h k e =
+    go (λ more others. count_same (s * 10 + (a - 48)) (t * 10 + (b - 48)) xs bs m n (omega (arith, long)) more others e)
+    (is_ascii_digit a && nat_lt s (2 ^ 46)) (is_ascii_digit b && nat_lt t (2 ^ 46)) refl refl h k
+  where
+    go : (count_read (s * 10 + (a - 48)) xs ≡ Some m → count_read (t * 10 + (b - 48)) bs ≡ Some n → (s * 10 + (a - 48) ≡ t * 10 + (b - 48)) × (xs ≡ bs)) → (x y : Bool) → is_ascii_digit a && nat_lt s (2 ^ 46) ≡ x → is_ascii_digit b && nat_lt t (2 ^ 46) ≡ y
+        → cond x (count_read (s * 10 + (a - 48)) xs) None ≡ Some m → cond y (count_read (t * 10 + (b - 48)) bs) None ≡ Some n → (s ≡ t) × (a ∷ xs ≡ b ∷ bs)
+    go behind true true p q h k =
+        let rest = behind h k in
+        let first = one_more s t a b (digit_bounds a (both _ _ p).0) (digit_bounds b (both _ _ q).0) rest.0 in
+        let same = first.1 in
+        let more = rest.1 in
+        (first.0, cc)
+    go behind false y p q h k = cc
+    go behind true false p q h k = cc
+
+parts_same : (first other count counts long longer : ℕ) → first < 256 → other < 256 → long < 16 → longer < 16
+    → 2 ^ 63 + (first + 256 * (16 * count + long)) ≡ 2 ^ 63 + (other + 256 * (16 * counts + longer)) → (first ≡ other) × (count ≡ counts) × (long ≡ longer)
+parts_same first other count counts long longer h k l m e =
+    (omega (arith, h, k, l, m, e), omega (arith, h, k, l, m, e), omega (arith, h, k, l, m, e))
+
+counted_same : (a b : Bytes) (m n : ℕ) → IsCounted a m → IsCounted b n → m ≡ n → a ≡ b
+counted_same a b m n x y e =
+    let (first, count, long) = parts_same x.first y.first x.count y.count (length x.digits) (length y.digits) x.byte y.byte x.few y.few (sym x.is ∙ e ∙ y.is) in
+    let digits = (count_same 0 0 x.digits y.digits x.count y.count long x.read y.read count).1 in
+    let xs = x.parts in
+    let ys = y.parts in
+    cc
+
 one_name : (a b : Bytes) (m n : ℕ) → short_number a ≡ Some m → short_number b ≡ Some n → m ≡ n → a ≡ b
 one_name a b m n h k e = go (numbered a m h) (numbered b n k)
   where
-    go : IsShorter a m ⊎ IsFull a m → IsShorter b n ⊎ IsFull b n → a ≡ b
-    go (inl x) (inl y) = number_same a b x.bytes y.bytes (sym x.is ∙ e ∙ y.is)
-    go (inl x) (inr y) = absurd (apart a b m n x y e)
-    go (inr x) (inl y) = absurd (apart b a n m y x (sym e))
-    go (inr x) (inr y) = digits_same a b x.bytes y.bytes (x.long ∙ sym y.long) (sym x.is ∙ e ∙ y.is)
+    go : IsNumbered a m → IsNumbered b n → a ≡ b
+    go (shorter x) (shorter y) = number_same a b x.bytes y.bytes (sym x.is ∙ e ∙ y.is)
+    go (shorter x) (full y) = absurd (apart a b m n x y e)
+    go (shorter x) (counted y) = absurd (shorter_apart a b m n x y e)
+    go (full x) (shorter y) = absurd (apart b a n m y x (sym e))
+    go (full x) (full y) = digits_same a b x.bytes y.bytes (x.long ∙ sym y.long) (sym x.is ∙ e ∙ y.is)
+    go (full x) (counted y) = absurd (full_apart a b m n x y e)
+    go (counted x) (shorter y) = absurd (shorter_apart b a n m y x (sym e))
+    go (counted x) (full y) = absurd (full_apart b a n m y x (sym e))
+    go (counted x) (counted y) = counted_same a b m n x y e
 
 one_number : (a b : Bytes) (m n : ℕ) → short_number a ≡ Some m → short_number b ≡ Some n → a ≡ b → m ≡ n
 one_number a b m n h k e = some_same m n (sym h ∙ ap short_number e ∙ k)
@@ -121,9 +209,10 @@ one_number a b m n h k e = some_same m n (sym h ∙ ap short_number e ∙ k)
 pub above : (name : Bytes) (number : ℕ) → short_number name ≡ Some number → 0 < number
 above name number e = go (numbered name number e)
   where
-    go : IsShorter name number ⊎ IsFull name number → 0 < number
-    go (inl x) = let p = positive name in omega (arith, p, x.is)
-    go (inr x) = omega (arith, x.least)
+    go : IsNumbered name number → 0 < number
+    go (shorter x) = let p = positive name in omega (arith, p, x.is)
+    go (full x) = omega (arith, x.least)
+    go (counted x) = omega (arith, x.is)
 
 -- its lowest byte is the name's first
 pub first_byte : (b : ℕ) (bs : Bytes) (number : ℕ) → short_number (b ∷ bs) ≡ Some number → b ≡ number % 256
@@ -132,9 +221,16 @@ first_byte b bs number e = go (numbered (b ∷ bs) number e)
     lowest : (rest : ℕ) → are_bytes (b ∷ bs) ≡ true → number ≡ b + 256 * rest → b ≡ number % 256
     lowest rest h is = let digit = below b (both _ _ h).0 in omega (arith, digit, is)
 
-    go : IsShorter (b ∷ bs) number ⊎ IsFull (b ∷ bs) number → b ≡ number % 256
-    go (inl x) = lowest (name_number bs) x.bytes x.is
-    go (inr x) = lowest (digits_number bs) x.bytes x.is
+    same_first : (x : IsCounted (b ∷ bs) number) → b ≡ x.first
+    same_first x = let parts = x.parts in cc
+
+    in_counted : (first rest : ℕ) → first < 256 → number ≡ 2 ^ 63 + (first + 256 * rest) → first ≡ number % 256
+    in_counted first rest byte is = omega (arith, byte, is)
+
+    go : IsNumbered (b ∷ bs) number → b ≡ number % 256
+    go (shorter x) = lowest (name_number bs) x.bytes x.is
+    go (full x) = lowest (digits_number bs) x.bytes x.is
+    go (counted x) = same_first x ∙ in_counted x.first (16 * x.count + length x.digits) x.byte x.is
 
 equal_numbers : (m n : ℕ) → nat_eq m n ≡ true → m ≡ n
 equal_numbers m n e = grind (arith, nat_tests)

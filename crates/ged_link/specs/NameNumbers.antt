@@ -1,5 +1,7 @@
 -- Short names as numbers; only private functions cite this.
-use Rattle.std.specs.Prelude.{ℕ, ◌+◌, ◌-◌, ◌*◌, ◌^◌, Bool, ◌&&◌, cond, nat_eq, nat_le, nat_lt, [], ◌∷◌, Option, Some, None, length}
+use Rattle.std.specs.Prelude.{ℕ, ◌+◌, ◌-◌, ◌*◌, ◌^◌, Bool, ◌&&◌, cond, nat_eq, nat_le, nat_lt, [], ◌∷◌, Option, Some, None, option_map, length}
+use Rattle.std.specs.Char.{is_ascii_digit}
+use Rattle.std.specs.Option.{option_or}
 use Rattle.std.specs.List.{list_all}
 use Rattle.ged_line.specs.Bytes.{Bytes}
 
@@ -21,14 +23,27 @@ abbrev pub digits_number : Bytes → ℕ
 digits_number [] = 0
 digits_number (b ∷ bs) = b + 256 * digits_number bs
 
--- so many bytes, the last of which is above one: so no shorter name has their number
+-- so many bytes, the last of which is above one and below 128: so no shorter name has their number, and no counted one
 abbrev pub is_full : ℕ → Bytes → Bool
-is_full most name = nat_eq (length name) most && (list_all (λ b. nat_lt b 256) name && nat_le (2 * 256 ^ (most - 1)) (digits_number name))
+is_full most name = nat_eq (length name) most
+    && (list_all (λ b. nat_lt b 256) name && (nat_le (2 * 256 ^ (most - 1)) (digits_number name) && nat_lt (digits_number name) (128 * 256 ^ (most - 1))))
 
 -- the number of a name that is shorter than so many bytes, or has so many, without a one above them
 abbrev pub number_within : ℕ → Bytes → Option ℕ
 number_within most name = cond (is_full most name) (Some (digits_number name)) (number_up_to (most - 1) name)
 
--- the number of a name of at most eight bytes, which 64 bits hold
+-- the count that decimal digits spell after one read so far, which 50 bits hold
+abbrev pub count_read : ℕ → Bytes → Option ℕ
+count_read so_far [] = Some so_far
+count_read so_far (b ∷ bs) = cond (is_ascii_digit b && nat_lt so_far (2 ^ 46)) (count_read (so_far * 10 + (b - 48)) bs) None
+
+-- the number of a counted name, which is a byte and fewer than 16 decimal digits: the highest of 64 bits, the count, how many digits spell
+-- it, and the byte
+abbrev pub counted_number : Bytes → Option ℕ
+counted_number [] = None
+counted_number (b ∷ digits) =
+    cond (nat_lt b 256 && nat_lt (length digits) 16) (option_map (λ count. 2 ^ 63 + (b + 256 * (16 * count + length digits))) (count_read 0 digits)) None
+
+-- the number of a short name, which 64 bits hold: one of at most eight bytes, or a counted one
 abbrev pub short_number : Bytes → Option ℕ
-short_number name = number_within 8 name
+short_number name = option_or (number_within 8 name) (counted_number name)

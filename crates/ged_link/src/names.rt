@@ -1,11 +1,11 @@
 // Records by the names of their cross-reference identifiers.
-ghost use Rattle.std.specs.Prelude.{◌≡◌, ◌<◌, ◌↔◌, ℕ, IsTrue, IfOk, IfSome, OnOk, Option, Some, None, is_none, nat_eq};
+ghost use Rattle.std.specs.Prelude.{◌≡◌, ◌<◌, ◌^◌, ◌↔◌, ℕ, IsTrue, IfOk, IfSome, OnOk, Option, Some, None, is_none, nat_eq};
 ghost use Rattle.std.specs.HashMap.{get, get_by_text};
 ghost use Rattle.ged_line.specs.Bytes.{Bytes};
 ghost use Rattle.ged_link.specs.Indexes.{found_in, found_short};
 ghost use Rattle.ged_link.specs.inner.Indexes.{HasKey, HasNoOthers};
 ghost use Rattle.ged_link.specs.Slots.{slot_in, kept_in};
-ghost use Rattle.ged_link.specs.NameNumbers.{number_up_to, number_within, short_number};
+ghost use Rattle.ged_link.specs.NameNumbers.{count_read, counted_number, number_up_to, number_within, short_number};
 ghost use Rattle.ged_link.specs.inner.Listing.{listed_name};
 ghost use Rattle.ged_link.specs.inner.Resolving.{AddsName, AddsRecord};
 ghost use Rattle.ged_link.specs.inner.Slots.{kept_at, HasNoSlot};
@@ -37,14 +37,14 @@ fn number_of_few(bytes: &[u8]) -> Option<u64>
     }
 }
 
-/// The same for at most four bytes; four spell it without the one above them, and only where the last is above one.
+/// The same for at most four bytes; four spell it without the one above them, and only where the last is above one and below 128.
 #[inline(always)]
 fn number_of_rest(bytes: &[u8]) -> Option<u64>
     ensures number { result ≡ number_within 4 bytes.now }
     ensures small { IfSome result (λ number. number < 0x1_0000_0000) }
 {
     match bytes {
-        [first, second, third, fourth] if *fourth > 1 => Some(
+        [first, second, third, fourth] if *fourth > 1 && *fourth < 0x80 => Some(
             u64::from(*first)
                 + 0x100 * u64::from(*second)
                 + 0x1_0000 * u64::from(*third)
@@ -57,12 +57,12 @@ fn number_of_rest(bytes: &[u8]) -> Option<u64>
 /// The number that a name of at most eight bytes spells, or `None` for a longer one.
 ///
 /// Each byte is a digit to the base 256, the first byte the lowest, and above them stands a one, where there is room for it. Eight
-/// bytes spell a number only if the last is above one, as those of all identifiers are. So no two names spell one number.
+/// bytes spell a number only if the last is above one and below 128, as those of all identifiers are.
 #[inline(always)]
-pub(crate) fn number_of(name: &str) -> Option<u64>
-    ensures { result ≡ short_number name.now }
+fn number_of_bytes(name: &[u8]) -> Option<u64>
+    ensures { result ≡ number_within 8 name.now }
 {
-    match name.as_bytes() {
+    match name {
         [first, second, third, fourth, rest @ ..] => {
             let high = number_of_rest(rest)?;
             let low = u64::from(*first)
@@ -75,12 +75,63 @@ pub(crate) fn number_of(name: &str) -> Option<u64>
     }
 }
 
+/// Counts below it stay below 2 to the 50th with a digit more.
+const COUNT_BOUND: u64 = 0x4000_0000_0000;
+
+/// The count that decimal digits spell after one read so far, or `None` where a byte is no digit, or 50 bits do not hold it.
+fn read_count(so_far: u64, digits: &[u8]) -> Option<u64>
+    requires { so_far < 2 ^ 50 }
+    ensures count { result ≡ count_read so_far digits.now }
+    ensures small { IfSome result (λ count. count < 2 ^ 50) }
+{
+    match digits {
+        [digit, more @ ..] => {
+            if !digit.is_ascii_digit() || so_far >= COUNT_BOUND {
+                return None;
+            }
+            read_count(so_far * 10 + u64::from(*digit - b'0'), more)
+        }
+        [] => Some(so_far),
+    }
+}
+
+/// The number of a counted name, which is a byte and fewer than 16 decimal digits, or `None` for any other: programs that number
+/// their records from one list for all files spell such names.
+#[inline(never)]
+fn number_of_counted(name: &[u8]) -> Option<u64>
+    ensures { result ≡ counted_number name.now }
+{
+    match name {
+        [first, digits @ ..] => {
+            if digits.len() > 15 {
+                return None;
+            }
+            let count = read_count(0, digits)?;
+            let counted = 0x10 * count + digits.len() as u64;
+            Some(0x8000_0000_0000_0000 + u64::from(*first) + 0x100 * counted)
+        }
+        [] => None,
+    }
+}
+
+/// The number that a short name spells, or `None` for a long one. A name is short if it has at most eight bytes, as most have, or is
+/// counted. No two names spell one number.
+#[inline(always)]
+pub(crate) fn number_of(name: &str) -> Option<u64>
+    ensures { result ≡ short_number name.now }
+{
+    match number_of_bytes(name.as_bytes()) {
+        Some(number) => Some(number),
+        None => number_of_counted(name.as_bytes()),
+    }
+}
+
 /// The records of a document by their names.
 #[derive(Drop)]
 pub(crate) struct Names {
-    /// Most of those whose names have at most eight bytes.
+    /// Most of those whose names are short.
     slots: Slots,
-    /// The others whose names have at most eight bytes, by the numbers that the names spell.
+    /// The others whose names are short, by the numbers that the names spell.
     short: IndexMap<u64, RecordPlace, KeyedNumbers>,
     /// All others.
     long: IndexMap<String, RecordPlace, Keyed>,
@@ -132,7 +183,7 @@ impl Names {
         }
     }
 
-    /// The record of a name of at most eight bytes that has no slot, by the number that the name spells.
+    /// The record of a short name that has no slot, by the number that the name spells.
     #[inline(never)]
     fn find_short(&self, number: u64) -> Option<RecordPlace>
         ensures { result ≡ get nat_eq self.now.short number }
@@ -140,7 +191,7 @@ impl Names {
         self.short.get(&number).copied()
     }
 
-    /// The same for a name of more than eight bytes. It stays a call of its own, so that what is made of `find` is short.
+    /// The same for a long name. It stays a call of its own, so that what is made of `find` is short.
     #[inline(never)]
     fn find_long(&self, name: &str) -> Option<RecordPlace>
         ensures { result ≡ get_by_text self.now.long name.now }
@@ -219,7 +270,7 @@ impl Names {
         Ok(before.is_none())
     }
 
-    /// The same for a name of at most eight bytes, with the number that it spells. The answer is the record before.
+    /// The same for a short name, with the number that it spells. The answer is the record before.
     fn insert_short(
         &mut self,
         name: &str,

@@ -35,7 +35,7 @@ pub(crate) struct Region {
 /// The region of a byte that no name begins with.
 const NO_REGION: Region = Region { start: 0, room: 0 };
 
-/// Most of the records whose names have at most eight bytes, each in the slot that its name asks for: in the region of its first
+/// Most of the records whose names are short, each in the slot that its name asks for: in the region of its first
 /// letter, as far along as the number after the letter says, counted round the region. So names such as `I1`, `I2` and `F1`, or
 /// `I0500001` and `I0500002`, stand next to each other.
 ///
