@@ -48,7 +48,11 @@ fn write_tree(shape: &str, bytes: usize, seed: u64, out: &mut impl Write) -> Res
         // Very many persons with nothing but an identifier.
         "many-records" => grow("", bytes, |number| format!("0 @I{number:07}@ INDI\n"), out),
         // Very many persons, each of whom names one half the file away.
-        "far-pointers" => far_pointers(bytes, out),
+        "far-pointers" => far_pointers(bytes, |number| format!("I{number:07}"), out),
+        // The same with names of twelve digits, of which few are there, as of programs that count the records of all files.
+        "far-pointers-long-numbers" => far_pointers(bytes, |number| format!("I{}", 322_160_000_000 + 37 * number), out),
+        // The same with names of 18 letters and digits in no order.
+        "far-pointers-texts" => far_pointers(bytes, |number| format!("ID{:016X}", scattered(number as u64)), out),
         // Persons whose names have one hash, others whose names, or links, share low bits of theirs, or a slot: collisions.rs.
         "names-of-one-hash" => names_of_one_hash(bytes, out),
         "names-of-one-group" => names_of_one_group(bytes, out),
@@ -105,8 +109,14 @@ fn big_family(bytes: usize, out: &mut impl Write) -> Result<()> {
     out.write_all(TRAILER.as_bytes())
 }
 
-fn far_pointers(bytes: usize, out: &mut impl Write) -> Result<()> {
-    let part = |number: usize, other: usize| format!("0 @I{number:07}@ INDI\n1 ALIA @I{other:07}@\n");
+/// Another number for each one. The multiplier is odd, so no two have the same.
+fn scattered(number: u64) -> u64 {
+    number.wrapping_mul(0x9E37_79B9_7F4A_7C15)
+}
+
+/// Persons with these names, which are all of one length.
+fn far_pointers(bytes: usize, name: impl Fn(usize) -> String, out: &mut impl Write) -> Result<()> {
+    let part = |number: usize, other: usize| format!("0 @{}@ INDI\n1 ALIA @{}@\n", name(number), name(other));
     let count = (bytes.saturating_sub(HEADER.len() + TRAILER.len()) / part(0, 0).len()).max(1);
     grow("", bytes, |number| part(number, (number + count / 2) % count), out)
 }
