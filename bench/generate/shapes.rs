@@ -43,8 +43,9 @@ fn write_tree(shape: &str, bytes: usize, seed: u64, out: &mut impl Write) -> Res
         "disordered" => disordered(bytes, seed, out),
         // One person with very many facts of several kinds.
         "many-children" => grow("0 INDI\n", bytes, |number| FACTS[number % FACTS.len()].to_string(), out),
-        // One family with very many children, each of whom names it in turn.
-        "big-family" => big_family(bytes, out),
+        // One family with very many children, each of whom names it in turn, and one with children who do not.
+        "big-family" => big_family(bytes, "1 FAMC @F@\n", out),
+        "one-way-family" => big_family(bytes, "", out),
         // Very many persons with nothing but an identifier.
         "many-records" => grow("", bytes, |number| format!("0 @I{number:07}@ INDI\n"), out),
         // Very many persons, each of whom names one half the file away.
@@ -68,6 +69,10 @@ fn write_tree(shape: &str, bytes: usize, seed: u64, out: &mut impl Write) -> Res
         "alternating-tags" => grow("0 INDI\n", bytes, |number| FACTS[1 + number % 2].to_string(), out),
         // One person with very many structures, each with a tag of its own, the last in order first.
         "falling-tags" => grow("0 INDI\n", bytes, |number| format!("1 _T{:08}\n", 99_999_999 - number), out),
+        // Very many persons with a tag that the tables do not list, which is a notice for each.
+        "unlisted-tags" => grow("", bytes, |_| "0 INDI\n1 AFN 1\n".to_string(), out),
+        // Very many dates with the default calendar's keyword and leading zeros, which canonical forms leave out.
+        "long-dates" => grow("", bytes, |_| LONG_DATE.to_string(), out),
         // Very many records of several kinds, in turn.
         "mixed-records" => grow("", bytes, |number| RECORDS[number % RECORDS.len()].to_string(), out),
         _ => Err(Error::other(format!("no such shape: {shape}"))),
@@ -75,6 +80,8 @@ fn write_tree(shape: &str, bytes: usize, seed: u64, out: &mut impl Write) -> Res
 }
 
 const FACTS: [&str; 6] = ["1 NAME A /B/\n", "1 OCCU a\n", "1 NOTE b\n", "1 DEAT Y\n", "1 NCHI 3\n", "1 _A\n"];
+
+const LONG_DATE: &str = "0 INDI\n1 BIRT\n2 DATE BET GREGORIAN 01 JAN 0900 AND GREGORIAN 0901\n";
 
 const RECORDS: [&str; 7] = ["0 INDI\n", "0 FAM\n", "0 SOUR a\n", "0 _A\n", "0 OBJE\n", "0 SNOTE b\n", "0 _B\n"];
 
@@ -97,9 +104,10 @@ fn grow(start: &str, bytes: usize, part: impl Fn(usize) -> String, out: &mut imp
     out.write_all(TRAILER.as_bytes())
 }
 
-fn big_family(bytes: usize, out: &mut impl Write) -> Result<()> {
+/// A family and its children, each of whom has this answer to it.
+fn big_family(bytes: usize, answer: &str, out: &mut impl Write) -> Result<()> {
     let child = |number: usize| format!("1 CHIL @I{number:07}@\n");
-    let person = |number: usize| format!("0 @I{number:07}@ INDI\n1 FAMC @F@\n");
+    let person = |number: usize| format!("0 @I{number:07}@ INDI\n{answer}");
     let family = "0 @F@ FAM\n";
     let room = bytes.saturating_sub(HEADER.len() + family.len() + TRAILER.len());
     let count = room / (child(0).len() + person(0).len());
