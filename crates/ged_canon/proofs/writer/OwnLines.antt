@@ -78,6 +78,10 @@ unshortened edition r p h = brief_payload_same edition r p (nothing p)
         }
     nothing (Text (line ∷ next ∷ lines)) = tt
 
+-- nor is a line of one
+pub line_unshortened : (edition : Edition) (r : Option Row) (line : Bytes) → may_shorten edition r ≡ false → brief_line edition r line ≡ line
+line_unshortened edition r line h = (let same : Text (brief_line edition r line ∷ []) ≡ Text (line ∷ []) = unshortened edition r (Text (line ∷ [])) h in cc)
+
 pub no_row_kept : (edition : Edition) (p : Payload) → brief edition None p ≡ p
 no_row_kept First p = unshortened First None p refl
 no_row_kept Second p = unshortened Second None p refl

@@ -134,7 +134,7 @@ pub(crate) fn brief_line(
 {
     let without_calendar = has_calendar(rule.kind);
     let without_zeros = leaves_zeros_out(edition, rule.kind);
-    let mut brief = String::new(alloc);
+    let mut brief = String::with_capacity(alloc, line.len())?;
     let mut is_first = true;
     for word in line.split(' ') {
         if !is_left_out(word, without_calendar) {

@@ -20,7 +20,7 @@ ghost use Rattle.ged_canon.specs.inner.Writing.{row_of, brief_sibling, renamed_s
 
 use crate::edition::Edition;
 use crate::writer::answer::{Answer, text_value};
-use crate::writer::brief::{brief_line, is_brief_at, is_brief_line, may_be_shortened};
+use crate::writer::brief::{brief_line, is_brief_at, may_be_shortened};
 use crate::writer::numbers::new_number_at;
 use crate::writer::plan::{Plan, Work, Writer};
 use crate::writer::siblings::Sibling;
@@ -115,7 +115,7 @@ impl Plan<'_> {
         let Some(rule) = rule else {
             return answer.push_parts(level, xref, tag, text_value(line));
         };
-        if is_brief_line(self.edition, rule, line) {
+        if !may_be_shortened(self.edition, rule) {
             return answer.push_parts(level, xref, tag, text_value(line));
         }
         let brief = brief_line(self.alloc, self.edition, rule, line)?;
