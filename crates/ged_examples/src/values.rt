@@ -1,9 +1,9 @@
 // Calls of `ged_value`.
 use crate::answers::Answer;
 use ged_value::{
-    Age, Bound, Calendar, Date, DateValue, ExactDate, Given, Kind, Period, PersonName, Time, fits,
-    fitting_without_zeros, leaving_out, leaving_out_zeros, one_reading, read_age, read_date,
-    read_exact_date, read_name, read_period, read_time, trim_zeros, trimming, two_texts,
+    Age, Bound, Calendar, Date, DateValue, ExactDate, Given, Kind, Period, PersonName, Time,
+    first_word, fits, fitting_without_zeros, leaving_out, leaving_out_zeros, one_reading, read_age,
+    read_date, read_exact_date, read_name, read_period, read_time, trim_zeros, trimming, two_texts,
     without_default,
 };
 use std::alloc::{AllocError, Global};
@@ -203,6 +203,7 @@ fn answer_words(alloc: Global, call: &str, text: &str, answer: &mut Answer) -> b
     match call {
         "trim_zeros" => answer.say(trim_zeros(text)),
         "trim_zeros/words" => say_trimmed(answer, text),
+        "first_word" => say_first(answer, text),
         "without_default" => say_words(answer, text),
         "Words" => show_words(alloc, answer, text),
         "days" => say_days(alloc, answer, text),
@@ -217,6 +218,13 @@ fn say_trimmed(answer: &mut Answer, text: &str) {
         answer.say(trim_zeros(word));
         answer.say("\n");
     }
+}
+
+fn say_first(answer: &mut Answer, text: &str) {
+    let (word, behind) = first_word(text);
+    answer.say(word);
+    answer.say("\n");
+    answer.say(behind.unwrap_or("None"));
 }
 
 fn say_words(answer: &mut Answer, text: &str) {

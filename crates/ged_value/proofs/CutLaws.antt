@@ -1,10 +1,10 @@
 -- A text that is cut at a character, and the parts put together again.
-use Rattle.std.proofs.Common.{◌≡◌, ◌≢◌, ℕ, zero, suc, ◌<◌, Bool, true, false, cond, [], ◌∷◌, ◌++◌, length, get_or, take, drop, Option, Some, None, refl, sym, ap, subst, ◌∙◌, arith, append-nil}
+use Rattle.std.proofs.Common.{◌≡◌, ◌≢◌, ℕ, zero, suc, ◌<◌, Bool, true, false, cond, List, [], ◌∷◌, ◌++◌, length, get_or, take, drop, Option, Some, None, refl, sym, ap, subst, ◌∙◌, arith, append-nil}
 use Rattle.std.specs.Prelude.{◌==◌}
-use Rattle.std.specs.List.{list_all, list_any}
+use Rattle.std.specs.List.{list_all, list_any, onto_first}
 use Rattle.std.proofs.lemmas.Bool.{ne_eqb, or_from, or_parts, and_parts, false≢true, false_from_ne_true}
 use Rattle.std.proofs.lemmas.Bool.Decides.{Decides-eqb}
-use Rattle.ged_value.specs.Words.{Bytes}
+use Rattle.ged_value.specs.Words.{Bytes, words_of}
 use Rattle.ged_value.specs.inner.Cuts.{cut_at, marked}
 
 abbrev pub has : ℕ → Bytes → Bool
@@ -53,3 +53,18 @@ cut_there c text front back e h = ap (cut_at c) e ∙ cut_again c front (Some ba
 
 pub cut_nowhere : (c : ℕ) (text : Bytes) → ((i : ℕ) → i < length text → get_or text i 0 ≢ c) → cut_at c text ≡ (text, None)
 cut_nowhere c text h = ap (cut_at c) (sym (append-nil text)) ∙ cut_again c text None (has_none_at c text h)
+
+-- the words of what stands behind a first word and its space, if there is a space
+abbrev pub words_behind : Option Bytes → List Bytes
+words_behind None = []
+words_behind (Some rest) = words_of rest
+
+-- a text that is cut at a space is cut behind its first word
+pub words_cut : (text : Bytes) → words_of text ≡ (cut_at 32 text).0 ∷ words_behind (cut_at 32 text).1
+words_cut [] = refl
+words_cut (b ∷ bs) = by (b == 32) (words_cut bs)
+  where
+    by : (t : Bool) → words_of bs ≡ (cut_at 32 bs).0 ∷ words_behind (cut_at 32 bs).1
+        → let r : Bytes × Option Bytes = cond t ([], Some bs) (b ∷ (cut_at 32 bs).0, (cut_at 32 bs).1) in cond t ([] ∷ words_of bs) (onto_first b (words_of bs)) ≡ r.0 ∷ words_behind r.1
+    by true h = refl
+    by false h = ap (onto_first b) h

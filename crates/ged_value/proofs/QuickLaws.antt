@@ -1,14 +1,14 @@
 -- The dates that quick tests find.
-use Rattle.std.proofs.Common.{◌≡◌, ℕ, ◌-◌, ◌≤◌, true, ◌&&◌, inl, inr, List, [], ◌∷◌, ◌++◌, length, get_or, take, drop, Option, Some, None, is_some, refl, sym, ap, subst, ◌∙◌, arith}
+use Rattle.std.proofs.Common.{◌≡◌, ℕ, ◌-◌, ◌≤◌, true, ◌&&◌, inl, inr, List, [], ◌∷◌, ◌++◌, length, get_or, take, drop, Option, Some, None, is_some, refl, sym, ap, subst, ◌∙◌, arith, append_assoc}
 use Rattle.std.specs.Prelude.{codes, nat_le}
 use Rattle.std.specs.Option.{IfSome}
 use Rattle.std.proofs.lemmas.Bool.{or_cases, false≢true}
 use Rattle.std.proofs.lemmas.Grind.{common_steps}
 use Rattle.ged_value.specs.Words.{Bytes, is_integer, is_one_of, number, joined}
-use Rattle.ged_value.specs.Dates.{gregorian, DateParts, roman_days, SpellsDate}
+use Rattle.ged_value.specs.Dates.{gregorian, DateParts, calendar_word, roman_days, date_words, SpellsDate}
 use Rattle.ged_value.specs.Exact.{ExactParts, ExactText}
-use Rattle.ged_value.specs.Values.{ValueParts, plain, after, before, about, calculated, estimated, Behind, SpellsValue, DateValueText}
-use Rattle.ged_value.specs.inner.Quick.{DateText, IsMonthAndYear, IsDayBefore, lone_keywords}
+use Rattle.ged_value.specs.Values.{from, from_to, ValueParts, span, plain, between, after, before, about, calculated, estimated, Behind, BothBehind, SpellsValue}
+use Rattle.ged_value.specs.inner.Quick.{IsMonthAndYear, IsDayBefore, IsUnnamedDate, IsBehindCalendar, IsDateText, IsBehindKeyword, AreDatesAround, IsValueText, lone_keywords}
 use Rattle.ged_value.proofs.WordLaws.{both}
 use Rattle.ged_value.proofs.DateLaws.{same_word, date_again}
 use Rattle.ged_value.proofs.ValueLaws.{none_some}
@@ -54,31 +54,40 @@ long_day (a ∷ b ∷ []) long gap h = absurd (omega arith)
 long_day (a ∷ b ∷ c ∷ text) long gap h =
     exact_from (a ∷ b ∷ c ∷ text) (a ∷ b ∷ []) text (ap (λ x. a ∷ b ∷ x ∷ text) gap) (subst (λ others. IsDayBefore others (a ∷ b ∷ [])) (rest_of 3 (a ∷ b ∷ c ∷ text)) h)
 
-abbrev IsDateText : Bytes → Type 0
-IsDateText text = (date : DateParts) × DateText date text
-
-pub exact_is_date : (text : Bytes) → ((date : ExactParts) × ExactText date text) → IsDateText text
+pub exact_is_date : (text : Bytes) → ((date : ExactParts) × ExactText date text) → IsUnnamedDate text
 exact_is_date text h =
     let spelled = h.1 in
     let exact = spelled.1 in
-    (date_of h.0, (spelled.0, (is_date_of h.0 exact.0, inr (refl, exact.1)), spelled.2))
+    (date_of h.0, refl, is_date_of h.0 exact.0, spelled.2 ∙ ap joined exact.1)
 
-month_is_date : (text : Bytes) (days : ℕ) → IsMonthAndYear days text → IsDateText text
+month_is_date : (text : Bytes) (days : ℕ) → IsMonthAndYear days text → IsUnnamedDate text
 month_is_date text days h =
     let date : DateParts = record { calendar = gregorian; day = None; month = Some h.0; year = h.1; epoch = None } in
-    (date, (h.0 ∷ h.1 ∷ [], (rw (h.2, h.3) refl, inr (refl, refl)), h.4))
+    (date, refl, rw (h.2, h.3) refl, h.4)
 
-pub some_month : (text : Bytes) (o : Option ℕ) → IfSome o (λ days. IsMonthAndYear days text) → is_some o ≡ true → IsDateText text
+pub some_month : (text : Bytes) (o : Option ℕ) → IfSome o (λ days. IsMonthAndYear days text) → is_some o ≡ true → IsUnnamedDate text
 some_month text None h some = absurd (false≢true some)
 some_month text (Some days) h some = month_is_date text days h
 
-pub year_is_date : (text : Bytes) → is_integer text ≡ true → IsDateText text
+pub year_is_date : (text : Bytes) → is_integer text ≡ true → IsUnnamedDate text
 year_is_date text h =
     let date : DateParts = record { calendar = gregorian; day = None; month = None; year = text; epoch = None } in
-    (date, (text ∷ [], (rw h refl, inr (refl, refl)), refl))
+    (date, refl, rw h refl, refl)
 
-abbrev IsValueText : Bytes → Type 0
-IsValueText text = (value : ValueParts) × DateValueText value text
+-- the calendar may be left out, or stand before the date
+pub unnamed_is_date : (text : Bytes) → IsUnnamedDate text → IsDateText text
+unnamed_is_date text h = (h.0, (date_words h.0, (h.2, inr (h.1, refl)), h.3))
+
+named : (d : DateParts) (words : List Bytes) (text others : Bytes) → SpellsDate d words → d.calendar ≡ gregorian → words ≡ date_words d → text ≡ codes "GREGORIAN " ++ others → others ≡ joined words → IsDateText text
+named d [] text others s g w e o = absurd (none_some (date_again d [] s))
+named d (w ∷ ws) text others s g same e o =
+    (d, (codes "GREGORIAN" ∷ w ∷ ws, (s.0, inl (ap (λ c. calendar_word c ∷ w ∷ ws) (sym g) ∙ ap (λ x. calendar_word d.calendar ∷ x) same)), e ∙ ap (λ x. codes "GREGORIAN " ++ x) o))
+
+pub named_is_date : (text others : Bytes) → text ≡ codes "GREGORIAN " ++ others → IsUnnamedDate others → IsDateText text
+named_is_date text others e h = named h.0 (date_words h.0) text others (h.2, inr (h.1, refl)) h.1 refl e h.3
+
+pub calendar_before : (text others : Bytes) → IsBehindCalendar text others → IsUnnamedDate others → IsDateText text
+calendar_before text others h date = elim h [ inl e ↦ unnamed_is_date text (subst IsUnnamedDate (sym e) date) | inr e ↦ named_is_date text others e date ]
 
 pub date_is_value : (text : Bytes) → IsDateText text → IsValueText text
 date_is_value text h = (plain h.0, h.1)
@@ -109,14 +118,69 @@ behind : (k text others : Bytes) (d : DateParts) (ws : List Bytes) → IsLone k 
 behind k text others d [] f e s o = absurd (none_some (date_again d [] s))
 behind k text others d (w ∷ ws) f e s o = (f.0 d, (k ∷ w ∷ ws, f.1 d (k ∷ w ∷ ws) (w ∷ ws, s, refl), e ∙ ap (λ x. k ++ (32 ∷ x)) o))
 
--- three letters of a keyword, a space and a date
-pub behind_keyword : (text : Bytes) → 4 ≤ length text → get_or text 3 0 ≡ 32 → is_one_of lone_keywords (get_or text 0 0 ∷ get_or text 1 0 ∷ get_or text 2 0 ∷ []) ≡ true
-    → IsDateText (take (length text - 4) (drop 4 text)) → IsValueText text
-behind_keyword [] long gap keyword h = absurd (omega arith)
-behind_keyword (a ∷ []) long gap keyword h = absurd (omega arith)
-behind_keyword (a ∷ b ∷ []) long gap keyword h = absurd (omega arith)
-behind_keyword (a ∷ b ∷ c ∷ []) long gap keyword h = absurd (omega arith)
-behind_keyword (a ∷ b ∷ c ∷ d ∷ text) long gap keyword h =
-    let date : IsDateText text = subst IsDateText (rest_of 4 (a ∷ b ∷ c ∷ d ∷ text)) h in
-    let spelled = date.1 in
-    behind (a ∷ b ∷ c ∷ []) (a ∷ b ∷ c ∷ d ∷ text) text date.0 spelled.0 (lone (a ∷ b ∷ c ∷ []) keyword) (ap (λ x. a ∷ b ∷ c ∷ x ∷ text) gap) spelled.1 spelled.2
+-- three letters of a keyword and a space
+pub keyword_here : (text : Bytes) → 4 ≤ length text → get_or text 3 0 ≡ 32 → is_one_of lone_keywords (get_or text 0 0 ∷ get_or text 1 0 ∷ get_or text 2 0 ∷ []) ≡ true
+    → IsBehindKeyword text (take (length text - 4) (drop 4 text))
+keyword_here [] long gap keyword = absurd (omega arith)
+keyword_here (a ∷ []) long gap keyword = absurd (omega arith)
+keyword_here (a ∷ b ∷ []) long gap keyword = absurd (omega arith)
+keyword_here (a ∷ b ∷ c ∷ []) long gap keyword = absurd (omega arith)
+keyword_here (a ∷ b ∷ c ∷ d ∷ text) long gap keyword =
+    let whole = a ∷ b ∷ c ∷ d ∷ text in
+    subst (λ others. IsBehindKeyword whole others) (sym (rest_of 4 whole)) (inr (a ∷ b ∷ c ∷ [], keyword, ap (λ x. a ∷ b ∷ c ∷ x ∷ text) gap))
+
+pub keyword_before : (text others : Bytes) → IsBehindKeyword text others → IsDateText others → IsValueText text
+keyword_before text others h date = elim h [
+  | inl e ↦ subst IsValueText (sym e) (date_is_value others date)
+  | inr k ↦ let spelled = date.1 in behind k.0 text others date.0 spelled.0 (lone k.0 k.1) k.2 spelled.1 spelled.2
+]
+
+pub from_is_value : (text date : Bytes) → text ≡ codes "FROM " ++ date → IsDateText date → IsValueText text
+from_is_value text date e h = let spelled = h.1 in behind (codes "FROM") text date h.0 spelled.0 (λ d. span (from d), λ d ws b. b) e spelled.1 spelled.2
+
+-- words with another one between them
+joined_around : (word l r : Bytes) (left right : List Bytes) → joined ((l ∷ left) ++ (word ∷ r ∷ right)) ≡ joined (l ∷ left) ++ (32 ∷ (word ++ (32 ∷ joined (r ∷ right))))
+joined_around word l r [] right = refl
+joined_around word l r (v ∷ vs) right =
+    ap (λ x. l ++ (32 ∷ x)) (joined_around word v r vs right) ∙ sym (append_assoc l (32 ∷ joined (v ∷ vs)) (32 ∷ (word ++ (32 ∷ joined (r ∷ right)))))
+
+-- two dates behind keywords
+abbrev AreBothBehind : Bytes → DateParts → Bytes → DateParts → Bytes → Type 0
+AreBothBehind first d second e text = (words : List Bytes) × BothBehind first d second e words × (text ≡ joined words)
+
+both_behind : (first second text dates front back : Bytes) (d e : DateParts) (left right : List Bytes) → text ≡ first ++ (32 ∷ dates) → dates ≡ front ++ (32 ∷ (second ++ (32 ∷ back)))
+    → SpellsDate d left → front ≡ joined left → SpellsDate e right → back ≡ joined right → AreBothBehind first d second e text
+both_behind first second text dates front back d e [] right t u s f r b = absurd (none_some (date_again d [] s))
+both_behind first second text dates front back d e (l ∷ left) [] t u s f r b = absurd (none_some (date_again e [] r))
+both_behind first second text dates front back d e (l ∷ left) (w ∷ ws) t u s f r b =
+    let inside : dates ≡ joined ((l ∷ left) ++ (second ∷ w ∷ ws)) =
+    u ∙ ap (λ x. x ++ (32 ∷ (second ++ (32 ∷ back)))) f ∙ ap (λ x. joined (l ∷ left) ++ (32 ∷ (second ++ (32 ∷ x)))) b ∙ sym (joined_around second l w left ws) in
+    (first ∷ ((l ∷ left) ++ (second ∷ w ∷ ws)), (l ∷ left, w ∷ ws, s, r, refl), t ∙ ap (λ x. first ++ (32 ∷ x)) inside)
+
+-- the first date's calendar stands before what is searched
+pub dates_there : (word text others front back : Bytes) → IsBehindCalendar text others → others ≡ front ++ (word ++ back) → IsUnnamedDate front → IsDateText back → AreDatesAround word text
+dates_there word text others front back h o first last = elim h [
+  | inl e ↦ (front, back, unnamed_is_date front first, last, e ∙ o)
+  | inr e ↦ (codes "GREGORIAN " ++ front, back, named_is_date (codes "GREGORIAN " ++ front) front refl first, last, e ∙ ap (λ x. codes "GREGORIAN " ++ x) o)
+]
+
+dates_behind : (first second text dates : Bytes) → text ≡ first ++ (32 ∷ dates) → AreDatesAround (32 ∷ (second ++ (32 ∷ []))) dates → (d : DateParts) × ((e : DateParts) × AreBothBehind first d second e text)
+dates_behind first second text dates e h =
+    let front = h.2 in
+    let back = h.3 in
+    let left = front.1 in
+    let right = back.1 in
+    let inside : dates ≡ h.0 ++ (32 ∷ (second ++ (32 ∷ h.1))) = h.4 ∙ ap (λ x. h.0 ++ (32 ∷ x)) (append_assoc second (32 ∷ []) h.1) in
+    (front.0, (back.0, both_behind first second text dates h.0 h.1 front.0 back.0 left.0 right.0 e inside left.1 left.2 right.1 right.2))
+
+pub between_is_value : (text dates : Bytes) → text ≡ codes "BET " ++ dates → AreDatesAround (codes " AND ") dates → IsValueText text
+between_is_value text dates e h =
+    let both = dates_behind (codes "BET") (codes "AND") text dates e h in
+    let rest = both.1 in
+    (between both.0 rest.0, rest.1)
+
+pub period_is_value : (text dates : Bytes) → text ≡ codes "FROM " ++ dates → AreDatesAround (codes " TO ") dates → IsValueText text
+period_is_value text dates e h =
+    let both = dates_behind (codes "FROM") (codes "TO") text dates e h in
+    let rest = both.1 in
+    (span (from_to both.0 rest.0), rest.1)

@@ -1,11 +1,10 @@
 // The words of a text without the default calendar's.
-ghost use Rattle.std.specs.Prelude.{◌≡◌, ◌∷◌};
+ghost use Rattle.std.specs.Prelude.{◌≡◌};
 ghost use Rattle.std.specs.Iterator.{YieldsFirstBy, item_count};
-ghost use Rattle.ged_value.specs.Words.{words_of};
 ghost use Rattle.ged_value.specs.Texts.{bytes_of};
 ghost use Rattle.ged_value.specs.Default.{without_default};
-ghost use Rattle.ged_value.specs.Left.{words_left};
 
+use crate::split::first_word;
 use std::marker::Model;
 
 /// The words of a text that are left, from the first, without each `GREGORIAN`. Contracts see them as the list of their
@@ -23,16 +22,6 @@ impl<'a> Model for Words<'a> {
     ghost Value = { List Bytes };
 
     ghost view = { λ words. left_of words.rest };
-}
-
-/// The first word of a text, and what stands behind the space after it.
-fn first_word(text: &str) -> (&str, Option<&str>)
-    ensures { words_of text.now ≡ result.0.now ∷ words_left result.1 }
-{
-    match text.split_once(' ') {
-        Some((word, rest)) => (word, Some(rest)),
-        None => (text, None),
-    }
 }
 
 impl<'a> Iterator for Words<'a> {

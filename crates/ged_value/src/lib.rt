@@ -29,6 +29,7 @@ pub use exact::{ExactDate, read_exact_date};
 pub use kind::{Given, Kind, fits};
 pub use laws::{leaving_out, one_reading, two_texts};
 pub use name::{PersonName, read_name};
+pub use split::first_word;
 pub use time::{Time, read_time};
 pub use value::{DateValue, Period, read_date, read_period};
 pub use zeros::{fitting_without_zeros, leaving_out_zeros, trim_zeros, trimming};

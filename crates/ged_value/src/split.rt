@@ -1,13 +1,25 @@
 // The words of a text, between single spaces.
-ghost use Rattle.std.specs.Prelude.{◌≡◌, ◌<◌, ◌≤◌, take, length, MatchOption};
+ghost use Rattle.std.specs.Prelude.{◌≡◌, ◌<◌, ◌≤◌, ◌∷◌, take, length, MatchOption};
 ghost use Rattle.std.specs.Option.{option_map};
 ghost use Rattle.ged_value.specs.Words.{words_of};
+ghost use Rattle.ged_value.specs.Left.{words_left};
 ghost use Rattle.ged_value.specs.inner.WordReading.{around};
 ghost use Rattle.ged_value.specs.inner.Texts.{texts};
 ghost use Rattle.ged_value.specs.declared.split.TheConstants.{MOST};
 
+use crate::cut::cut_at;
+
 /// The most words that a value has: two keywords, each before a date of five words.
 const MOST: usize = 12;
+
+/// The first word of a text, and what stands behind the space after it, or `None` where there is no space. Words stand between single
+/// spaces, so one may be empty. Takes no memory (FamilySearch GEDCOM 7.0, "Data types").
+#[inline(always)]
+pub fn first_word(text: &str) -> (&str, Option<&str>)
+    ensures { words_of text.now ≡ result.0.now ∷ words_left result.1 }
+{
+    cut_at(text, b' ')
+}
 
 /// The words of a text that has no more than a value may have.
 #[derive(Drop)]
@@ -33,12 +45,15 @@ pub(crate) fn words_of(text: &str) -> Option<WordList<'_>>
 {
     let mut words = [""; MOST];
     let mut count = 0;
-    for word in text.split(' ') {
+    let mut rest = Some(text);
+    while let Some(left) = rest {
         if count == MOST {
             return None;
         }
+        let (word, behind) = first_word(left);
         words[count] = word;
         count += 1;
+        rest = behind;
     }
     Some(WordList { words, count })
 }

@@ -17,7 +17,7 @@ ghost use Rattle.ged_tree.specs.Places.{structure_at};
 use crate::edition::Edition;
 use ged_schema::Rule;
 use ged_tree::{Forest, PayloadView};
-use ged_value::{Kind, trim_zeros};
+use ged_value::{Kind, first_word, trim_zeros};
 use std::alloc::{AllocError, Global};
 
 #[inline(always)]
@@ -60,10 +60,13 @@ fn are_brief_words(line: &str, without_calendar: bool, without_zeros: bool) -> b
     if !without_zeros && !line.as_bytes().contains(&b'G') {
         return true;
     }
-    for word in line.split(' ') {
+    let mut rest = Some(line);
+    while let Some(left) = rest {
+        let (word, behind) = first_word(left);
         if !is_brief_word(word, without_calendar, without_zeros) {
             return false;
         }
+        rest = behind;
     }
     true
 }
@@ -136,11 +139,14 @@ pub(crate) fn brief_line(
     let without_zeros = leaves_zeros_out(edition, rule.kind);
     let mut brief = String::with_capacity(alloc, line.len())?;
     let mut is_first = true;
-    for word in line.split(' ') {
+    let mut rest = Some(line);
+    while let Some(left) = rest {
+        let (word, behind) = first_word(left);
         if !is_left_out(word, without_calendar) {
             append_word(&mut brief, trimmed(word, without_zeros), is_first)?;
             is_first = false;
         }
+        rest = behind;
     }
     Ok(brief)
 }

@@ -1,15 +1,18 @@
-use Rattle.std.proofs.Common.{lit<, arith, ap, ◌∙◌}
-use Rattle.std.proofs.lemmas.Iterator.Splits.{YieldsList-from_str_split}
-use Rattle.std.proofs.lemmas.Iterator.Consumers.{YieldsList-turn, YieldsList-end}
+use Rattle.std.proofs.Common.{◌≡◌, ◌+◌, ◌++◌, take, length, ap, ◌∙◌, arith, length-append}
+use Rattle.std.specs.Prelude.{◌==◌}
+use Rattle.std.proofs.lemmas.List.{length-take, length-map}
+use Rattle.std.proofs.lemmas.List.Splits.{length-slice_split}
+use Rattle.ged_value.specs.Words.{words_of}
+use Rattle.ged_value.specs.Left.{words_left}
 use Rattle.ged_value.specs.inner.Texts.{texts}
 use Rattle.ged_value.proofs.split.words_of.Goals as goal
 
+-- twelve words, and a text behind them, have more than twelve
 pub returns-then-count-eq-MOST : goal.returns-then-count-eq-MOST
 returns-then-count-eq-MOST c =
-    let t = YieldsList-turn (YieldsList-from_str_split {s = c.into_iter-word-iterator.result} 32 c.args.text.now (lit< tt) (cc) (cc) (cc)) c.loop-word.yielded _ c.loop-word.yielded_by _ _ c.in-Some.word c.in-Some.is c.next.ensures.steps in
-    omega (arith, t.0)
-
-pub returns : goal.returns
-returns c =
-    let t = YieldsList-end (YieldsList-from_str_split {s = c.into_iter-word-iterator.result} 32 c.args.text.now (lit< tt) (cc) (cc) (cc)) c.loop-word.yielded _ c.loop-word.yielded_by _ _ c.in-None.is c.next.ensures.steps in
-    ap texts c.loop-word.invariant.kept ∙ t.0
+    let before = c.loop-rest.invariant in
+    let front = texts (take c.loop-rest.count c.loop-rest.words) in
+    let total : length (words_of c.args.text.now) ≡ length front + length (words_of c.in-Some.left.now) =
+    ap length (before.so_far ∙ ap (λ rest. front ++ words_left rest) c.in-Some.is) ∙ length-append front (words_of c.in-Some.left.now) in
+    let twelve : length front ≡ 12 = simp length-map (omega (arith, length-take c.loop-rest.count c.loop-rest.words)) in
+    omega (arith, total, twelve, length-slice_split (λ b. b == 32) c.in-Some.left.now)

@@ -1,8 +1,14 @@
-use Rattle.std.proofs.Common.{string_bytes}
-use Rattle.ged_value.specs.inner.Texts.{texts}
+use Rattle.std.proofs.Common.{◌≡◌, ◌++◌, List, length, string_bytes}
+use Rattle.ged_line.specs.Bytes.{Bytes}
+use Rattle.ged_value.specs.Words.{words_of}
+use Rattle.ged_value.specs.Left.{words_left}
 use Rattle.ged_canon.proofs.writer.BriefWords.{MadeOf, left}
 use Rattle.ged_canon.proofs.writer.brief.brief_line.Given as goal
 
--- the line is made of what is left of the words so far
-abbrev pub invariant-loop-word : goal.invariant-loop-word
-invariant-loop-word l = MadeOf (string_bytes l.brief) l.is_first (left l.without_calendar l.without_zeros (texts l.yielded))
+-- the line is made of what is left of the words so far, which stand before the others
+abbrev pub invariant-loop-rest : goal.invariant-loop-rest
+invariant-loop-rest l =
+    (words : List Bytes) × MadeOf (string_bytes l.brief) l.is_first (left l.without_calendar l.without_zeros words) × (words_of l.line ≡ words ++ words_left l.rest)
+
+abbrev pub decreases-loop-rest : goal.decreases-loop-rest
+decreases-loop-rest l = length (words_left l.rest)
