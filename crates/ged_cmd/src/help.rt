@@ -187,4 +187,4 @@ pub(crate) const OF_KEEP_NAMES: &str = "Leave identifiers as they are";
 
 pub(crate) const OF_OUTPUT: &str = "Write the answer to this file, whole or not at all";
 
-pub(crate) const OF_EXPLAIN: &str = "Explain faults and notices on standard error";
+pub(crate) const OF_EXPLAIN: &str = "Explain a fault, and the notices of check, on standard error";

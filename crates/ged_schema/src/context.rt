@@ -71,6 +71,6 @@ pub enum Context {
     Note,
     /// Below structures that have no substructures of a standard tag.
     Leaf,
-    /// Below structures that are carried as they are, those without a row among them: nothing is asked here.
+    /// Below structures that are carried as they are, those without a row among them: nothing is required here.
     Unchecked,
 }
