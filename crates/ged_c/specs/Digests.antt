@@ -15,7 +15,7 @@ abbrev pub DigestMeansAs : Profile → Edition → Bytes → Bytes → Bytes →
 DigestMeansAs profile edition file before after (Answered count) = (length file ≤ limit)
     × ((digest : Bytes) × IsDigest profile edition file digest × IsPut digest before after (Answered count))
 DigestMeansAs profile edition file before after (NoRoom count) = (length before < 32) × (after ≡ before)
-DigestMeansAs profile edition file before after (Refused fault) = TellsOf profile Canon file fault × (after ≡ before)
+DigestMeansAs profile edition file before after (Refused fault) = (32 ≤ length before) × TellsOf profile Canon file fault × (after ≡ before)
 DigestMeansAs profile edition file before after BadSettings = ⊥
 DigestMeansAs profile edition file before after NotFound = ⊥
 

@@ -3,6 +3,7 @@ ghost use Rattle.std.specs.Prelude.{◌≡◌, false};
 ghost use Rattle.std.specs.Io.KnownBytes.{Keeps};
 ghost use Rattle.ged_faults.specs.Faults.{status_of};
 
+use crate::names::shown_name;
 use crate::tells::finish;
 use crate::words::Request;
 use ged_explain::{explain_device, explain_fault, explain_notice};
@@ -58,9 +59,12 @@ pub(crate) fn text_of(
     name: &str,
     reason: &str,
 ) -> Result<String, AllocError> {
+    let shown = shown_name(alloc, name)?;
     match fault {
-        Fault::ReadFailed | Fault::WriteFailed => explain_device(alloc, &fault, name, reason),
-        _ => explain_fault(alloc, bytes, &fault, name),
+        Fault::ReadFailed | Fault::WriteFailed => {
+            explain_device(alloc, &fault, shown.as_str(), reason)
+        }
+        _ => explain_fault(alloc, bytes, &fault, shown.as_str()),
     }
 }
 
@@ -123,7 +127,9 @@ fn explain_done<E: Write>(alloc: Global, request: Request<'_>, bytes: &[u8], err
     } = request
     {
         let name = file.unwrap_or("standard input");
-        explain_notices(alloc, settings, bytes, name, errors);
+        if let Ok(shown) = shown_name(alloc, name) {
+            explain_notices(alloc, settings, bytes, shown.as_str(), errors);
+        }
     }
 }
 
@@ -157,10 +163,12 @@ fn explain_accepted<E: Write>(
 
 /// Tells how many more notices there are, if there are any.
 fn tell_more<E: Write>(more: usize, errors: &mut E) {
-    if more > 0 {
-        // a line that can't be written changes no status
-        let _ = writeln!(errors, "{more} more notices are not explained");
-    }
+    // a line that can't be written changes no status
+    let _ = match more {
+        0 => Ok(()),
+        1 => writeln!(errors, "1 more notice is not explained"),
+        _ => writeln!(errors, "{more} more notices are not explained"),
+    };
 }
 
 /// Writes a text, if there is one. One that can't be written changes no status.

@@ -57,7 +57,8 @@ Exit status:
   0  The file is accepted.
   1  It has a fault.
   2  A usage error.
-  3  It cannot be read or is too long, or there is not enough memory.
+  3  It cannot be read or is too long, the answer cannot be written, or there is not
+     enough memory.
 
 Examples:
   gedtool check family.ged
@@ -121,7 +122,8 @@ Exit status:
   0  The files are the same.
   1  They differ, or one has a fault.
   2  A usage error.
-  3  A file cannot be read or is too long, or there is not enough memory.
+  3  A file cannot be read or is too long, the answer cannot be written, or there is not
+     enough memory.
 
 Examples:
   gedtool same one.ged another.ged

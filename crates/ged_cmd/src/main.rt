@@ -20,6 +20,7 @@ mod explanations;
 mod grammar;
 mod help;
 mod meanings;
+mod names;
 mod shelf;
 mod tells;
 mod wanted;
@@ -66,8 +67,8 @@ fn words_of(rt: &HostRuntime) -> io::Result<Vec<String>> {
 }
 
 /// Does what the words ask for, and gives the program's status: 0 where the answer or the help was
-/// written, 1 for a fault of the file or two files that differ, 2 for a mistake in the words, 3 for a fault of a device or
-/// want of memory.
+/// written, 1 for a fault of the file or two files that differ, 2 for a mistake in the words or where they can't be had, 3 for a
+/// fault of a device or want of memory from then on.
 fn perform<S: Shelf, R: Source, W: Write, E: Write>(
     alloc: Global,
     shelf: &S,

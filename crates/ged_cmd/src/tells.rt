@@ -7,6 +7,7 @@ ghost use Rattle.ged_faults.specs.Faults.{status_of};
 ghost use Rattle.ged_cmd.specs.Program.{IsUnwritten, refusal_status, writer as writer_of};
 
 use crate::commands::failed;
+use crate::names::write_name;
 use crate::wanted::Mistake;
 use clap::Error;
 use clap::error::ErrorKind;
@@ -89,7 +90,8 @@ pub(crate) fn tell_named<E: Write>(name: &str, fault: &Fault, errors: &mut E) ->
 }
 
 fn write_named_line<W: Write>(name: &str, fault: &Fault, line: &mut W) -> io::Result<()> {
-    write!(line, "{name}: ")?;
+    write_name(name, line)?;
+    write!(line, ": ")?;
     write_line(None, fault, line)
 }
 

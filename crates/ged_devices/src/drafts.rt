@@ -9,7 +9,7 @@ use itoa::Buffer;
 use std::alloc::Global;
 use std::fs::{self, OpenFile, OpenOptions, Permissions};
 use std::io::{self, ErrorKind, Write};
-use std::os::unix::fs::{OpenOptionsExt, PermissionsExt};
+use std::os::unix::fs::{MetadataExt, OpenOptionsExt, PermissionsExt};
 use std::rt::Files;
 
 /// How many names are tried for a new file.
@@ -32,8 +32,28 @@ pub enum Fate {
     Dropped,
 }
 
+/// What a new file takes over from the one whose place it is to take.
+#[derive(Clone, Copy)]
+struct Kept {
+    mode: u32,
+    group: u32,
+}
+
+impl Kept {
+    /// The permissions that a new file of a group gets. Where that is another group, its members get none, and all others only those
+    /// that the members of the first one had too: so nobody may do more than before. Nor does the file run as its new owner.
+    fn mode_for(self, group: u32) -> u32 {
+        let mode = self.mode & 0o777;
+        if group == self.group {
+            return mode;
+        }
+        let of_both = mode & (mode >> 3) & 0o007;
+        mode & 0o700 | of_both
+    }
+}
+
 /// A new file of the system, which is to take the place of another. It is created by its first write, beside the other one, and
-/// keeps the permissions of that.
+/// keeps the permissions of that, but for those of a group that is not its own.
 #[derive(Drop)]
 pub struct NewFile<'a, F: Files> {
     files: &'a F,
@@ -41,7 +61,7 @@ pub struct NewFile<'a, F: Files> {
     target: String,
     folder: String,
     path: String,
-    mode: Option<u32>,
+    kept: Option<Kept>,
     file: Option<F::File>,
     /// What has become of it.
     pub fate: Fate,
@@ -61,7 +81,7 @@ impl<'a, F: Files> NewFile<'a, F> {
         ensures pending { IfOk result (λ draft. draft.fate ≡ Fate.Pending) }
     {
         let target = target_of(alloc, files, name)?;
-        let mode = mode_of(files, target.as_str())?;
+        let kept = kept_of(files, target.as_str())?;
         let folder = folder_of(alloc, target.as_str())?;
         let path = String::with_capacity(alloc, folder.len() + NAME_ROOM)?;
         Ok(NewFile {
@@ -70,25 +90,25 @@ impl<'a, F: Files> NewFile<'a, F> {
             target,
             folder,
             path,
-            mode,
+            kept,
             file: None,
             fate: Fate::Pending,
             failed: false,
         })
     }
 
-    /// Creates the file under the first name that no other has. It keeps the permissions of the file whose place it is to
+    /// Creates the file under the first name that no other has, with the permissions that it keeps of the file whose place it is to
     /// take.
     fn create(&mut self) -> io::Result<()>
         ensures { self.new.failed ≡ self.old.failed }
     {
         let file = self.open_new()?;
-        let kept = match self.mode {
-            Some(mode) => file.set_permissions(Permissions::from_mode(mode)),
+        let given = match self.kept {
+            Some(kept) => give_permissions(&file, kept),
             None => Ok(()),
         };
         self.file = Some(file);
-        kept
+        given
     }
 
     fn open_new(&mut self) -> io::Result<F::File>
@@ -120,7 +140,7 @@ impl<'a, F: Files> NewFile<'a, F> {
     fn options(&self) -> OpenOptions {
         let mut options = OpenOptions::new();
         options.write(true).create_new(true);
-        if self.mode.is_some() {
+        if self.kept.is_some() {
             options.mode(OWN_MODE);
         }
         options
@@ -222,9 +242,15 @@ fn target_of<F: Files>(alloc: Global, files: &F, name: &str) -> io::Result<Strin
     }
 }
 
-/// The permissions of the file of this path, or `None` where there is none. One that is no regular file, or may not be
+/// Gives a new file the permissions that it keeps.
+fn give_permissions<F: OpenFile>(file: &F, kept: Kept) -> io::Result<()> {
+    let group = file.metadata()?.gid();
+    file.set_permissions(Permissions::from_mode(kept.mode_for(group)))
+}
+
+/// What a new file keeps of the file of this path, or `None` where there is none. One that is no regular file, or may not be
 /// written, is an error, so that no device is replaced, and no file that is protected.
-fn mode_of<F: Files>(files: &F, path: &str) -> io::Result<Option<u32>> {
+fn kept_of<F: Files>(files: &F, path: &str) -> io::Result<Option<Kept>> {
     let metadata = match fs::metadata(files, path) {
         Ok(metadata) => metadata,
         Err(error) if error.kind() == ErrorKind::NotFound => return Ok(None),
@@ -237,7 +263,10 @@ fn mode_of<F: Files>(files: &F, path: &str) -> io::Result<Option<u32>> {
         return Err(io::Error::from(ErrorKind::Unsupported));
     }
     OpenOptions::new().write(true).open(files, path)?;
-    Ok(Some(metadata.permissions().mode()))
+    Ok(Some(Kept {
+        mode: metadata.permissions().mode(),
+        group: metadata.gid(),
+    }))
 }
 
 /// The folder of the file of this path, with its slash; nothing where the path has none.

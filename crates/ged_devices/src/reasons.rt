@@ -1,5 +1,5 @@
 // Why a device failed, as the system says it.
-ghost use Rattle.std.specs.Prelude.{ℕ};
+ghost use Rattle.std.specs.Prelude.{ℕ, ◌≡◌};
 
 use std::cell::Cell;
 use std::io;
@@ -58,7 +58,9 @@ pub struct Noted<'a, D> {
 
 impl<'a, D> Noted<'a, D> {
     /// The device, whose failures are noted as this reason. Takes no memory.
-    pub fn new(device: D, reason: &'a Reason) -> Noted<'a, D> {
+    pub fn new(device: D, reason: &'a Reason) -> Noted<'a, D>
+        ensures { result.device ≡ device }
+    {
         Noted { device, reason }
     }
 }

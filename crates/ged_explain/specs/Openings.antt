@@ -1,13 +1,9 @@
 -- How the lines that explain a fault begin.
-use Rattle.std.specs.Prelude.{◌≡◌, ◌==◌, ℕ, [], ◌∷◌, ◌++◌, codes, decimal, length, if◌then◌else◌}
+use Rattle.std.specs.Prelude.{◌==◌, ℕ, [], ◌∷◌, ◌++◌, codes, decimal, length, if◌then◌else◌}
 use Rattle.ged_line.specs.Bytes.{Bytes, line_feed}
 use Rattle.ged_faults.specs.declared.faults.Fault.{Fault}
 use Rattle.ged_faults.specs.declared.faults.Fault.TheVariants.{InFile, TooLong, ReadFailed, WriteFailed, Memory}
-use Rattle.ged_explain.specs.Showing.{ShowsPiece}
-
--- the text begins so
-abbrev pub Begins : Bytes → Bytes → Type 0
-Begins front text = (rest : Bytes) × (text ≡ front ++ rest)
+use Rattle.ged_explain.specs.Showing.{Begins, ShowsPiece}
 
 -- the line that names the file
 abbrev pub file_line : Bytes → Bytes

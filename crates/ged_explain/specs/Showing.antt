@@ -1,5 +1,5 @@
 -- Lines of a file as they are shown.
-use Rattle.std.specs.Prelude.{◌≡◌, ◌≤◌, ◌<◌, ◌-◌, ℕ, List, [], ◌∷◌, ◌++◌, ⊤, MatchOption, codes, length, slice_get, IsUtf8}
+use Rattle.std.specs.Prelude.{◌≡◌, ◌≤◌, ◌<◌, ◌-◌, ℕ, List, [], ◌∷◌, ◌++◌, MatchOption, codes, length, slice_get, IsUtf8}
 use Rattle.std.specs.List.{All}
 use Rattle.ged_line.specs.Bytes.{Bytes, line_feed}
 use Rattle.ged_line.specs.Pieces.{ArePiecesOf}
@@ -12,8 +12,13 @@ IsSign byte = (32 ≤ byte) × (byte < 127)
 abbrev pub IsPlain : Bytes → Type 0
 IsPlain piece = IsUtf8 piece × (length piece ≤ 120) × All IsSign piece
 
--- what is shown behind the number of a line: if the file has a line of this number and it is plain, that line
+-- the text begins so
+abbrev pub Begins : Bytes → Bytes → Type 0
+Begins front text = (rest : Bytes) × (text ≡ front ++ rest)
+
+-- what is shown behind the number of a line: a colon and, if it is plain, the line; or that the file has no line of this number
 abbrev pub ShowsPiece : Bytes → ℕ → Bytes → Type 0
 ShowsPiece bytes line shown = 0 < line → (pieces : List Bytes) × ArePiecesOf bytes pieces
-    × MatchOption (slice_get pieces (line - 1)) ⊤
-    (λ piece. IsPlain piece → shown ≡ codes ": " ++ (piece ++ line_feed ∷ []))
+    × MatchOption (slice_get pieces (line - 1))
+    (shown ≡ codes " is past the last line" ++ line_feed ∷ [])
+    (λ piece. Begins (codes ": ") shown × (IsPlain piece → shown ≡ codes ": " ++ (piece ++ line_feed ∷ [])))

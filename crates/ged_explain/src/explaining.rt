@@ -1,6 +1,7 @@
 // The lines that explain a fault or a notice.
 ghost use Rattle.std.specs.Prelude.{◌≡◌, ◌++◌, IfOk, OnOk, string_bytes};
-ghost use Rattle.ged_explain.specs.Openings.{Begins, Opens, ShowsLine, file_line as line_of_file, opening, reason_line};
+ghost use Rattle.ged_explain.specs.Showing.{Begins};
+ghost use Rattle.ged_explain.specs.Openings.{Opens, ShowsLine, file_line as line_of_file, opening, reason_line};
 
 use crate::faults::meaning_of;
 use crate::path::Step;

@@ -2,7 +2,7 @@
 ghost use Rattle.std.specs.Prelude.{◌≡◌, ◌++◌, ◌∷◌, ◌↔◌, [], codes, string_bytes, IsTrue, MatchOption, OnOk, IfOk};
 ghost use Rattle.std.specs.List.{All};
 ghost use Rattle.ged_line.specs.Bytes.{Bytes, line_feed};
-ghost use Rattle.ged_explain.specs.Showing.{IsPlain, IsSign, ShowsPiece};
+ghost use Rattle.ged_explain.specs.Showing.{Begins, IsPlain, IsSign, ShowsPiece};
 
 use crate::pieces::piece_at;
 use crate::told::Told;
@@ -25,7 +25,8 @@ pub(crate) fn shown_line(alloc: Global, bytes: &[u8], line: u64) -> Result<Strin
 
 /// A colon and a line.
 fn shown_piece(alloc: Global, piece: &[u8]) -> Result<String, AllocError>
-    ensures { IfOk result (λ text. IsPlain piece.now → string_bytes text ≡ codes ": " ++ (piece.now ++ line_feed ∷ [])) }
+    ensures { IfOk result (λ text. Begins (codes ": ") (string_bytes text)
+        × (IsPlain piece.now → string_bytes text ≡ codes ": " ++ (piece.now ++ line_feed ∷ []))) }
 {
     let mut text = String::from_str(alloc, ": ")?;
     push_shown(alloc, piece, &mut text)?;
@@ -35,7 +36,8 @@ fn shown_piece(alloc: Global, piece: &[u8]) -> Result<String, AllocError>
 
 /// Appends a line: as it is where it is plain, else so that each byte and character is seen, and clipped.
 fn push_shown(alloc: Global, piece: &[u8], text: &mut String) -> Result<(), AllocError>
-    ensures { OnOk result (IsPlain piece.now → string_bytes text.new ≡ string_bytes text.old ++ piece.now) }
+    ensures begins { OnOk result (Begins (string_bytes text.old) (string_bytes text.new)) }
+    ensures plain { OnOk result (IsPlain piece.now → string_bytes text.new ≡ string_bytes text.old ++ piece.now) }
 {
     if let Some(plain) = plain_text(piece) {
         return text.push_str(plain);

@@ -182,7 +182,7 @@ pub(crate) static MEANINGS: [Meaning; 29] = [
         number: 26,
         name: "WriteFailed",
         title: "The answer could not be written.",
-        cause: "The disk is full, or the program that was reading the answer has ended.",
+        cause: "The disk is full, or the program that was reading the answer has ended; or the file that -o names is in a folder that is missing or may not be written, may not be written itself, or is no regular file.",
         example: "gedtool canon tree.ged > /dev/full",
     },
     Meaning {
