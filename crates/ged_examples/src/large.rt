@@ -21,8 +21,7 @@ struct Pair {
 }
 
 /// Answers a call on a file that is made here, of as many records, siblings or lines as the argument tells, or none where that is
-/// no number: whether it is
-/// accepted, and has its canonical bytes. False where there is no call of this name.
+/// no number: whether it is accepted, and has its canonical bytes. False where there is no call of this name.
 pub(crate) fn answer(alloc: Global, call: &str, argument: &[u8], answer: &mut Answer) -> bool {
     let text = std::str::from_utf8(argument).unwrap_or("");
     let count = text.parse::<u32>().unwrap_or(0);

@@ -39,7 +39,7 @@ pub enum ParseFault {
     Memory(AllocError),
 }
 
-/// Why `respell_lines` gave no text.
+/// Why [`crate::respell_lines`] gave no text, or [`crate::respell_parts`] no parts.
 #[derive(Debug, Drop)]
 pub enum RespellFault {
     /// The first piece that is no line.

@@ -32,12 +32,12 @@ is_full most name = nat_eq (length name) most
 abbrev pub number_within : ℕ → Bytes → Option ℕ
 number_within most name = cond (is_full most name) (Some (digits_number name)) (number_up_to (most - 1) name)
 
--- the count that decimal digits spell after one read so far, which 50 bits hold
+-- the count that decimal digits spell after one read so far; what all but the last of them spell is below 2^46, so 50 bits hold the count
 abbrev pub count_read : ℕ → Bytes → Option ℕ
 count_read so_far [] = Some so_far
 count_read so_far (b ∷ bs) = cond (is_ascii_digit b && nat_lt so_far (2 ^ 46)) (count_read (so_far * 10 + (b - 48)) bs) None
 
--- the number of a counted name, which is a byte and fewer than 16 decimal digits: the highest of 64 bits, the count, how many digits spell
+-- the number of a counted name, which is a byte and fewer than 16 decimal digits that spell such a count: the highest of 64 bits, the count, how many digits spell
 -- it, and the byte
 abbrev pub counted_number : Bytes → Option ℕ
 counted_number [] = None

@@ -78,7 +78,8 @@ fn number_of_bytes(name: &[u8]) -> Option<u64>
 /// Counts below it stay below 2 to the 50th with a digit more.
 const COUNT_BOUND: u64 = 0x4000_0000_0000;
 
-/// The count that decimal digits spell after one read so far, or `None` where a byte is no digit, or 50 bits do not hold it.
+/// The count that decimal digits spell after one read so far, or `None` where a byte is no digit, or the count before the last of them
+/// is not below [`COUNT_BOUND`].
 fn read_count(so_far: u64, digits: &[u8]) -> Option<u64>
     requires { so_far < 2 ^ 50 }
     ensures count { result ≡ count_read so_far digits.now }
@@ -95,7 +96,8 @@ fn read_count(so_far: u64, digits: &[u8]) -> Option<u64>
     }
 }
 
-/// The number of a counted name, which is a byte and fewer than 16 decimal digits, or `None` for any other: programs that number
+/// The number of a counted name, or `None` for any other: it is a byte and at most 14 decimal digits, or 15 of which all but the last
+/// spell less than [`COUNT_BOUND`]. Programs that number
 /// their records from one list for all files spell such names.
 #[inline(never)]
 fn number_of_counted(name: &[u8]) -> Option<u64>

@@ -38,7 +38,7 @@ pub fn fault_of_unchecked<F: Forest>(profile: Profile, forest: &F, index: &Index
     let _ = check_as(profile, forest, index);
 }
 
-/// No line has two notices.
+/// No line has a notice of each kind.
 pub fn one_notice()
     ensures { OneNotice }
 {}

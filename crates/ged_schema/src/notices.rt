@@ -68,8 +68,8 @@ fn push_unlisted<F: Forest>(
 }
 
 /// The notices of all structures whose tag is a standard one without a row, in a context other than
-/// [`Context::Unchecked`], in the order of their lines. So nothing below a structure without a row gives a notice. Answers an error where a growth was refused. Grows
-/// (FamilySearch GEDCOM 7.0, "Structure Organization").
+/// [`Context::Unchecked`], in the order of their lines. So nothing below a structure without a row gives a notice. Answers an error
+/// where a growth was refused. Grows (FamilySearch GEDCOM 7.0, "Structure Organization").
 pub fn unlisted<F: Forest>(alloc: Global, forest: &F) -> Result<Vec<Notice>, AllocError>
     ensures { IfOk result (λ notices. AreUnlistedNotices (F.trees forest.now) notices.items) }
 {
@@ -103,7 +103,8 @@ fn first_between<F: Forest>(forest: &F, context: Context, start: usize, end: usi
     None
 }
 
-/// The line of the first structure that gives a notice in [`unlisted`], counted from 1, or `None` where there is none. Takes no memory (FamilySearch GEDCOM 7.0, "Structure Organization").
+/// The line of the first structure that gives a notice in [`unlisted`], counted from 1, or `None` where there is none. Takes no
+/// memory (FamilySearch GEDCOM 7.0, "Structure Organization").
 pub fn first_unlisted<F: Forest>(forest: &F) -> Option<u64>
     ensures { MatchOption result
         (¬ (Unlisted File (F.trees forest.now)))

@@ -130,7 +130,7 @@ impl Judge {
             && line.xref().is_none()
     }
 
-    // The same for any line.
+    // The lowest fault that stands at the line, whatever line it is.
     #[inline(always)]
     fn any_fault(&self, line: &LineView<'_>) -> Option<TreeFault>
         ensures { (lines : List LineParts) → StandsFor self.now lines → result ≡ fault_after lines line.now }

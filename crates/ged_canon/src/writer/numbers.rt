@@ -9,8 +9,8 @@ ghost use Rattle.ged_canon.specs.inner.Working.{number_among, IsNumberingOf};
 
 use ged_link::{Index, PointerCursor, RecordCursor};
 
-/// What [`new_number`] answers for the pointer at a place, whose name is handed in. Pointers that are asked for in the order of
-/// their places are found at once.
+/// The new number of the record that the pointer at a place names, or 0 where it has none; the name is handed in. Pointers that are
+/// asked for in the order of their places are found at once.
 #[inline(always)]
 pub(crate) fn new_number_at(
     index: &Index,
@@ -28,8 +28,8 @@ pub(crate) fn new_number_at(
     }
 }
 
-/// What [`new_number`] answers for the identifier of the record at a place, whose name is handed in. Records that are asked for
-/// in the order of their places are found at once.
+/// The new number of the record at a place, or 0 where it has none; the name of its identifier is handed in. Records that are asked
+/// for in the order of their places are found at once.
 #[inline(always)]
 pub(crate) fn new_number_with(
     index: &Index,

@@ -4,7 +4,8 @@ ghost use Rattle.ged_line.specs.Pieces.{pieces_of};
 
 use memchr::memchr;
 
-/// The length of a block, in bytes, but for the line at its end: short enough to stay in the processor's cache.
+/// The length of a block, in bytes, but for the line at its end: short enough to stay in the processor's cache. Only line feeds are
+/// looked for, so a file whose lines end with CR alone is one block.
 const BLOCK: usize = 65536;
 
 /// A block of whole lines, and the bytes behind it. The last block alone may end without a line feed.

@@ -76,7 +76,7 @@ fn hand_over<R: LineReader>(
     }
 }
 
-/// The same of what stands in a file behind its mark, where it is UTF-8.
+/// What [`flatten_with`] answers, of what stands in a file behind its mark, where that is UTF-8.
 fn flatten_text<'a, R: LineReader>(
     alloc: Global,
     text: &'a str,
