@@ -41,7 +41,8 @@ struct Kept {
 
 impl Kept {
     /// The permissions that a new file of a group gets. Where that is another group, its members get none, and all others only those
-    /// that the members of the first one had too: so nobody may do more than before. Nor does the file run as its new owner.
+    /// that the members of the first one had too: so nobody but its new owner may do more than before. The bits by which a file runs as
+    /// another user or group are left out.
     fn mode_for(self, group: u32) -> u32 {
         let mode = self.mode & 0o777;
         if group == self.group {
