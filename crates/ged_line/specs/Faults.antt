@@ -54,12 +54,12 @@ StandsAt EmptyLine piece = piece ≡ []
 -- no level with a space after it stands at its start
 StandsAt BadLevel piece = (digits rest : Bytes) → ¬ (AfterLevel piece digits rest)
 StandsAt LevelTooLarge piece = (digits rest : Bytes) × AfterLevel piece digits rest × (99 < number_after 0 digits)
--- a sign stands after the level's space, but no identifier with a space after it
+-- an @ stands after the level's space, but no identifier with a space after it
 StandsAt BadXref piece = (digits bytes : Bytes) × AfterLevel piece digits bytes × BeginsWith at_sign bytes
     × ((name rest : Bytes) → ¬ (AfterXref bytes name rest))
 -- what then stands up to a space or the end is no tag
 StandsAt BadTag piece = (rest : Bytes) × FromTag piece rest × (is_tag (word rest) ≡ false)
--- the value begins with a sign, is no pointer, and its second character is no sign
+-- the value begins with an @, is no pointer, and its second character is no @
 StandsAt BadValue piece = (tag value : Bytes) × FromTag piece (tag ++ space ∷ at_sign ∷ value) × (is_tag tag ≡ true)
     × ¬ (IsPointer (at_sign ∷ value)) × ¬ (BeginsWith at_sign value)
 

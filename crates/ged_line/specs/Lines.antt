@@ -12,7 +12,7 @@ pub data Value : Type 0 where
   Pointer : Bytes → Value
   Text : Bytes → Value
 
--- the parts of a line; its cross-reference identifier and its pointer stand without their signs
+-- the parts of a line; its cross-reference identifier and its pointer stand without their @
 pub record LineParts : Type 0 where
   pub level : ℕ
   pub xref : Option Bytes
@@ -33,11 +33,11 @@ is_value (Text text) = not (length text == 0) && is_plain text
 abbrev pub is_line : LineParts → Bool
 is_line line = nat_le line.level 99 && option_map_or is_xref line.xref true && is_tag line.tag && is_value line.value
 
--- the name of an identifier, where there is one
+-- there is no identifier, or its name may be one
 abbrev pub may_be_xref : Option Bytes → Bool
 may_be_xref xref = option_map_or is_xref xref true
 
--- a text is spelled with its leading sign doubled
+-- a text that begins with an @ is spelled with two of them
 abbrev pub doubled : Bytes → Bytes
 doubled [] = []
 doubled (c ∷ cs) = if c == at_sign then at_sign ∷ c ∷ cs else c ∷ cs

@@ -23,7 +23,7 @@ is_extension_tag (c ∷ cs) = (c == 0x5F) && not (length cs == 0) && list_all is
 abbrev pub is_tag : Bytes → Bool
 is_tag bytes = is_standard_tag bytes || is_extension_tag bytes
 
--- the name of a cross-reference identifier, without its signs: one or more tag characters, but not VOID
+-- the name of a cross-reference identifier, without its @: one or more tag characters, but not VOID
 abbrev pub is_xref : Bytes → Bool
 is_xref bytes = not (length bytes == 0) && not (bytes_eq bytes (codes "VOID")) && list_all is_tag_character bytes
 

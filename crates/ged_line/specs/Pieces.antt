@@ -25,7 +25,7 @@ AreCutInto bytes (piece ∷ pieces) = HasNoEnd piece
     × (((pieces ≡ []) × (bytes ≡ piece) × (piece ≢ []))
     ⊎ ((end rest : Bytes) × IsEnd end rest × (bytes ≡ piece ++ (end ++ rest)) × AreCutInto rest pieces))
 
--- a file that begins with the byte order mark has it; what stands behind a mark, or the whole file without one
+-- what stands behind the byte order mark of a file; of a file that does not begin with one, the whole file
 abbrev pub IsBehindMark : Bytes → Bytes → Type 0
 IsBehindMark file bytes = (file ≡ 0xEF ∷ 0xBB ∷ 0xBF ∷ bytes)
     ⊎ ((file ≡ bytes) × ((rest : Bytes) → file ≢ 0xEF ∷ 0xBB ∷ 0xBF ∷ rest))

@@ -1,5 +1,5 @@
 -- What reading answers.
-use Rattle.std.specs.Prelude.{◌≡◌, List, [], ◌∷◌, Option, Result, MatchOption, MatchResult}
+use Rattle.std.specs.Prelude.{◌≡◌, List, [], ◌∷◌, Option, Result, MatchOption, MatchResult, ⊤}
 use Rattle.ged_line.specs.Bytes.{Bytes}
 use Rattle.ged_line.specs.Lines.{LineParts}
 use Rattle.ged_line.specs.Spelling.{LineText}
@@ -36,4 +36,4 @@ TellsLines file read = MatchOption read.stop (FileText read.lines.items file) (�
 -- the file's first fault; of want of memory nothing is said
 abbrev pub TellsRespell : RespellFault → Bytes → Type 0
 TellsRespell (respelling.At at) file = IsFirstFault file at.line at.fault
-TellsRespell (respelling.Memory error) file = Unit {0}
+TellsRespell (respelling.Memory error) file = ⊤

@@ -7,7 +7,7 @@ use std::alloc::AllocError;
 pub enum LineFault {
     /// The bytes are not UTF-8.
     NotUtf8,
-    /// A control character other than tab, U+007F, U+FFFE or U+FFFF stands in the line.
+    /// One of these characters stands in the line: U+0000 to U+001F but for tab, U+007F, U+FFFE, U+FFFF.
     BannedCharacter,
     /// The line has no bytes.
     EmptyLine,

@@ -14,7 +14,7 @@ mod owned;
 pub use bytes::characters::is_plain;
 pub use fault::{LineAt, LineFault, ParseFault, RespellFault};
 pub use file::line_views::{LineViews, first_line, text_behind_mark, view_lines};
-pub use file::pieces::{Pieces, split_pieces};
+pub use file::pieces::{Pieces, behind_mark, split_pieces};
 pub use file::respell::{respell_lines, respell_parts};
 pub use file::spelled_line::SpelledLine;
 pub use file::spelled_part::SpelledPart;

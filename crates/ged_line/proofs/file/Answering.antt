@@ -1,6 +1,6 @@
 -- The bytes of parts, and what is spelled before bytes that are left.
-use Rattle.std.proofs.Common.{◌≡◌, ℕ, ◌-◌, List, [], ◌∷◌, ◌++◌, length, take, drop, refl, sym, ◌∙◌, ap, arith, length-append}
-use Rattle.std.proofs.lemmas.List.{append-nil, append_assoc, take-append-drop}
+use Rattle.std.proofs.Common.{◌≡◌, ◌-◌, List, [], ◌∷◌, ◌++◌, length, take, drop, refl, sym, ◌∙◌, ap, arith, length-append}
+use Rattle.std.proofs.lemmas.List.{append-nil, append_assoc}
 use Rattle.std.proofs.Math.Seq.{take-append_seam, drop-append_seam}
 use Rattle.ged_line.specs.Bytes.{Bytes}
 use Rattle.ged_line.specs.Files.{joined}
@@ -21,13 +21,10 @@ joined-closed parts new part made now text kept n m k e t =
     let closed : joined new ≡ joined parts ++ (made ++ kept) = ap joined n ∙ joined-push parts part ∙ ap (λ x. joined parts ++ (x ++ part.kept.now)) m ∙ ap (λ x. joined parts ++ (made ++ x)) k in
     ap (λ x. joined new ++ x) e ∙ append-nil (joined new) ∙ closed ∙ sym (append_assoc (joined parts) made kept) ∙ ap (λ x. x ++ kept) (sym t)
 
--- all that is pending is closed too
-pub joined-all : (parts new : List SpelledPart) (part : SpelledPart) (n : ℕ) (made between left text pending : Bytes)
-    → new ≡ parts ++ (part ∷ []) → part.made.items ≡ made → part.kept.now ≡ left → between ≡ joined parts ++ made → between ≡ text ++ take n pending → left ≡ drop n pending
-    → joined new ≡ text ++ pending
-joined-all parts new part n made between left text pending e m k b t d =
-    sym (append-nil (joined new)) ∙ joined-closed parts new part made [] between left e m k refl b ∙ ap (λ x. x ++ left) t ∙ append_assoc text (take n pending) left
-    ∙ ap (λ x. text ++ (take n pending ++ x)) d ∙ ap (λ x. text ++ x) (take-append-drop n pending)
+-- the same where nothing is made behind it
+pub joined-all : (parts new : List SpelledPart) (part : SpelledPart) (made text kept : Bytes)
+    → new ≡ parts ++ (part ∷ []) → part.made.items ≡ made → part.kept.now ≡ kept → text ≡ joined parts ++ made → joined new ≡ text ++ kept
+joined-all parts new part made text kept n m k t = sym (append-nil (joined new)) ∙ joined-closed parts new part made [] text kept n m k refl t
 
 before_rest : (front rest : Bytes) → length (front ++ rest) - length rest ≡ length front
 before_rest front rest = omega (arith, length-append front rest)

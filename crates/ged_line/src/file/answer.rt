@@ -10,8 +10,7 @@ use std::alloc::{AllocError, Global};
 use std::marker::Model;
 use std::mem;
 
-/// How many bytes of the file, at least, are kept as a slice. Fewer are copied between those that were made, so that an
-/// answer has few parts.
+/// How many bytes of the file, at least, are kept as a slice before what is made. Fewer are copied, so that an answer has few parts.
 const LONG_RUN: usize = 16384;
 
 /// The canonical spelling of a file's lines, as far as they are read. Contracts see its text and what is pending.
@@ -144,10 +143,9 @@ impl<'a> Answer<'a> {
     }
 
     /// All that is spelled, and what is pending.
-    pub(crate) fn into_parts(mut self) -> Result<Vec<SpelledPart<'a>>, AllocError>
+    pub(crate) fn into_parts(self) -> Result<Vec<SpelledPart<'a>>, AllocError>
         ensures { IfOk result (λ parts. joined parts.items ≡ self.entry.text ++ self.entry.pending) }
     {
-        self.keep(0)?;
         let Answer {
             mut parts,
             made,

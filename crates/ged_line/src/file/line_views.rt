@@ -8,7 +8,7 @@ ghost use Rattle.ged_line.specs.Reading.{TellsSpelled, YieldsLine};
 use crate::bytes::blocks::split_block;
 use crate::bytes::cut::{Cut, cut_line};
 use crate::fault::LineFault;
-use crate::file::pieces::{Pieces, cut_pieces, skip_mark};
+use crate::file::pieces::{Pieces, behind_mark, cut_pieces};
 use crate::file::spelled_line::SpelledLine;
 use crate::line::read::{spelled_line, spelled_text};
 use std::marker::Model;
@@ -34,7 +34,7 @@ impl<'a> Model for LineViews<'a> {
     ghost view = { λ v. pieces_of v.text.now ++ (v.pieces ++ pieces_of v.unread.now) };
 }
 
-/// The lines of a file: for each of the pieces that [`crate::split_pieces`] gives, in order, the line that [`view_line`]
+/// The lines of a file: for each of the pieces that [`crate::split_pieces`] gives, in order, the line that [`crate::view_line`]
 /// answers and the text of the piece, or the piece's fault.
 ///
 /// They go on after a fault. UTF-8 is validated by blocks, many bytes at a time. Takes no memory
@@ -46,7 +46,7 @@ pub fn view_lines(bytes: &[u8]) -> LineViews<'_>
     LineViews {
         text: "",
         pieces: cut_pieces(&[]),
-        unread: skip_mark(bytes),
+        unread: behind_mark(bytes),
     }
 }
 
@@ -68,13 +68,13 @@ pub fn text_behind_mark(bytes: &[u8]) -> Option<&str>
         ((rest : Bytes) × IsBehindMark bytes.now rest × ¬ (IsUtf8 rest))
         (λ text. IsBehindMark bytes.now text.now × IsUtf8 text.now) }
 {
-    match simdutf8::basic::from_utf8(skip_mark(bytes)) {
+    match simdutf8::basic::from_utf8(behind_mark(bytes)) {
         Ok(text) => Some(text),
         Err(_) => None,
     }
 }
 
-/// What the first line of a text without a mark is, as [`view_line`] answers for its piece, and the text behind its end;
+/// What the first line of a text without a mark is, as [`crate::view_line`] answers for its piece, and the text behind its end;
 /// `None` where the text is empty. The piece stands at the front of the text, and behind it one whole line end or nothing.
 /// Takes no memory (FamilySearch GEDCOM 7.0, "Lines").
 #[inline(always)]

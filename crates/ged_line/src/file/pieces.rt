@@ -23,14 +23,11 @@ impl<'a> Model for Pieces<'a> {
     ghost view = { λ p. pieces_of p.rest.now };
 }
 
-/// What stands behind an optional byte order mark.
-pub(crate) fn skip_mark(bytes: &[u8]) -> &[u8]
+/// What stands in a file behind its byte order mark, or all of it where it has none. Takes no memory.
+pub fn behind_mark(bytes: &[u8]) -> &[u8]
     ensures { IsBehindMark bytes.now result.now }
 {
-    match bytes.strip_prefix(&[0xEF, 0xBB, 0xBF]) {
-        Some(rest) => rest,
-        None => bytes,
-    }
+    bytes.strip_prefix(&[0xEF, 0xBB, 0xBF]).unwrap_or(bytes)
 }
 
 /// What stands behind the line end that the bytes begin with.
@@ -50,7 +47,7 @@ fn after_end(bytes: &[u8]) -> &[u8]
 pub fn split_pieces(bytes: &[u8]) -> Pieces<'_>
     ensures { ArePiecesOf bytes.now result }
 {
-    cut_pieces(skip_mark(bytes))
+    cut_pieces(behind_mark(bytes))
 }
 
 /// The pieces of bytes without a mark.

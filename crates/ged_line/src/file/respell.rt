@@ -1,5 +1,5 @@
 // The canonical spelling of a file's lines, straight from its bytes.
-ghost use Rattle.std.specs.Prelude.{◌≡◌, ◌-◌, ◌++◌, ◌∷◌, [], List, length, take, IsTrue, OnOk, IfOk, IfErr};
+ghost use Rattle.std.specs.Prelude.{◌≡◌, ◌-◌, ◌++◌, ◌∷◌, List, IsTrue, OnOk, IfOk, IfErr};
 ghost use Rattle.ged_line.specs.Bytes.{Bytes, line_feed};
 ghost use Rattle.ged_line.specs.Lines.{LineParts};
 ghost use Rattle.ged_line.specs.Spelling.{LineText, spelling, spelled_lines};
@@ -35,8 +35,8 @@ pub fn respell_lines(alloc: Global, bytes: &[u8]) -> Result<Vec<u8>, RespellFaul
 }
 
 /// What [`respell_lines`] answers, in parts. What stands in the bytes as it should be spelled, up to where a line differs, is kept
-/// as a slice of them where it has 16,384 bytes or more; all else is made. There is a part for each of these slices, and one
-/// more. Grows for the parts and for what is made.
+/// as a slice of them where it has 16,384 bytes or more, or stands last; all else is made. There is a part for each of these slices, of
+/// which the last may be empty. Grows for the parts and for what is made.
 pub fn respell_parts(alloc: Global, bytes: &[u8]) -> Result<Vec<SpelledPart<'_>>, RespellFault>
     ensures spelled { IfOk result (λ parts. IsRespelling bytes.now (joined parts.items)) }
     ensures fault { IfErr result (λ fault. TellsRespell fault bytes.now) }

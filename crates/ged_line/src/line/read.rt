@@ -1,11 +1,11 @@
 // Reading a line as slices of it, part by part from the left.
-ghost use Rattle.std.specs.Prelude.{◌≡◌, ◌≤◌, ◌<◌, ◌++◌, ◌∷◌, ◌⊎◌, [], ℕ, length, decimal, MatchOption, MatchResult, IfSome, IsOk, IsOkAnd, IfOk, IfErr, true, false};
+ghost use Rattle.std.specs.Prelude.{◌≡◌, ◌≤◌, ◌<◌, ◌++◌, ◌∷◌, ◌⊎◌, [], decimal, MatchOption, MatchResult, IfSome, IsOk, IsOkAnd, IfOk, IfErr, true, false};
 ghost use Rattle.ged_line.specs.Bytes.{Bytes, space, at_sign};
 ghost use Rattle.std.specs.List.{list_all};
 ghost use Rattle.std.specs.Str.{NoCharPasses};
 ghost use Rattle.ged_line.specs.Characters.{is_banned, has_banned as tests_banned};
 ghost use Rattle.std.specs.Char.{is_ascii_digit};
-ghost use Rattle.ged_line.specs.Names.{is_tag as tests_tag, is_xref as tests_xref};
+ghost use Rattle.ged_line.specs.Names.{is_tag as tests_tag};
 ghost use Rattle.ged_line.specs.Lines.{LineParts, is_value, Empty};
 ghost use Rattle.ged_line.specs.inner.LineTexts.{IsValuePart};
 ghost use Rattle.ged_line.specs.Spelling.{LineText};

@@ -1,5 +1,5 @@
 // A line as slices of a file.
-ghost use Rattle.std.specs.Prelude.{◌≡◌, true, false, nat_le, option_map, MatchOption};
+ghost use Rattle.std.specs.Prelude.{◌≡◌, true, false, option_map, MatchOption};
 ghost use Rattle.ged_line.specs.Lines.{line_parts, is_line, is_value as tests_value, may_be_xref};
 ghost use Rattle.ged_line.specs.Names.{is_tag as tests_tag};
 ghost use Rattle.ged_line.specs.Views.{viewed_value};
@@ -87,7 +87,7 @@ impl<'a> LineView<'a> {
         }
     }
 
-    /// From 0 to 99.
+    /// The level, from 0 to 99. Takes no memory.
     pub fn level(&self) -> u8
         ensures level { result ≡ self.now.level }
         ensures line { is_line self.now ≡ true }
@@ -95,7 +95,7 @@ impl<'a> LineView<'a> {
         self.level
     }
 
-    /// The line's own cross-reference identifier, without its `@`.
+    /// The line's own cross-reference identifier, without its `@`. Takes no memory.
     pub fn xref(&self) -> Option<&'a str>
         ensures xref { option_map (λ x. x.now) result ≡ self.now.xref }
         ensures name { may_be_xref self.now.xref ≡ true }

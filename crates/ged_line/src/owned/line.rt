@@ -1,5 +1,5 @@
 // A line that owns its parts.
-ghost use Rattle.std.specs.Prelude.{◌≡◌, ◌≤◌, true, false, IfOk, IfErr, MatchOption, option_map};
+ghost use Rattle.std.specs.Prelude.{◌≡◌, true, false, IfOk, IfErr, MatchOption, option_map};
 ghost use Rattle.std.specs.Option.{option_copied};
 ghost use Rattle.ged_line.specs.Lines.{line_parts, is_line, may_be_xref, is_value as tests_value};
 ghost use Rattle.ged_line.specs.Spelling.{LineText};
@@ -73,7 +73,7 @@ impl Line {
         })
     }
 
-    /// From 0 to 99.
+    /// The level, from 0 to 99. Takes no memory.
     pub fn level(&self) -> u8
         ensures level { result ≡ self.now.level }
         ensures line { is_line self.now ≡ true }
@@ -81,7 +81,7 @@ impl Line {
         self.level
     }
 
-    /// The line's own cross-reference identifier.
+    /// The line's own cross-reference identifier. Takes no memory.
     pub fn xref(&self) -> Option<&Xref>
         ensures { option_copied result ≡ self.now.xref }
     {

@@ -49,7 +49,7 @@ impl Tag {
         Ok(Tag { text })
     }
 
-    /// Takes no memory.
+    /// The bytes of the tag as a text. Takes no memory.
     pub fn as_str(&self) -> &str
         ensures text { result.now ≡ self.now }
         ensures tag { tests_tag result.now ≡ true }
@@ -57,7 +57,7 @@ impl Tag {
         self.text.as_str()
     }
 
-    /// Grows.
+    /// A copy of the tag. Grows.
     pub fn copy(&self, alloc: Global) -> Result<Tag, AllocError>
         ensures { IfOk result (λ copy. copy ≡ self.now) }
     {
@@ -126,7 +126,7 @@ impl Xref {
         Ok(Xref { name })
     }
 
-    /// The name. Takes no memory.
+    /// The identifier, without its `@`. Takes no memory.
     pub fn as_str(&self) -> &str
         ensures text { result.now ≡ self.now }
         ensures xref { tests_xref result.now ≡ true }
@@ -134,7 +134,7 @@ impl Xref {
         self.name.as_str()
     }
 
-    /// Grows.
+    /// A copy of the identifier. Grows.
     pub fn copy(&self, alloc: Global) -> Result<Xref, AllocError>
         ensures { IfOk result (λ copy. copy ≡ self.now) }
     {

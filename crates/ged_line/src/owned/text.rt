@@ -47,14 +47,14 @@ impl Text {
         })
     }
 
-    /// Takes no memory.
+    /// The text as a slice. Takes no memory.
     pub fn as_str(&self) -> &str
         ensures { result.now ≡ self.now }
     {
         self.string.as_str()
     }
 
-    /// Grows.
+    /// A copy of the text. Grows.
     pub fn copy(&self, alloc: Global) -> Result<Text, AllocError>
         ensures { IfOk result (λ copy. copy ≡ self.now) }
     {

@@ -3,6 +3,4 @@ use Rattle.ged_line.proofs.file.Answering.{joined-all}
 use Rattle.ged_line.proofs.file.answer.Answer.into_parts.Goals as goal
 
 pub returns : goal.returns
-returns c =
-    joined-all c.self.inside.parts.items c.push.new.self.items _ _ c.self.inside.made.items c.keep.new.self.text c.keep.new.self.pending c.args.self.text c.args.self.pending
-    c.in_ok-push.ensures.items (search rules) (search rules) (search rules) c.in_ok-keep.ensures.text c.in_ok-keep.ensures.pending
+returns c = joined-all c.self.inside.parts.items c.push.new.self.items _ c.self.inside.made.items c.args.self.text c.args.self.pending c.in_ok-push.ensures.items (search rules) (search rules) (search rules)
