@@ -2,8 +2,9 @@
 use Rattle.std.proofs.Common.{◌≡◌, ℕ, ◌-◌, ◌≤◌, true, ◌&&◌, inl, inr, List, [], ◌∷◌, ◌++◌, length, get_or, take, drop, Option, Some, None, is_some, refl, sym, ap, subst, ◌∙◌, arith, append_assoc}
 use Rattle.std.specs.Prelude.{codes, nat_le}
 use Rattle.std.specs.Option.{IfSome}
+use Rattle.std.specs.Str.{bytes_eq}
 use Rattle.std.proofs.lemmas.Bool.{or_cases, false≢true}
-use Rattle.std.proofs.lemmas.Grind.{common_steps}
+use Rattle.std.proofs.lemmas.List.{take_rest}
 use Rattle.ged_value.specs.Words.{Bytes, is_integer, is_one_of, number, joined}
 use Rattle.ged_value.specs.Dates.{gregorian, DateParts, calendar_word, roman_days, date_words, SpellsDate}
 use Rattle.ged_value.specs.Exact.{ExactParts, ExactText}
@@ -13,10 +14,6 @@ use Rattle.ged_value.proofs.WordLaws.{both}
 use Rattle.ged_value.proofs.DateLaws.{same_word, date_again}
 use Rattle.ged_value.proofs.ValueLaws.{none_some}
 use Rattle.ged_value.proofs.ExactLaws.{date_of, is_date_of}
-
--- what a slice pattern calls the rest
-rest_of : (n : ℕ) (text : Bytes) → take (length text - n) (drop n text) ≡ drop n text
-rest_of n text = grind (arith, common_steps)
 
 month_then : (text : Bytes) (days : ℕ) → 4 ≤ length text → get_or text 3 0 ≡ 32
     → roman_days (get_or text 0 0 ∷ get_or text 1 0 ∷ get_or text 2 0 ∷ []) ≡ Some days → is_integer (drop 4 text) ≡ true → IsMonthAndYear days text
@@ -30,7 +27,7 @@ month_then (a ∷ b ∷ c ∷ d ∷ text) days long gap month year = (a ∷ b �
 pub month_and_year : (text : Bytes) (o : Option ℕ) → 4 ≤ length text → get_or text 3 0 ≡ 32
     → o ≡ roman_days (get_or text 0 0 ∷ get_or text 1 0 ∷ get_or text 2 0 ∷ []) → is_integer (take (length text - 4) (drop 4 text)) ≡ true → IfSome o (λ days. IsMonthAndYear days text)
 month_and_year text None long gap month year = tt
-month_and_year text (Some days) long gap month year = month_then text days long gap (sym month) (rw (rest_of 4 text) at year)
+month_and_year text (Some days) long gap month year = month_then text days long gap (sym month) (rw (take_rest text 4) at year)
 
 -- a day before them
 exact_from : (text day others : Bytes) → text ≡ day ++ (32 ∷ others) → IsDayBefore others day → (date : ExactParts) × ExactText date text
@@ -45,14 +42,14 @@ pub short_day : (text : Bytes) → 2 ≤ length text → get_or text 1 0 ≡ 32 
 short_day [] long gap h = absurd (omega arith)
 short_day (a ∷ []) long gap h = absurd (omega arith)
 short_day (a ∷ b ∷ text) long gap h =
-    exact_from (a ∷ b ∷ text) (a ∷ []) text (ap (λ x. a ∷ x ∷ text) gap) (subst (λ others. IsDayBefore others (48 ∷ a ∷ [])) (rest_of 2 (a ∷ b ∷ text)) h)
+    exact_from (a ∷ b ∷ text) (a ∷ []) text (ap (λ x. a ∷ x ∷ text) gap) (subst (λ others. IsDayBefore others (48 ∷ a ∷ [])) (take_rest (a ∷ b ∷ text) 2) h)
 
 pub long_day : (text : Bytes) → 3 ≤ length text → get_or text 2 0 ≡ 32 → IsDayBefore (take (length text - 3) (drop 3 text)) (get_or text 0 0 ∷ get_or text 1 0 ∷ []) → (date : ExactParts) × ExactText date text
 long_day [] long gap h = absurd (omega arith)
 long_day (a ∷ []) long gap h = absurd (omega arith)
 long_day (a ∷ b ∷ []) long gap h = absurd (omega arith)
 long_day (a ∷ b ∷ c ∷ text) long gap h =
-    exact_from (a ∷ b ∷ c ∷ text) (a ∷ b ∷ []) text (ap (λ x. a ∷ b ∷ x ∷ text) gap) (subst (λ others. IsDayBefore others (a ∷ b ∷ [])) (rest_of 3 (a ∷ b ∷ c ∷ text)) h)
+    exact_from (a ∷ b ∷ c ∷ text) (a ∷ b ∷ []) text (ap (λ x. a ∷ b ∷ x ∷ text) gap) (subst (λ others. IsDayBefore others (a ∷ b ∷ [])) (take_rest (a ∷ b ∷ c ∷ text) 3) h)
 
 pub exact_is_date : (text : Bytes) → ((date : ExactParts) × ExactText date text) → IsUnnamedDate text
 exact_is_date text h =
@@ -96,23 +93,17 @@ date_is_value text h = (plain h.0, h.1)
 abbrev IsLone : Bytes → Type 0
 IsLone keyword = (f : DateParts → ValueParts) × ((d : DateParts) (ws : List Bytes) → Behind keyword d ws → SpellsValue (f d) ws)
 
+-- each of the words is such a keyword
+abbrev AreLone : List Bytes → Type 0
+AreLone [] = Unit {0}
+AreLone (w ∷ ws) = IsLone w × AreLone ws
+
+lone_among : (ws : List Bytes) (k : Bytes) → AreLone ws → is_one_of ws k ≡ true → IsLone k
+lone_among [] k f h = absurd (false≢true h)
+lone_among (w ∷ ws) k f h = elim (or_cases (bytes_eq w k) (is_one_of ws k) h) [ inl e ↦ subst IsLone (sym (same_word w k e)) f.0 | inr h ↦ lone_among ws k f.1 h ]
+
 lone : (k : Bytes) → is_one_of lone_keywords k ≡ true → IsLone k
-lone k h = elim (or_cases _ _ h) [
-  | inl e ↦ subst IsLone (sym (same_word (codes "ABT") k e)) (about, λ d ws b. b)
-  | inr h ↦ elim (or_cases _ _ h) [
-    | inl e ↦ subst IsLone (sym (same_word (codes "AFT") k e)) (after, λ d ws b. b)
-    | inr h ↦ elim (or_cases _ _ h) [
-      | inl e ↦ subst IsLone (sym (same_word (codes "BEF") k e)) (before, λ d ws b. b)
-      | inr h ↦ elim (or_cases _ _ h) [
-        | inl e ↦ subst IsLone (sym (same_word (codes "CAL") k e)) (calculated, λ d ws b. b)
-        | inr h ↦ elim (or_cases _ _ h) [
-          | inl e ↦ subst IsLone (sym (same_word (codes "EST") k e)) (estimated, λ d ws b. b)
-          | inr h ↦ absurd (false≢true h)
-        ]
-      ]
-    ]
-  ]
-]
+lone k h = lone_among lone_keywords k ((about, λ d ws b. b), ((after, λ d ws b. b), ((before, λ d ws b. b), ((calculated, λ d ws b. b), ((estimated, λ d ws b. b), tt))))) h
 
 behind : (k text others : Bytes) (d : DateParts) (ws : List Bytes) → IsLone k → text ≡ k ++ (32 ∷ others) → SpellsDate d ws → others ≡ joined ws → IsValueText text
 behind k text others d [] f e s o = absurd (none_some (date_again d [] s))
@@ -127,7 +118,7 @@ keyword_here (a ∷ b ∷ []) long gap keyword = absurd (omega arith)
 keyword_here (a ∷ b ∷ c ∷ []) long gap keyword = absurd (omega arith)
 keyword_here (a ∷ b ∷ c ∷ d ∷ text) long gap keyword =
     let whole = a ∷ b ∷ c ∷ d ∷ text in
-    subst (λ others. IsBehindKeyword whole others) (sym (rest_of 4 whole)) (inr (a ∷ b ∷ c ∷ [], keyword, ap (λ x. a ∷ b ∷ c ∷ x ∷ text) gap))
+    subst (λ others. IsBehindKeyword whole others) (sym (take_rest whole 4)) (inr (a ∷ b ∷ c ∷ [], keyword, ap (λ x. a ∷ b ∷ c ∷ x ∷ text) gap))
 
 pub keyword_before : (text others : Bytes) → IsBehindKeyword text others → IsDateText others → IsValueText text
 keyword_before text others h date = elim h [

@@ -1,6 +1,6 @@
 -- What is read as a period or a date value is spelled so, and what is spelled so is read.
-use Rattle.std.proofs.Common.{◌≡◌, Bool, true, false, cond, List, [], ◌∷◌, ◌++◌, length, Option, Some, None, is_some, refl, ap, subst, ◌∙◌, arith}
-use Rattle.std.specs.Prelude.{codes, ◌==◌}
+use Rattle.std.proofs.Common.{◌≡◌, Bool, true, false, inl, inr, cond, List, [], ◌∷◌, ◌++◌, length, Option, Some, None, is_some, refl, sym, ap, subst, ◌∙◌, arith}
+use Rattle.std.specs.Prelude.{codes, ◌==◌, ◌⊎◌}
 use Rattle.std.specs.Option.{option_map}
 use Rattle.std.specs.Str.{bytes_eq}
 use Rattle.std.proofs.lemmas.Bool.{ne_eqb, and_parts, false≢true}
@@ -14,6 +14,7 @@ use Rattle.ged_value.specs.Values.{PeriodParts, empty, to, from, from_to, ValueP
 use Rattle.ged_value.specs.inner.ValueReading.{both_dates, dates_at, from_at, period_at, keyword_at, behind, value_behind, value_at}
 use Rattle.ged_value.specs.declared.value.Keyword.{Keyword}
 use Rattle.ged_value.specs.declared.value.Keyword.TheVariants.{After, Before, About, Calculated, Estimated}
+use Rattle.ged_value.proofs.WordLaws.{other}
 use Rattle.ged_value.proofs.DateLaws.{date_again, date_found, nots}
 use Rattle.ged_value.proofs.Foreign.{Lack, is_foreign, foreign_lacks}
 
@@ -186,3 +187,18 @@ first_found None v w ws n h =
 pub value_found : (v : ValueParts) (ws : List Bytes) → value_at ws ≡ Some v → SpellsValue v ws
 value_found v [] h = absurd (none_some h)
 value_found v (w ∷ ws) h = first_found (keyword_at w) v w ws refl h
+
+-- what is read, step by step
+pub value_read : (words : List Bytes) (w : Bytes) (ws : List Bytes) (keyword : Option Keyword) → words ≡ w ∷ ws → keyword ≡ keyword_at w → value_at words ≡ value_behind keyword w ws
+value_read words w ws keyword e f = rw (e, ← f) refl
+
+pub bet_read : (w : Bytes) (ws : List Bytes) → w ≡ codes "BET" → value_behind None w ws ≡ option_map (λ dates. between dates.0 dates.1) (dates_at (around (codes "AND") ws))
+bet_read w ws e = rw e refl
+
+pub span_read : (w : Bytes) (ws : List Bytes) → (w ≡ []) ⊎ ((w ≡ codes "TO") ⊎ (w ≡ codes "FROM")) → value_behind None w ws ≡ option_map span (period_at (w ∷ ws))
+span_read w ws (inl e) = rw e refl
+span_read w ws (inr (inl e)) = rw e refl
+span_read w ws (inr (inr e)) = rw e refl
+
+pub plain_read : (w : Bytes) (ws : List Bytes) → (w ≡ codes "BET" → ⊥) → (w ≡ [] → ⊥) → (w ≡ codes "TO" → ⊥) → (w ≡ codes "FROM" → ⊥) → value_behind None w ws ≡ option_map plain (date_at (w ∷ ws))
+plain_read w ws b n t f = rw (other w (codes "BET") (λ e. b (sym e)), other w [] (λ e. n (sym e)), other w (codes "TO") (λ e. t (sym e)), other w (codes "FROM") (λ e. f (sym e))) refl

@@ -65,7 +65,7 @@ FitsLine NameTypeEnum text = IsTrue (is_of_set name_types text)
 FitsLine ResnList text = (items : List Bytes) × RestrictionsText items text
 FitsLine _ text = ⊥
 
--- the kinds of a text of several lines
+-- the kinds whose text may have several lines
 abbrev pub takes_lines : Kind → Bool
 takes_lines Text = true
 takes_lines Free = true
@@ -81,7 +81,7 @@ target ToSour = Some (codes "SOUR")
 target ToObje = Some (codes "OBJE")
 target kind = None
 
--- the kinds of a pointer and of the void pointer
+-- the kinds whose payload may be a pointer, and may be void
 abbrev pub takes_links : Kind → Bool
 takes_links Free = true
 takes_links kind = is_some (target kind)

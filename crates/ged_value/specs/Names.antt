@@ -3,7 +3,7 @@ use Rattle.std.specs.Prelude.{◌≡◌, Bool, ◌∷◌, ◌++◌, ◌&&◌, �
 use Rattle.std.specs.List.{list_all}
 use Rattle.ged_value.specs.Words.{Bytes}
 
--- a name as one text, or about a surname
+-- a name as one text, or as the texts before, of and behind a surname
 pub data NameParts : Type 0 where
   plain : Bytes → NameParts
   parts : Bytes → Bytes → Bytes → NameParts

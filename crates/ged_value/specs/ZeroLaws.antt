@@ -22,8 +22,8 @@ pub record Trimming (word : Bytes) : Type 0 where
   -- an Integer stays an Integer, and the same number
   pub number_stays : is_integer word ≡ true → (is_integer (trim_zeros word) ≡ true) × (number (trim_zeros word) ≡ number word)
 
--- What becomes of the texts of a kind when leading zeros are left out. `integers` lists the Integers among the parts, and
--- `trimmed` leaves the leading zeros of each of them out.
+-- What becomes of the texts of a kind when leading zeros are left out. `integers` lists the words of the Integers
+-- among the parts, in an age each with its letter, and `trimmed` leaves the leading zeros of each of them out.
 pub record LeavingOutZeros {Parts : Type 0} (IsText : Parts → Bytes → Type 0) (integers : Parts → List Bytes) (trimmed : Parts → Parts) : Type 0 where
   -- the words of a text that begin with a digit are its Integers, in order
   pub digit_words_are_integers : (text : Bytes) (parts : Parts) → IsText parts text → digit_words text ≡ integers parts

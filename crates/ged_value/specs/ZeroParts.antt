@@ -57,7 +57,7 @@ exact_integers e = e.day ∷ e.year ∷ []
 abbrev pub trimmed_exact : ExactParts → ExactParts
 trimmed_exact e = record { day = trim_zeros e.day; month = e.month; year = trim_zeros e.year }
 
--- of an age: each of its numbers, straight followed by its letter
+-- of an age: its words that begin with a number, each an Integer with its letter straight behind it
 abbrev pub age_integers : AgeParts → List Bytes
 age_integers a = duration_words a
 
