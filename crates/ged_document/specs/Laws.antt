@@ -5,7 +5,7 @@ use Rattle.ged_document.specs.Paths.{LeadsTo}
 use Rattle.ged_document.specs.Records.{record_trees, document_trees}
 use Rattle.ged_document.specs.declared.node.RecordNode.{RecordNode}
 
--- a path leads to one place
+-- a path leads to one place at most
 abbrev pub OnePlace : Type 0
 OnePlace = (document : Trees) (path : List ℕ) (place other : ℕ) → LeadsTo path document place → LeadsTo path document other → place ≡ other
 

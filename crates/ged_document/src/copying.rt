@@ -16,7 +16,8 @@ use ged_line::{Tag, Text, Xref};
 use ged_tree::{Forest, Payload, PayloadView, TextLines, end_of_all, next_in_run};
 use std::alloc::{AllocError, Global};
 
-fn copy_tag(alloc: Global, tag: &str) -> Result<Tag, AllocError>
+/// The tag that a text is known to be. Grows.
+pub(crate) fn copy_tag(alloc: Global, tag: &str) -> Result<Tag, AllocError>
     requires { is_tag tag.now ≡ true }
     ensures { IfOk result (λ copy. copy ≡ tag.now) }
 {
@@ -115,7 +116,7 @@ fn copy_between<F: Forest>(
     Ok(nodes)
 }
 
-fn copy_name(alloc: Global, name: Option<&str>) -> Result<Option<Xref>, AllocError>
+fn copy_optional_xref(alloc: Global, name: Option<&str>) -> Result<Option<Xref>, AllocError>
     requires { may_be_xref (option_copied name) ≡ true }
     ensures { IfOk result (λ copy. copy ≡ option_copied name.entry) }
 {
@@ -158,7 +159,7 @@ fn copy_records<F: Forest>(
     let mut records = Vec::new(alloc);
     let mut place = start;
     while let Some(after) = next_in_run(forest, place, end) {
-        let xref = copy_name(alloc, forest.xref(place))?;
+        let xref = copy_optional_xref(alloc, forest.xref(place))?;
         let node = copy_first(alloc, forest, place, end, after)?;
         records.push(RecordNode { xref, node })?;
         place = after;

@@ -90,7 +90,7 @@ impl Document {
         (&self.head, self.records.as_slice())
     }
 
-    /// Grows.
+    /// A copy of the document. Grows.
     pub fn copy(&self, alloc: Global) -> Result<Document, AllocError>
         ensures { IfOk result (λ copy. copy ≡ self.now) }
     {

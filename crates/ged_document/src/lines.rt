@@ -4,7 +4,6 @@ ghost use Rattle.std.specs.Option.{option_copied};
 ghost use Rattle.std.specs.List.{list_all};
 ghost use Rattle.ged_line.specs.Characters.{is_plain};
 ghost use Rattle.ged_line.specs.Lines.{is_line, line_parts};
-ghost use Rattle.ged_line.specs.Names.{is_tag};
 ghost use Rattle.ged_line.specs.Views.{held_value};
 ghost use Rattle.ged_tree.specs.Trees.{trees_of, structure_of};
 ghost use Rattle.ged_tree.specs.inner.Walks.{HasLinesAt, HaveLinesAt};
@@ -12,6 +11,7 @@ ghost use Rattle.ged_tree.specs.DocumentLines.{line_value, first_value, structur
 ghost use Rattle.ged_tree.specs.inner.DocumentParts.{continued};
 ghost use Rattle.ged_document.specs.Records.{record_trees};
 
+use crate::copying::copy_tag;
 use crate::document::Document;
 use crate::node::{Node, RecordNode};
 use ged_line::{Line, LineValue, Tag, Text, Xref};
@@ -27,7 +27,7 @@ pub fn to_lines(alloc: Global, document: &Document) -> Result<Vec<Line>, AllocEr
     push_structure(alloc, 0, None, head, &mut lines)?;
     push_trees(alloc, head.children.as_slice(), 1, &mut lines)?;
     push_records(alloc, records, &mut lines)?;
-    let tag = known_tag(alloc, "TRLR")?;
+    let tag = copy_tag(alloc, "TRLR")?;
     lines.push(known_line(0, None, tag, LineValue::Empty))?;
     Ok(lines)
 }
@@ -98,7 +98,7 @@ fn push_continued(
     ensures { OnOk result (lines.new.items ≡ lines.old.items ++ continued (level + 1) texts.now) }
 {
     for text in texts {
-        let tag = known_tag(alloc, "CONT")?;
+        let tag = copy_tag(alloc, "CONT")?;
         let value = value_of(alloc, text)?;
         lines.push(known_line(level + 1, None, tag, value))?;
     }
@@ -122,17 +122,6 @@ fn value_of(alloc: Global, text: &Text) -> Result<LineValue, AllocError>
         return Ok(LineValue::Empty);
     }
     Ok(LineValue::Text(text.copy(alloc)?))
-}
-
-/// The tag that a text is known to be.
-fn known_tag(alloc: Global, text: &str) -> Result<Tag, AllocError>
-    requires { is_tag text.now ≡ true }
-    ensures { IfOk result (λ tag. tag ≡ text.now) }
-{
-    match Tag::read(alloc, text)? {
-        Some(tag) => Ok(tag),
-        None => unreachable!(),
-    }
 }
 
 /// The line of parts that are known to be a line's.

@@ -48,7 +48,7 @@ pub struct RecordNode {
 }
 
 impl Node {
-    /// Grows.
+    /// A copy of the node, and of all nodes below it. Grows.
     pub fn copy(&self, alloc: Global) -> Result<Node, AllocError>
         ensures { IfOk result (λ copy. copy ≡ self.now) }
     {
@@ -67,7 +67,7 @@ impl Node {
 }
 
 impl RecordNode {
-    /// Grows.
+    /// A copy of the record. Grows.
     pub fn copy(&self, alloc: Global) -> Result<RecordNode, AllocError>
         ensures { IfOk result (λ copy. copy ≡ self.now) }
     {

@@ -1,6 +1,6 @@
 -- What building a document answers: the document that has the lines, or their first fault (FamilySearch GEDCOM 7.0,
 -- "Lines" and "Structures").
-use Rattle.std.specs.Prelude.{◌≡◌, true, ◌↔◌, ℕ, ◌≤◌, ◌⊎◌, List, length, Option, Some, None}
+use Rattle.std.specs.Prelude.{◌≡◌, true, ◌↔◌, ℕ, ◌≤◌, ◌⊎◌, List, length, Option, Some, None, ⊤}
 use Rattle.ged_line.specs.Bytes.{Bytes}
 use Rattle.ged_line.specs.Lines.{LineParts}
 use Rattle.ged_line.specs.Files.{FileText, StopsAt}
@@ -29,7 +29,7 @@ HasFile document file = (is_document document ≡ true) × FileText (document_li
 -- the first fault of the file; of want of memory nothing is said
 abbrev pub TellsFile : BuildFault → Bytes → Type 0
 TellsFile (At at) file = FirstFaultIn file at.line at.fault
-TellsFile (Memory error) file = Unit {0}
+TellsFile (Memory error) file = ⊤
 
 -- reading the file gives these lines and this stop
 abbrev pub ReadsAs : Bytes → List LineParts → Option LineAt → Type 0
@@ -40,6 +40,11 @@ ReadsAs file lines (Some stop) = StopsAt file lines stop.line stop.fault
 abbrev pub FaultyFileHasNone : Type 0
 FaultyFileHasNone = (file : Bytes) (line : ℕ) (fault : TreeFault)
     → FirstFaultIn file line fault → (document : Trees) → ¬ (HasFile document file)
+
+-- files that spell the same lines have the same document: line ends, a byte order mark and blanks after empty values say nothing
+abbrev pub SameLinesOneDocument : Type 0
+SameLinesOneDocument = (file other : Bytes) (lines : List LineParts) → FileText lines file → FileText lines other
+    → (document : Trees) → HasFile document file → HasFile document other
 
 -- the first fault of a file is that of the lines and the stop that reading it gives
 abbrev pub FileFaultIsBuildFault : Type 0

@@ -11,7 +11,7 @@ trees_from (tree s below next) place =
     else if nat_le place (trees_count below) then trees_from below (place - 1)
     else trees_from next (place - 1 - trees_count below)
 
--- the first structure of trees; none have the empty one
+-- the first structure of trees; of none, an empty one
 abbrev pub first_structure : Trees → Structure
 first_structure none = record { xref = None; tag = []; payload = Void }
 first_structure (tree s below next) = s

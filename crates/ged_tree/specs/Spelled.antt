@@ -8,7 +8,7 @@ use Rattle.ged_line.specs.Lines.{LineParts, line_parts, Value, Empty, Void, Poin
 use Rattle.ged_tree.specs.declared.payload.Payload.{Payload}
 use Rattle.ged_tree.specs.declared.payload.Payload.TheVariants as payload
 
--- what stands up to a sign or the end
+-- what stands up to an @ or the end
 abbrev pub before_sign : Bytes → Bytes
 before_sign bytes = before_first (λ c. c == at_sign) bytes
 

@@ -33,7 +33,7 @@ pub struct Judge {
 
 impl Model for Judge {
     ghost use Rattle.std.specs.Prelude.{◌≤◌, option_map, IfSome};
-    ghost use Rattle.ged_tree.specs.Judging.{Facts, Seen};
+    ghost use Rattle.ged_tree.specs.Judging.{Facts};
 
     ghost Value = { Facts };
 

@@ -20,7 +20,9 @@ pub use laws::documents::{
     are_lines, document_or_fault, faulty_file_fails, faulty_has_none, none_shared,
     one_fault_in_file, one_first_fault, one_list, pass_is_document,
 };
-pub use laws::files::{faulty_file_has_none, file_fault_is_build_fault, first_fault_stays};
+pub use laws::files::{
+    faulty_file_has_none, file_fault_is_build_fault, first_fault_stays, same_lines_one_document,
+};
 pub use laws::places::{
     begins_on_line, counted_lines, listed_at_place, next_line, one_document, one_for_each_place,
 };

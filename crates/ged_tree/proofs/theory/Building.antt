@@ -18,7 +18,7 @@ use Rattle.ged_tree.specs.TreeFaults.{Pass, start, FirstFault, no_lines, past_la
 use Rattle.ged_tree.specs.TreeFaults.{at_line as at_line_of}
 use Rattle.ged_tree.specs.Trees.{Trees}
 use Rattle.ged_tree.specs.FileFaults.{ComesAfter, FirstFaultIn, at_piece, at_text, at_end}
-use Rattle.ged_tree.specs.Building.{HasFile, IsBuildFault, ReadsAs, FaultyFileHasNone, FileFaultIsBuildFault}
+use Rattle.ged_tree.specs.Building.{HasFile, IsBuildFault, ReadsAs, FaultyFileHasNone, FileFaultIsBuildFault, SameLinesOneDocument}
 use Rattle.ged_tree.specs.declared.fault.TreeFault.{TreeFault}
 use Rattle.ged_tree.specs.declared.fault.TreeFault.TheVariants.{Line, NoHeader, NoTrailer}
 use Rattle.ged_tree.specs.declared.fault.TreeAt.{TreeAt}
@@ -194,6 +194,10 @@ lines_of_file document file has = (document_lines document, has.1, record { allo
 
 pub file_of_lines : (document : Trees) (lines : List LineParts) (file : Bytes) → FileText lines file → HasLines document lines → HasFile document file
 file_of_lines document lines file text has = (has.allowed, subst (λ (ls : List LineParts). FileText ls file) has.told text)
+
+pub same_lines : SameLinesOneDocument
+same_lines file other lines text of_other document (is, own) =
+    (is, subst (λ (ls : List LineParts). FileText ls other) (one_reading file lines (document_lines document) text own) of_other)
 
 pub none_of_file : FaultyFileHasNone
 none_of_file file line fault f document has = let own = lines_of_file document file has in go file line fault (told_of file line fault f) own.0 own.1 own.2

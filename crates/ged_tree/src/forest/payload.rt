@@ -1,7 +1,4 @@
 // What a structure carries, as slices.
-ghost use Rattle.std.specs.Prelude.{◌<◌};
-
-use ged_line::Text;
 
 /// A payload by its first line, as slices.
 #[derive(Clone, Copy, Debug, PartialEq, Eq)]

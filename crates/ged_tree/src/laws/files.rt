@@ -1,10 +1,15 @@
 // Laws of what building answers for files, and of their first faults. The functions do nothing: their contracts are proved.
-ghost use Rattle.ged_tree.specs.Building.{FaultyFileHasNone, FileFaultIsBuildFault};
+ghost use Rattle.ged_tree.specs.Building.{FaultyFileHasNone, FileFaultIsBuildFault, SameLinesOneDocument};
 ghost use Rattle.ged_tree.specs.FaultsStay.{FirstFaultStays};
 
 /// A file that has a fault has no document.
 pub fn faulty_file_has_none()
     ensures { FaultyFileHasNone }
+{}
+
+/// Files that spell the same lines have the same document: line ends, a byte order mark and blanks after empty values say nothing.
+pub fn same_lines_one_document()
+    ensures { SameLinesOneDocument }
 {}
 
 /// The first fault of a file is that of the lines and the stop that reading it gives: [`crate::flatten`] answers what

@@ -41,8 +41,8 @@ pub fn flatten(alloc: Global, bytes: &[u8]) -> Result<Flat<'_>, BuildFault>
 
 /// The same document or fault as [`flatten`] answers, for a caller that reads each line while the table is being made.
 ///
-/// The reader gets every line of the file once and in order, TRLR too, each after it passed; where the file has a fault, the
-/// lines before the first one. Where the reader answers an error, that a growth was refused is the answer, and no more lines are read.
+/// The reader gets every line of the file once and in order, TRLR too, each after it passed; where the file has a fault, lines before the
+/// first one, and no clause says which. Where the reader answers an error, that a growth was refused is the answer, and no more lines are read.
 /// Grows by the table, and by what the reader takes: no payload is copied (FamilySearch GEDCOM 7.0, "Lines" and "Structures").
 pub fn flatten_with<'a, R: LineReader>(
     alloc: Global,
