@@ -5,6 +5,7 @@ use Rattle.std.specs.Str.{bytes_eq}
 use Rattle.std.proofs.lemmas.Slice.Eq.{bytes_eq-Decides}
 use Rattle.std.proofs.lemmas.Bool.Decides.{nat_tests}
 use Rattle.ged_line.specs.Bytes.{Bytes}
+use Rattle.ged_line.specs.Names.{is_xref}
 use Rattle.ged_tree.specs.Trees.{Structure, Trees, none, tree, trees_count}
 use Rattle.ged_tree.specs.Documents.{is_document, are_at, is_structure_at}
 use Rattle.ged_tree.specs.inner.DocumentParts.{is_xref_at}
@@ -30,6 +31,15 @@ level_parts l s b n e = let h = both _ _ e in let k = both _ _ h.1 in (h.0, k.0,
 no_xref : (l : ℕ) (x : Option Bytes) → is_xref_at (l + 1) x ≡ true → x ≡ None
 no_xref l None e = refl
 no_xref l (Some name) e = let z : (l + 1 == 0) ≡ false = grind (arith, nat_tests) in let f = (both _ _ e).0 in absurd (let g : false ≡ true = sym z ∙ f in cc)
+
+no_empty_xref : (l : ℕ) (x : Option Bytes) → is_xref_at l x ≡ true → x ≡ Some [] → ⊥
+no_empty_xref l None e is = absurd (cc)
+no_empty_xref l (Some []) e is = absurd (let f : false ≡ true = (both (l == 0) (is_xref []) e).1 in cc)
+no_empty_xref l (Some (b ∷ bs)) e is = absurd (cc)
+
+-- no identifier is empty
+pub never_empty : (l : ℕ) (s : Structure) → is_structure_at l s ≡ true → s.xref ≡ Some [] → ⊥
+never_empty l s e = no_empty_xref l s.xref (both _ _ (both _ _ e).1).0
 
 structure_unnamed : (l : ℕ) (s : Structure) → is_structure_at (l + 1) s ≡ true → s.xref ≡ None
 structure_unnamed l s e = no_xref l s.xref (both _ _ (both _ _ e).1).0

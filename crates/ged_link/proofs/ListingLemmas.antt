@@ -6,11 +6,13 @@ use Rattle.ged_tree.specs.Trees.{Structure, Trees, none, tree}
 use Rattle.ged_link.specs.Links.{identifiers}
 use Rattle.ged_link.specs.NameNumbers.{short_number}
 use Rattle.ged_link.specs.RecordTypes.{IsTypeOf}
-use Rattle.ged_link.specs.Slots.{number_read, no_region, slot_within, slot_in}
+use Rattle.ged_link.specs.Slots.{number_read, no_region, slot_within, slot_in, kept_in}
 use Rattle.ged_link.specs.inner.Layout.{counted}
 use Rattle.ged_link.specs.inner.Listing.{listed_with, listed_name, listed_halves, listed_digits, AreTypesOf}
+use Rattle.ged_link.specs.inner.Slots.{kept_at, IsMissed}
 use Rattle.ged_link.specs.declared.layout.Tally.{Tally}
 use Rattle.ged_link.specs.declared.listing.ListedName.{ListedName}
+use Rattle.ged_link.specs.declared.names.Names.{Names}
 use Rattle.ged_link.specs.declared.record_type.RecordType.{RecordType}
 use Rattle.ged_link.specs.declared.slots.Region.{Region}
 use Rattle.ged_link.proofs.NameLemmas.{first_byte, above}
@@ -41,6 +43,41 @@ is_listed listed (Some (b ∷ bs)) e some = go (short_number (b ∷ bs)) refl e
           slot = λ regions. ap (λ (byte : ℕ). slot_within (slice_index_or regions byte no_region) (number_read 0 bs)) first
               ∙ ap (slot_within (slice_index_or regions (listed.number % 256) no_region)) digits_are;
         }
+
+-- where a name has a number, and nothing is kept for that in the slot
+pub missed_short : (records : Names) (listed : ListedName) (xref : Option Bytes) (is : IsListed listed xref) (slot : ℕ) → slot_in records.slots.regions.items is.name ≡ slot
+    → kept_at records.slots slot listed.number ≡ None → (listed.number ≡ 0 → ⊥) → IsMissed records listed.number xref
+missed_short records listed xref is slot at missed some = record {
+  name = is.name;
+  is = is.is;
+  short = λ _. is.number;
+  long = λ zero. absurd (some zero);
+  missed = λ number e.
+      ap (kept_in records.slots is.name) (some_same number listed.number (sym e ∙ is.number)) ∙ ap (λ (s : ℕ). kept_at records.slots s listed.number) at ∙ missed;
+}
+  where
+    some_same : (m n : ℕ) → Some m ≡ Some n → m ≡ n
+    some_same m n e = cc
+
+-- where it has none
+pub missed_long : (records : Names) (listed : ListedName) (xref : Option Bytes) → listed ≡ listed_name xref → (xref ≡ Some [] → ⊥) → listed.number ≡ 0 → (listed.digits ≡ 0 → ⊥)
+    → IsMissed records listed.number xref
+missed_long records listed None e named zero some = absurd (some (ap (λ (l : ListedName). l.digits) e))
+missed_long records listed (Some []) e named zero some = absurd (named refl)
+missed_long records listed (Some (b ∷ bs)) e named zero some = go (short_number (b ∷ bs)) refl e
+  where
+    none_some : (o : Option ℕ) (number : ℕ) → o ≡ None → o ≡ Some number → ⊥
+    none_some o number h k = absurd (let f : None ≡ Some number = sym h ∙ k in cc)
+
+    go : (o : Option ℕ) → short_number (b ∷ bs) ≡ o → listed ≡ listed_with (number_read 0 bs) o → IsMissed records listed.number (Some (b ∷ bs))
+    go (Some n) k is = absurd (omega (arith, above (b ∷ bs) n k, zero, ap (λ (l : ListedName). l.number) is))
+    go None k is = record {
+      name = b ∷ bs;
+      is = refl;
+      short = λ other. absurd (other zero);
+      long = λ _. k;
+      missed = λ number e. absurd (none_some (short_number (b ∷ bs)) number k e);
+    }
 
 -- where zeros are listed there is no name
 pub is_unnamed : (listed : ListedName) (xref : Option Bytes) → listed ≡ listed_name xref → listed.number ≡ 0 → listed.digits ≡ 0 → xref ≡ None

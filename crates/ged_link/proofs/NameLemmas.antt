@@ -1,5 +1,5 @@
 -- No two short names have one number, so a record that is added by its number is added by its name.
-use Rattle.std.proofs.Common.{◌≡◌, is_none, subst, ℕ, zero, suc, ◌+◌, ◌-◌, ◌*◌, ◌^◌, ◌%◌, ◌<◌, ◌≤◌, Bool, true, false, cond, nat_eq, nat_le, nat_lt, ◌&&◌, [], ◌∷◌, Option, Some, None, option_map, refl, sym, ap, ◌∙◌, arith, rules, List, length}
+use Rattle.std.proofs.Common.{◌≡◌, is_none, is_some, not, subst, ℕ, zero, suc, ◌+◌, ◌-◌, ◌*◌, ◌^◌, ◌%◌, ◌<◌, ◌≤◌, Bool, true, false, cond, nat_eq, nat_le, nat_lt, ◌&&◌, [], ◌∷◌, Option, Some, None, option_map, Result, Ok, Err, IfOk, refl, sym, ap, ◌∙◌, arith, rules, List, length}
 use Rattle.std.specs.Bool.{if◌then◌else◌, Decides}
 use Rattle.std.specs.Char.{is_ascii_digit}
 use Rattle.std.specs.Option.{option_or}
@@ -274,6 +274,13 @@ same_names old new h k same name = go (short_number name)
         ap (first_of (kept_in new.slots name n)) (none_short new k n) ∙ ap (λ (slots : Slots). first_of (kept_in slots name n) None) same ∙ ap (first_of (kept_in old.slots name n)) (sym (none_short old h n))
     go None = none_long new k name ∙ sym (none_long old h name)
 
+-- the answer of a test that there is none
+pub told_none : (told : Bool) (o : Option RecordPlace) → is_some o ≡ not told → told ≡ is_none o
+told_none true None e = refl
+told_none false None e = absurd (cc)
+told_none true (Some found) e = absurd (cc)
+told_none false (Some found) e = refl
+
 module _ (old new : Names) (name : Bytes) (found : RecordPlace) where
   -- by its number
   pub added_short : (number : ℕ) → short_number name ≡ Some number
@@ -322,7 +329,11 @@ module _ (old new : Names) (name : Bytes) (found : RecordPlace) where
         go true e = ap (λ b. first_of (cond b (Some found) (kept_in old.slots other n)) (get nat_eq old.short n)) (its_slot e)
         go false e = refl
 
-    -- by the number, where it has no slot
+    -- where it has no slot, it is found by its number
+    pub found_missed : kept_in old.slots name number ≡ None → found_in old name ≡ get nat_eq old.short number
+    found_missed missed = ap (found_by old name) is ∙ ap (λ o. first_of o (get nat_eq old.short number)) missed
+
+    -- and kept by it
     pub missed_short : kept_in old.slots name number ≡ None → new.slots ≡ old.slots → ((n : ℕ) → get nat_eq new.short n ≡ cond (nat_eq number n) (Some found) (get nat_eq old.short n))
         → (other : Bytes) (n : ℕ) → short_number other ≡ Some n → found_short new other n ≡ cond (nat_eq number n) (Some found) (found_short old other n)
     missed_short missed same_slots updates other n other_is =
@@ -355,3 +366,12 @@ module _ (old new : Names) (name : Bytes) (found : RecordPlace) where
           free_first : (o : Option RecordPlace) → is_none o ≡ true → is_none (get nat_eq old.short number) ≡ is_none (first_of o (get nat_eq old.short number))
           free_first None e = refl
           free_first (Some other) e = cc
+
+-- what is added once the maps have a key is added to what they held before
+pub added_before : {E : Type 0} (old begun new : Names) (name : Bytes) (xref : Option Bytes) (found : RecordPlace) → ((n : Bytes) → found_in begun n ≡ found_in old n) → xref ≡ Some name
+    → (r : Result Bool E) → IfOk r (AddsRecord begun new (Some name) found) → IfOk r (AddsRecord old new xref found)
+added_before old begun new name xref found same is (Ok is_new) adds = subst (λ (x : Option Bytes). AddsRecord old new x found is_new) (sym is) (
+  adds.0 ∙ ap is_none (same name),
+  λ new_is other. adds.1 new_is other ∙ ap (λ o. if bytes_eq name other then Some found else o) (same other),
+)
+added_before old begun new name xref found same is (Err e) adds = tt

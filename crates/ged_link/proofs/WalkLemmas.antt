@@ -1,5 +1,5 @@
 -- The equations of the walks over links, at trees that are known by an equation.
-use Rattle.std.proofs.Common.{◌≡◌, cond, ℕ, ◌+◌, ◌<◌, true, false, Bool, refl, [], ◌∷◌, ◌++◌, Option, Some, None, ◌||◌, ◌&&◌, nat_eq}
+use Rattle.std.proofs.Common.{◌≡◌, cond, ℕ, ◌+◌, ◌-◌, ◌<◌, ◌≤◌, arith, true, false, Bool, refl, sym, ap, ◌∙◌, List, append_assoc, [], ◌∷◌, ◌++◌, Option, Some, None, ◌||◌, ◌&&◌, nat_eq}
 use Rattle.ged_line.specs.Bytes.{Bytes}
 use Rattle.ged_tree.specs.Trees.{Structure, Trees, none, tree, trees_count}
 use Rattle.ged_link.specs.declared.pairs.Role.{Role}
@@ -8,6 +8,16 @@ use Rattle.ged_tree.specs.declared.payload.Payload.TheVariants.{Void, Pointer, T
 use Rattle.ged_link.specs.declared.names.Names.{Names}
 use Rattle.ged_link.specs.Indexes.{AreRecords, place_in}
 use Rattle.ged_link.specs.inner.LinkWalks.{role_under, role_eq, is_role, is_place, target, linked, has_link_to, has_pair, is_one_way_for, is_one_way, one_way_below, one_way_places}
+
+-- a step of a walk up to an end
+pub next_after : (p a : ℕ) → p < a → p + 1 ≤ a
+next_after p a h = omega arith
+
+pub up_to : (a e n : ℕ) → a ≤ e → e ≤ n → a ≤ n
+up_to a e n h k = omega arith
+
+pub nearer : (p a e : ℕ) → p < a → a ≤ e → e - a < e - p
+nearer p a e h k = omega arith
 
 pub link_none : (find : Bytes → Option ℕ) (role : Role) (at : Bytes) (q : ℕ) (t : Trees) → t ≡ none → has_link_to find role at q t ≡ false
 link_none find role at q t e = rw e refl
@@ -71,9 +81,43 @@ moved_pairs true true c = refl
 moved_pairs true false c = refl
 moved_pairs false b c = refl
 
-pub ruleset pairs = (link_none, link_tree, pair_none, pair_tree, moved_pair, moved_pairs)
+-- the links of a record that are told so far, beside those that are left of it
+pub links_kept : (here was now : Bool) → now ≡ was → (here || now) ≡ (here || was)
+links_kept here was now e = rw e refl
 
-pub ruleset one_link = (no_role, no_target, is_link, turned_pair, no_pair)
+pub links_more : (find : Bytes → Option ℕ) (role : Role) (at : Bytes) (q : ℕ) (here : Bool) (t : Trees) (s : Structure) (b n : Trees) (old new : Bool) → t ≡ tree s b n
+    → new ≡ ((here && is_place (linked find role at s) q) || old) → ((here && has_link_to find role at q n) || new) ≡ ((here && has_link_to find role at q t) || old)
+links_more find role at q here t s b n old new e k =
+    ap (λ (x : Bool). (here && has_link_to find role at q n) || x) k ∙ (moved_pair here (is_place (linked find role at s) q) (has_link_to find role at q n) old
+    ∙ sym (ap (λ (x : Bool). (here && x) || old) (link_tree find role at q t s b n e)))
+
+pub links_all : (find : Bytes → Option ℕ) (role : Role) (at : Bytes) (q : ℕ) (here : Bool) (t : Trees) (now : Bool) → t ≡ none → now ≡ ((here && has_link_to find role at q t) || now)
+links_all find role at q here t now e = sym (ap (λ (x : Bool). (here && x) || now) (link_none find role at q t e) ∙ no_pair here now)
+
+-- the same of all records
+pub pairs_more : (find : Bytes → Option ℕ) (role : Role) (p a : ℕ) (t : Trees) (s : Structure) (b n : Trees) (pair : ℕ × ℕ) (old new : Bool) → t ≡ tree s b n → p + 1 + trees_count b ≡ a
+    → new ≡ ((nat_eq pair.0 p && has_link_to find role s.tag pair.1 b) || old) → (has_pair find role a n pair || new) ≡ (has_pair find role p t pair || old)
+pairs_more find role p a t s b n pair old new e f k =
+    let here = nat_eq pair.0 p && has_link_to find role s.tag pair.1 b in
+    ap (λ (x : Bool). has_pair find role a n pair || x) k ∙ (moved_pairs here (has_pair find role a n pair) old
+    ∙ sym (ap (λ (x : Bool). x || old) (pair_tree find role p a t s b n pair e f)))
+
+pub pairs_all : (find : Bytes → Option ℕ) (role : Role) (p : ℕ) (t : Trees) (pair : ℕ × ℕ) (now : Bool) → t ≡ none → now ≡ (has_pair find role p t pair || now)
+pairs_all find role p t pair now e = sym (ap (λ (x : Bool). x || now) (pair_none find role p t pair e))
+
+-- the lists after a structure that is no link, and after one that is
+pub not_linked : (find : Bytes → Option ℕ) (role : Role) (at : Bytes) (q : ℕ) (s : Structure) (here old : Bool) → is_place (linked find role at s) q ≡ false
+    → old ≡ ((here && is_place (linked find role at s) q) || old)
+not_linked find role at q s here old e = sym (ap (λ (x : Bool). (here && x) || old) e ∙ no_pair here old)
+
+pub one_linked : (find : Bytes → Option ℕ) (role other : Role) (at : Bytes) (q r : ℕ) (s : Structure) (here old new : Bool) → Some other ≡ role_under at s.tag → Some r ≡ target find s.payload
+    → new ≡ ((role_eq role other && (here && nat_eq q r)) || old) → new ≡ ((here && is_place (linked find role at s) q) || old)
+one_linked find role other at q r s here old new h t k =
+    k ∙ (turned_pair here (role_eq role other) (nat_eq q r) old ∙ sym (ap (λ (x : Bool). (here && x) || old) (is_link find role other at q r s h t)))
+
+-- the role by the tags that a structure and its record have
+pub role_here : (told : Option Role) (at tag from here : Bytes) (role : Option Role) → told ≡ role_under at tag → at ≡ from → tag ≡ here → told ≡ role → role ≡ role_under from here
+role_here told at tag from here role e h k is = sym is ∙ (e ∙ (ap (λ (x : Bytes). role_under x tag) h ∙ ap (λ (x : Bytes). role_under from x) k))
 
 pub below_none : (find : Bytes → Option ℕ) (d : Trees) (at : Bytes) (r p : ℕ) (t : Trees) → t ≡ none → one_way_below find d at r p t ≡ []
 below_none find d at r p t e = rw e refl
@@ -92,6 +136,13 @@ places_none find d p t e = rw e refl
 pub places_tree : (find : Bytes → Option ℕ) (d : Trees) (p a : ℕ) (t : Trees) (s : Structure) (b n : Trees) → t ≡ tree s b n → p + 1 + trees_count b ≡ a
     → one_way_places find d p t ≡ one_way_below find d s.tag p (p + 1) b ++ one_way_places find d a n
 places_tree find d p a t s b n e k = rw (e, k) refl
+
+-- the places that are pushed so far, before those that are left
+pub one_way_pushed : (find : Bytes → Option ℕ) (d : Trees) (at : Bytes) (r p a : ℕ) (t : Trees) (s : Structure) (b n : Trees) (old new : List ℕ) → t ≡ tree s b n → p + 1 + trees_count b ≡ a
+    → is_one_way find d at r s ≡ true → new ≡ old ++ (p ∷ []) → new ++ one_way_below find d at r a n ≡ old ++ one_way_below find d at r p t
+one_way_pushed find d at r p a t s b n old new e f h k =
+    ap (λ (xs : List ℕ). xs ++ one_way_below find d at r a n) k ∙ (append_assoc old (p ∷ []) (one_way_below find d at r a n)
+    ∙ sym (ap (λ (xs : List ℕ). old ++ xs) (below_here find d at r p a t s b n e f h)))
 
 pub ruleset one_ways = (below_none, below_here, below_other, places_none, places_tree)
 

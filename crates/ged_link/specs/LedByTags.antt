@@ -19,7 +19,7 @@ led_by tag =
     else if bytes_eq tag (codes "OBJE") then Some (codes "OBJE")
     else None
 
--- a pointer with this tag leads to a record of the document that has the tag to which the pointer's tag leads
+-- where a tag of records goes with this tag, a pointer leads to a record of the document that has it; any other payload passes
 abbrev pub IsLed : Trees → Bytes → Payload → Type 0
 IsLed d tag (Pointer name) = IfSome (led_by tag) (λ wanted. SomeTree (λ s below. (s.xref ≡ Some name) × (s.tag ≡ wanted)) d)
 IsLed d tag payload = ⊤

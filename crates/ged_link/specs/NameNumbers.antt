@@ -1,4 +1,5 @@
--- Short names as numbers; only private functions cite this.
+-- Short names as numbers. `IsIndexOf` rests on this, but a caller need not believe it: the contracts of an index's calls say what
+-- follows from that.
 use Rattle.std.specs.Prelude.{ℕ, ◌+◌, ◌-◌, ◌*◌, ◌^◌, Bool, ◌&&◌, cond, nat_eq, nat_le, nat_lt, [], ◌∷◌, Option, Some, None, option_map, length}
 use Rattle.std.specs.Char.{is_ascii_digit}
 use Rattle.std.specs.Option.{option_or}

@@ -1,5 +1,5 @@
 // Links that follow each other by the records that point, put in order record by record.
-ghost use Rattle.std.specs.Prelude.{◌≡◌, ◌<◌, ◌≤◌, length};
+ghost use Rattle.std.specs.Prelude.{◌<◌, ◌≤◌, length};
 ghost use Rattle.std.specs.List.Sorted.{IsPermutation};
 ghost use Rattle.ged_link.specs.inner.PairSets.{IsInOrder};
 

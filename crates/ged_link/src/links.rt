@@ -60,27 +60,28 @@ fn other_tag(record_tag: &str) -> &'static str
     if record_tag == "INDI" { "FAM" } else { "INDI" }
 }
 
-/// Whether a structure directly under a record is a link that the other record does not answer.
+/// Whether a structure directly under a record with a tag is a link that the other record does not answer. A pointer that is no link
+/// is not looked up.
 #[tactic(auto, using(crate::proofs::WalkLemmas::not_one_way))]
 fn is_one_way<F: Forest>(
     forest: &F,
     records: &Names,
     lists: &LinkLists,
     from: usize,
+    record_tag: &str,
     place: usize,
 ) -> bool
-    requires from { from < trees_count (F.trees forest.now) }
+    requires record_tag { record_tag.now ≡ (structure_at (F.trees forest.now) from).tag }
     requires within { place < trees_count (F.trees forest.now) }
     requires records { AreRecords (F.trees forest.now) records.now }
     requires links { AreLinks (place_in records.now) (F.trees forest.now) lists.now }
     requires ordered { AreInOrder lists.now }
     ensures { result ≡ one_way_under (place_in records.now) (F.trees forest.now) (structure_at (F.trees forest.now) from).tag from (structure_at (F.trees forest.now) place) }
 {
-    let Some(other) = target_of(forest, records, place) else {
+    let Some(role) = role_of(record_tag, forest.tag(place)) else {
         return false;
     };
-    let record_tag = forest.tag(from);
-    let Some(role) = role_of(record_tag, forest.tag(place)) else {
+    let Some(other) = target_of(forest, records, place) else {
         return false;
     };
     !has(lists, role, other, from) && forest.tag(other.place) == other_tag(record_tag)
@@ -104,9 +105,10 @@ fn push_one_way<F: Forest>(
     ensures { OnOk result (places.new.items ≡ places.old.items
         ++ one_way_below (place_in records.now) (F.trees forest.now) (structure_at (F.trees forest.now) from).tag from (from + 1) (trees_between (F.trees forest.now) (from + 1) end)) }
 {
+    let record_tag = forest.tag(from);
     let mut place = from + 1;
     while let Some(after) = next_in_run(forest, place, end) {
-        if is_one_way(forest, records, lists, from, place) {
+        if is_one_way(forest, records, lists, from, record_tag, place) {
             places.push(place)?;
         }
         place = after;

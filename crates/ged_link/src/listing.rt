@@ -61,7 +61,7 @@ fn list_name(tallies: &mut Vec<Tally>, xref: Option<&str>) -> ListedName
     let [first, digits @ ..] = name.as_bytes() else {
         return NO_NUMBER;
     };
-    let digits = read_number(0, digits);
+    let digits = read_number(digits);
     count_name(tallies, *first, digits);
     match number_of(name) {
         Some(number) => ListedName { number, digits },

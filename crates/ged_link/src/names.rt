@@ -1,14 +1,14 @@
 // Records by the names of their cross-reference identifiers.
-ghost use Rattle.std.specs.Prelude.{◌≡◌, ◌<◌, ◌^◌, ◌↔◌, ℕ, IsTrue, IfOk, IfSome, OnOk, Option, Some, None, is_none, nat_eq};
+ghost use Rattle.std.specs.Prelude.{◌≡◌, ◌<◌, ◌^◌, ◌↔◌, ℕ, IsTrue, IfOk, IfSome, [], Option, Some, None, nat_eq};
 ghost use Rattle.std.specs.HashMap.{get, get_by_text};
 ghost use Rattle.ged_line.specs.Bytes.{Bytes};
-ghost use Rattle.ged_link.specs.Indexes.{found_in, found_short};
+ghost use Rattle.ged_link.specs.Indexes.{found_in};
 ghost use Rattle.ged_link.specs.inner.Indexes.{HasKey, HasNoOthers};
 ghost use Rattle.ged_link.specs.Slots.{slot_in, kept_in};
 ghost use Rattle.ged_link.specs.NameNumbers.{count_read, counted_number, number_up_to, number_within, short_number};
 ghost use Rattle.ged_link.specs.inner.Listing.{listed_name};
-ghost use Rattle.ged_link.specs.inner.Resolving.{AddsName, AddsRecord};
-ghost use Rattle.ged_link.specs.inner.Slots.{kept_at, HasNoSlot};
+ghost use Rattle.ged_link.specs.inner.Resolving.{AddsRecord};
+ghost use Rattle.ged_link.specs.inner.Slots.{kept_at, HasNoSlot, IsMissed};
 
 use crate::index::RecordPlace;
 use crate::keys::{Keyed, KeyedNumbers};
@@ -96,9 +96,10 @@ fn read_count(so_far: u64, digits: &[u8]) -> Option<u64>
     }
 }
 
-/// The number of a counted name, or `None` for any other: it is a byte and at most 14 decimal digits, or 15 of which all but the last
-/// spell less than [`COUNT_BOUND`]. Programs that number
-/// their records from one list for all files spell such names.
+/// The number of a counted name, or `None` for any other. A counted name is one byte and behind it at most 15 decimal digits, or none,
+/// all of which but the last spell less than [`COUNT_BOUND`], as they always do where there are at most 14. Its number has the highest
+/// of 64 bits, which no answer of [`number_of_bytes`] has, and under that bit what the digits spell, how many there are, and the byte.
+/// Programs that number their records from one list for all files spell such names.
 #[inline(never)]
 fn number_of_counted(name: &[u8]) -> Option<u64>
     ensures { result ≡ counted_number name.now }
@@ -218,27 +219,14 @@ impl Names {
         }
     }
 
-    /// Keeps a record in the slot that its name asks for. The answer is whether no record had the name, or `None` where the name
-    /// has no slot: then nothing is kept. Takes no memory.
-    pub(crate) fn keep(&mut self, name: &str, found: RecordPlace) -> Option<bool>
-        ensures added { IfSome result (AddsRecord self.old self.new (Some name.now) found) }
-        ensures same { result ≡ None → self.new ≡ self.old }
-        ensures missed { result ≡ None → HasNoSlot self.old name.now }
-        ensures others { (self.new.short ≡ self.old.short) × (self.new.long ≡ self.old.long) }
-    {
-        let Some(number) = number_of(name) else {
-            return None;
-        };
-        let slot = self.slots.slot(name);
-        self.keep_in(slot, number, found)
-    }
-
-    /// The same by what is listed of a record's name, without its text; `None` also where a name has no number. Of a record without
-    /// a name nothing is kept, and none had it.
+    /// Keeps a record in the slot that its name asks for, by what is listed of the name, without its text. The answer is whether no
+    /// record had the name, or `None` where the name has no slot: then nothing is kept. Of a record without a name nothing is kept,
+    /// and none had it. Takes no memory.
     #[inline(always)]
     pub(crate) fn keep_listed(&mut self, listed: ListedName, found: RecordPlace) -> Option<bool>
         ensures added { (xref : Option Bytes) → listed ≡ listed_name xref → IfSome result (AddsRecord self.old self.new xref found) }
         ensures same { result ≡ None → self.new ≡ self.old }
+        ensures missed { (xref : Option Bytes) → listed ≡ listed_name xref → (xref ≡ Some [] → ⊥) → result ≡ None → IsMissed self.old listed.number xref }
         ensures others { (self.new.short ≡ self.old.short) × (self.new.long ≡ self.old.long) }
     {
         if listed.number == 0 {
@@ -249,42 +237,33 @@ impl Names {
         self.keep_in(slot, listed.number, found)
     }
 
-    /// Adds a record by its name, which has no slot, in the place of one with the same name. The answer is whether there was none.
-    /// Grows.
-    pub(crate) fn insert(
+    /// Adds a record by the number of its name, which has no slot, in the place of one with the same name. The answer is whether
+    /// there was none. Grows.
+    pub(crate) fn insert_short(
+        &mut self,
+        number: u64,
+        found: RecordPlace,
+    ) -> Result<bool, AllocError>
+        ensures added { (name : Bytes) → short_number name ≡ Some number → HasNoSlot self.old name → IfOk result (AddsRecord self.old self.new (Some name) found) }
+        ensures keyed { (key : ℕ) → HasKey self.old key → HasKey self.new key }
+    {
+        let before = self.short.insert(number, found)?;
+        Ok(before.is_none())
+    }
+
+    /// The same by a long name's text.
+    pub(crate) fn insert_long(
         &mut self,
         alloc: Global,
         name: &str,
         found: RecordPlace,
     ) -> Result<bool, AllocError>
-        requires { HasNoSlot self.old name.now }
-        ensures is_new { IfOk result (λ is_new. is_new ≡ is_none (found_in self.old name.now)) }
-        ensures added { OnOk result (AddsName self.old self.new name.now found) }
+        requires { short_number name.now ≡ None }
+        ensures added { IfOk result (AddsRecord self.old self.new (Some name.now) found) }
         ensures keyed { (key : ℕ) → HasKey self.old key → HasKey self.new key }
     {
-        let before = match number_of(name) {
-            Some(number) => self.insert_short(name, number, found)?,
-            None => {
-                let key = String::from_str(alloc, name)?;
-                self.long.insert(key, found)?
-            }
-        };
+        let key = String::from_str(alloc, name)?;
+        let before = self.long.insert(key, found)?;
         Ok(before.is_none())
-    }
-
-    /// The same for a short name, with the number that it spells. The answer is the record before.
-    fn insert_short(
-        &mut self,
-        name: &str,
-        number: u64,
-        found: RecordPlace,
-    ) -> Result<Option<RecordPlace>, AllocError>
-        requires number { short_number name.now ≡ Some number }
-        requires missed { kept_in self.old.slots name.now number ≡ None }
-        ensures before { IfOk result (λ before. before ≡ found_short self.old name.now number) }
-        ensures added { OnOk result (AddsName self.old self.new name.now found) }
-        ensures keyed { (key : ℕ) → HasKey self.old key → HasKey self.new key }
-    {
-        Ok(self.short.insert(number, found)?)
     }
 }

@@ -1,5 +1,5 @@
 // Where the pointers of a document lead: the records that they name, and the links between records.
-ghost use Rattle.std.specs.Prelude.{◌≡◌, ◌<◌, ◌≤◌, ◌+◌, ◌⊎◌, ℕ, false, IsTrue, ◌↔◌, IfOk, IfErr, OnOk, length, nat_eq, ◌&&◌, ◌||◌, option_map, alloc_error};
+ghost use Rattle.std.specs.Prelude.{◌≡◌, ◌<◌, ◌≤◌, ◌+◌, ◌⊎◌, ℕ, false, IsTrue, ◌↔◌, IfOk, IfErr, IfSome, OnOk, length, nat_eq, ◌&&◌, ◌||◌, option_map, alloc_error};
 ghost use Rattle.ged_tree.specs.Trees.{records_of, trees_count};
 ghost use Rattle.ged_tree.specs.Places.{structure_at};
 ghost use Rattle.ged_tree.specs.Runs.{trees_between, IsRun};
@@ -11,7 +11,7 @@ ghost use Rattle.ged_link.specs.inner.PairSets.{lists_have, AreLinks};
 ghost use Rattle.ged_link.specs.Targets.{AreTargets};
 ghost use Rattle.ged_link.specs.LedByTags.{AreLed};
 ghost use Rattle.ged_link.specs.inner.Resolving.{AreFollowed, AreKnown, AreUsed};
-ghost use Rattle.ged_link.specs.declared.index.RecordPlace.{RecordPlace};
+ghost use Rattle.ged_link.specs.declared.pointers.Pointed.{Pointed};
 ghost use Rattle.ged_link.specs.declared.pairs.Role.{Role};
 ghost use Rattle.ged_link.specs.declared.fault.LinkFault.TheVariants.{Memory};
 
@@ -43,21 +43,29 @@ pub(crate) struct Records<'r> {
     pub(crate) types: &'r [Option<RecordType>],
 }
 
-/// Marks the record that the structure at a place points to, and answers where it stands, or `None` where no pointer stands; or
-/// the fault of a pointer that names no record.
+/// What a pointer tells: the tag of its structure, and where the record stands that it names.
+#[derive(Clone, Copy)]
+struct Pointed<'f> {
+    tag: &'f str,
+    to: RecordPlace,
+}
+
+/// Marks the record that the structure at a place points to, and answers where it stands, with the structure's tag, or `None` where no
+/// pointer stands; or the fault of a pointer that names no record.
 #[inline(always)]
-fn follow<F: Forest>(
-    forest: &F,
+fn follow<'f, F: Forest>(
+    forest: &'f F,
     records: &Records<'_>,
     place: usize,
     followed: &mut Followed,
-) -> Result<Option<RecordPlace>, LinkFault>
+) -> Result<Option<Pointed<'f>>, LinkFault>
     requires within { place < trees_count (F.trees forest.now) }
     requires records { AreKnown (F.trees forest.now) records.now }
     requires distinct { (place : ℕ) → IsRepeated (F.trees forest.now) place → ⊥ }
     requires used { AreFollowed (F.trees forest.now) place followed.old }
     ensures used { OnOk result (AreFollowed (F.trees forest.now) (place + 1) followed.new) }
-    ensures target { IfOk result (λ found. option_map (λ (r : RecordPlace). r.place) found ≡ target (place_in records.now.names.now) (structure_at (F.trees forest.now) place).payload) }
+    ensures tag { IfOk result (λ found. IfSome found (λ pointed. pointed.tag.now ≡ (structure_at (F.trees forest.now) place).tag)) }
+    ensures target { IfOk result (λ found. option_map (λ (pointed : Pointed). pointed.to.place) found ≡ target (place_in records.now.names.now) (structure_at (F.trees forest.now) place).payload) }
     ensures fault { IfErr result (λ fault. (fault ≡ Memory alloc_error) ⊎ HasLinkFault (F.trees forest.now) fault) }
 {
     if !forest.points(place) {
@@ -75,7 +83,7 @@ fn follow<F: Forest>(
         return Err(LinkFault::Memory(AllocError));
     };
     followed.led &= leads_as_tagged(records.types, tag, found.number);
-    Ok(Some(found))
+    Ok(Some(Pointed { tag, to: found }))
 }
 
 /// Marks the records that the structures from a place on point to, up to an end; or the fault of the first pointer there
@@ -105,7 +113,6 @@ fn follow_all<F: Forest>(
 
 /// Marks the record that a structure directly under a record with a tag points to, and adds the link of both where it is
 /// one.
-#[tactic(auto, using(crate::proofs::WalkLemmas::one_link))]
 fn follow_link<F: Forest>(
     forest: &F,
     records: &Records<'_>,
@@ -130,20 +137,19 @@ fn follow_link<F: Forest>(
         Ok(found) => found,
         Err(fault) => return Err(fault),
     };
-    let Some(to) = found else {
+    let Some(pointed) = found else {
         return Ok(());
     };
-    let Some(role) = role_of(record_tag, forest.tag(place)) else {
+    let Some(role) = role_of(record_tag, pointed.tag) else {
         return Ok(());
     };
-    match lists.push(role, from, to) {
+    match lists.push(role, from, pointed.to) {
         Ok(()) => Ok(()),
         Err(_) => Err(LinkFault::Memory(AllocError)),
     }
 }
 
 /// The same for all structures of a record, which end before a place.
-#[tactic(auto, using(crate::proofs::WalkLemmas::pairs))]
 fn follow_record<F: Forest>(
     forest: &F,
     records: &Records<'_>,
@@ -186,7 +192,6 @@ fn follow_record<F: Forest>(
 
 /// Which records some pointer names, and the links of all records, added to a list of none; or the fault of the first pointer that names
 /// no record.
-#[tactic(auto, using(crate::proofs::WalkLemmas::pairs))]
 pub(crate) fn follow_pointers<F: Forest>(
     alloc: Global,
     forest: &F,

@@ -1,5 +1,5 @@
 // Whether each pointer names one record, and the index of the records.
-ghost use Rattle.std.specs.Prelude.{◌≡◌, ◌<◌, ◌⊎◌, ℕ, true, false, IfOk, IfErr, OnOk, List, Option, None, map, length, alloc_error, is_none};
+ghost use Rattle.std.specs.Prelude.{◌≡◌, ◌<◌, ◌⊎◌, ℕ, true, false, IfOk, IfErr, OnOk, List, [], Option, Some, None, map, length, alloc_error};
 ghost use Rattle.ged_tree.specs.Trees.{records_of, trees_count};
 ghost use Rattle.ged_tree.specs.Documents.{is_document};
 ghost use Rattle.ged_tree.specs.DocumentLines.{document_lines};
@@ -9,11 +9,12 @@ ghost use Rattle.ged_link.specs.Links.{Resolved, identifiers};
 ghost use Rattle.ged_link.specs.LinkFaults.{HasLinkFault, IsRepeated};
 ghost use Rattle.ged_link.specs.Places.{ArePlaces};
 ghost use Rattle.ged_link.specs.Indexes.{IsIndexOf, AreRecords, AreTyped, found_in};
-ghost use Rattle.ged_link.specs.inner.Indexes.{HasNoOthers, IsKeyed};
+ghost use Rattle.ged_link.specs.inner.Indexes.{HasKey, HasNoOthers, IsKeyed};
+ghost use Rattle.ged_link.specs.inner.Keys.{names_key as key_of_names};
 ghost use Rattle.ged_link.specs.inner.Listing.{listed_name, listed_halves, listed_digits, AreTypesOf, IsRecordList};
 ghost use Rattle.ged_link.specs.inner.PairSets.{lists_have};
-ghost use Rattle.ged_link.specs.inner.Resolving.{AddsName, AddsRecord};
-ghost use Rattle.ged_link.specs.inner.Slots.{HasNoSlot};
+ghost use Rattle.ged_link.specs.inner.Resolving.{AddsRecord};
+ghost use Rattle.ged_link.specs.inner.Slots.{IsMissed};
 ghost use Rattle.ged_link.specs.declared.pairs.Role.{Role};
 ghost use Rattle.ged_link.specs.declared.fault.LinkFault.TheVariants.{Memory};
 
@@ -94,7 +95,20 @@ fn resolve_listed<F: Forest>(
     })
 }
 
-/// Adds a record by its name, which has no slot. The first such record gives the maps their key, of all names from its own on.
+/// Gives the maps, where they are empty, their key: that of all names from a record's own on.
+fn begin_others<F: Forest>(alloc: Global, forest: &F, end: usize, records: &mut Names, place: usize)
+    requires { IsRun (F.trees forest.now) place end }
+    ensures same { (name : _) → found_in records.new name ≡ found_in records.old name }
+    ensures slots { records.new.slots ≡ records.old.slots }
+    ensures keyed { IsKeyed (F.trees forest.now) end records.old → (first : ℕ) × HasKey records.new (key_of_names (identifiers (trees_between (F.trees forest.now) first end))) }
+{
+    if records.has_no_others() {
+        records.begin(alloc, names_key(forest, place, end));
+    }
+}
+
+/// Adds a record whose name has no slot: by the number that is listed of the name, or where that is 0, by the name, which is read
+/// again. The answer is whether no record had it. Grows.
 #[cold]
 #[inline(never)]
 fn add_other<F: Forest>(
@@ -102,43 +116,23 @@ fn add_other<F: Forest>(
     forest: &F,
     end: usize,
     records: &mut Names,
-    name: &str,
-    found: RecordPlace,
-) -> Result<bool, AllocError>
-    requires run { IsRun (F.trees forest.now) found.place end }
-    requires missed { HasNoSlot records.old name.now }
-    ensures is_new { IfOk result (λ is_new. is_new ≡ is_none (found_in records.old name.now)) }
-    ensures added { OnOk result (AddsName records.old records.new name.now found) }
-    ensures keyed { IsKeyed (F.trees forest.now) end records.old → OnOk result (IsKeyed (F.trees forest.now) end records.new) }
-{
-    if records.has_no_others() {
-        records.begin(alloc, names_key(forest, found.place, end));
-    }
-    records.insert(alloc, name, found)
-}
-
-/// Adds a record by its identifier, if it has one, which is read again.
-#[cold]
-#[inline(never)]
-fn add_by_xref<F: Forest>(
-    alloc: Global,
-    forest: &F,
-    end: usize,
-    records: &mut Names,
+    number: u64,
     found: RecordPlace,
 ) -> Result<bool, AllocError>
     requires within { found.place < trees_count (F.trees forest.now) }
     requires run { IsRun (F.trees forest.now) found.place end }
+    requires missed { IsMissed records.old number (structure_at (F.trees forest.now) found.place).xref }
     ensures added { IfOk result (AddsRecord records.old records.new (structure_at (F.trees forest.now) found.place).xref found) }
     ensures keyed { IsKeyed (F.trees forest.now) end records.old → OnOk result (IsKeyed (F.trees forest.now) end records.new) }
 {
-    let Some(name) = forest.xref(found.place) else {
-        return Ok(true);
-    };
-    if let Some(is_new) = records.keep(name, found) {
-        return Ok(is_new);
+    begin_others(alloc, forest, end, records, found.place);
+    if number != 0 {
+        return records.insert_short(number, found);
     }
-    add_other(alloc, forest, end, records, name, found)
+    match forest.xref(found.place) {
+        Some(name) => records.insert_long(alloc, name, found),
+        None => unreachable!(),
+    }
 }
 
 /// Adds a record by what is listed of its identifier, in the slot of that or else in a map. The answer is whether no record had
@@ -155,17 +149,19 @@ fn add_record<F: Forest>(
     requires within { found.place < trees_count (F.trees forest.now) }
     requires run { IsRun (F.trees forest.now) found.place end }
     requires listed { listed ≡ listed_name (structure_at (F.trees forest.now) found.place).xref }
+    requires named { (structure_at (F.trees forest.now) found.place).xref ≡ Some [] → ⊥ }
     ensures added { IfOk result (AddsRecord records.old records.new (structure_at (F.trees forest.now) found.place).xref found) }
     ensures keyed { IsKeyed (F.trees forest.now) end records.old → OnOk result (IsKeyed (F.trees forest.now) end records.new) }
 {
-    if let Some(is_new) = records.keep_listed(listed, found) {
-        return Ok(is_new);
+    match records.keep_listed(listed, found) {
+        Some(is_new) => Ok(is_new),
+        None => add_other(alloc, forest, end, records, listed.number, found),
     }
-    add_by_xref(alloc, forest, end, records, found)
 }
 
 /// Adds all records, which are from a place up to the end, by what is listed of their identifiers, and answers their places; or the
-/// fault of the first record whose identifier an earlier one has. Only a record whose identifier finds no slot is looked at again.
+/// fault of the first record whose identifier an earlier one has. No identifier is read again but the long ones, and once, where the
+/// first one has no slot, all from that on ([`names_key`]).
 fn add_records<F: Forest>(
     alloc: Global,
     forest: &F,

@@ -47,17 +47,15 @@ pub(crate) struct Slots {
     pub(crate) entries: Vec<Entry>,
 }
 
-/// The number that bytes spell as decimal digits after a number read so far. A byte that is no digit counts by its low four bits.
-pub(crate) fn read_number(so_far: u32, digits: &[u8]) -> u32
-    ensures { result ≡ number_read so_far digits.now }
+/// The number that bytes spell as decimal digits, in 32 bits. A byte that is no digit counts by its low four bits.
+pub(crate) fn read_number(digits: &[u8]) -> u32
+    ensures { result ≡ number_read 0 digits.now }
 {
-    match digits {
-        [digit, more @ ..] => read_number(
-            so_far.wrapping_mul(10).wrapping_add(u32::from(*digit % 16)),
-            more,
-        ),
-        [] => so_far,
+    let mut number: u32 = 0;
+    for digit in digits {
+        number = number.wrapping_mul(10).wrapping_add(u32::from(*digit % 16));
     }
+    number
 }
 
 /// A number brought into a region of so many slots.
@@ -102,7 +100,7 @@ impl Slots {
         ensures { result ≡ slot_in self.now.regions.items name.now }
     {
         match name.as_bytes() {
-            [first, digits @ ..] => self.slot_behind(*first, read_number(0, digits)),
+            [first, digits @ ..] => self.slot_behind(*first, read_number(digits)),
             [] => 0,
         }
     }

@@ -19,3 +19,11 @@ KeepsIn old new slot number found = (other : Bytes) (n : ℕ) → 0 < n
 -- nothing is kept in a slot for a name
 abbrev pub HasNoSlot : Names → Bytes → Type 0
 HasNoSlot records name = (number : ℕ) → short_number name ≡ Some number → kept_in records.slots name number ≡ None
+
+-- a record has a name that has no slot, and this is the number that the name spells, or 0 where it spells none
+pub record IsMissed (records : Names) (number : ℕ) (xref : Option Bytes) : Type 0 where
+  pub name : Bytes
+  pub is : xref ≡ Some name
+  pub short : (number ≡ 0 → ⊥) → short_number name ≡ Some number
+  pub long : number ≡ 0 → short_number name ≡ None
+  pub missed : HasNoSlot records name

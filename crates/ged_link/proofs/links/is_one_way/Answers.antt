@@ -7,4 +7,4 @@ use Rattle.ged_link.proofs.links.is_one_way.Goals as goal
 pub tag-requires-then-not-has : goal.tag-requires-then-not-has
 tag-requires-then-not-has g c =
     let w = g.F.Forest.trees c.args.forest.now in
-    target_within w c.args.records.now (structure_at w c.args.place).payload c.in-Some.other.place c.requires.records (sym c.target_of.ensures ∙ ap (option_map (λ (r : RecordPlace). r.place)) c.in-Some.is)
+    target_within w c.args.records.now (structure_at w c.args.place).payload c.in-Some-target_of.other.place c.requires.records (sym c.target_of.ensures ∙ ap (option_map (λ (r : RecordPlace). r.place)) c.in-Some-target_of.is)

@@ -1,4 +1,4 @@
-use Rattle.std.proofs.Common.{◌≡◌, ℕ, Some, None, sym, ap, ◌∙◌, slice_get, subst, Option}
+use Rattle.std.proofs.Common.{◌≡◌, ℕ, Some, None, sym, ap, ◌∙◌, slice_get, subst, Option, arith}
 use Rattle.std.specs.Option.{option_copied, MatchOption}
 use Rattle.ged_tree.specs.Places.{line_at}
 use Rattle.ged_link.specs.LinkFaults.{IsLowest}
@@ -19,7 +19,7 @@ line-requires g c =
     let w = g.F.Forest.trees c.args.forest.now in
     let places = c.args.index.now.one_way.items in
     let place : slice_get places 0 ≡ Some c.in_ok-place.place.now = ap (λ ps. slice_get ps 0) (sym c.deref.ensures.value) ∙ sym c.first.ensures.value ∙ ap option_copied c.in_ok-place.was in
-    one_way_within w c.in_ok-place.place.now (first_is w places c.requires.index.one_way c.in_ok-place.place.now place).0
+    omega (arith, one_way_within w c.in_ok-place.place.now (first_is w places c.requires.index.one_way c.in_ok-place.place.now place).0)
 
 pub returns : goal.returns
 returns g c =

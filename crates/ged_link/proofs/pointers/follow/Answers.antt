@@ -27,6 +27,7 @@ returns-then-not-points g c =
         found = dangles_kept w c.args.place c.requires.within other c.requires.used.found;
         led = tells_on w c.args.place c.args.followed.now.led other c.requires.used.led;
       };
+      tag = tt;
       target = sym (told_no_target (place_in c.args.records.now.names.now) s.payload denied);
       fault = tt;
     }
@@ -44,6 +45,7 @@ returns-in_default g c =
         found = dangles_kept w c.args.place c.requires.within other c.requires.used.found;
         led = tells_on w c.args.place c.args.followed.now.led other c.requires.used.led;
       };
+      tag = tt;
       target = sym (no_target (place_in c.args.records.now.names.now) c.tag_and_payload.result.1 (further_lines s.payload) s.payload c.tag_and_payload.ensures.payload c.in_default.not-Pointer);
       fault = tt;
     }

@@ -1,8 +1,10 @@
-use Rattle.std.proofs.Common.{◌∙◌, length, refl}
+use Rattle.std.proofs.Common.{◌+◌, ◌∙◌, length, subst, ℕ, ◌≤◌, inl, refl}
+use Rattle.ged_tree.specs.Places.{structure_at}
+use Rattle.ged_tree.specs.Runs.{trees_between, IsStep}
 use Rattle.ged_link.specs.Indexes.{place_in}
 use Rattle.ged_link.proofs.RecordLemmas.{whole_end, run_over}
 use Rattle.ged_link.proofs.UseLemmas.{followed_start, used_all, dangles_all}
-use Rattle.ged_link.proofs.WalkLemmas.{pairs_start}
+use Rattle.ged_link.proofs.WalkLemmas.{nearer, pairs_start, pairs_more, pairs_all}
 use Rattle.ged_link.proofs.LedLemmas.{led_all}
 use Rattle.ged_link.specs.inner.PairSets.{lists_have}
 use Rattle.ged_link.proofs.pointers.follow_pointers.Goals as goal
@@ -35,3 +37,89 @@ returns-clause-led g c =
     let inv = c.loop-after.invariant in
     let all = led_all w c.loop-after.place (run_over w c.loop-after.place c.end_of_all-end.result inv.run c.in_default-next_in_run.ensures ∙ inv.whole) in
     (λ is. all.0 (inv.used.led.0 is), λ led. inv.used.led.1 (all.1 led))
+
+pub loop-after-preserved : goal.loop-after-preserved
+loop-after-preserved g c =
+    let w = g.F.Forest.trees c.args.forest.now in
+    let p = c.loop-after.place in
+    let e = c.end_of_all-end.result in
+    let a = c.in-Some.after in
+    let inv = c.loop-after.invariant in
+    let step : IsStep w p e a = c.in-Some.ensures in
+    record {
+      whole = inv.whole;
+      run = step.rest;
+      used = c.in_default-follow_record.ensures.used;
+      told = λ role pair. pairs_more (place_in c.args.records.now.names.now) role p a (trees_between w p e) (structure_at w p) (trees_between w (p + 1) a) (trees_between w a e) pair (lists_have c.loop-after.lists role pair) (lists_have c.follow_record.new.lists role pair) step.first step.below.fills (c.in_default-follow_record.ensures.links role pair) ∙ inv.told role pair;
+    }
+
+pub returns-clause-links : goal.returns-clause-links
+returns-clause-links g c role pair =
+    let w = g.F.Forest.trees c.args.forest.now in
+    pairs_all (place_in c.args.records.now.names.now) role c.loop-after.place (trees_between w c.loop-after.place c.end_of_all-end.result) pair (lists_have c.loop-after.lists role pair) c.in_default-next_in_run.ensures ∙ c.loop-after.invariant.told role pair
+
+pub follow_record-requires-clause-distinct : goal.follow_record-requires-clause-distinct
+follow_record-requires-clause-distinct g c = c.requires.distinct
+
+pub returns-in_default-clause-used : goal.returns-in_default-clause-used
+returns-in_default-clause-used g c = tt
+
+pub returns-in_default-clause-targets : goal.returns-in_default-clause-targets
+returns-in_default-clause-targets g c = tt
+
+pub returns-in_default-clause-led : goal.returns-in_default-clause-led
+returns-in_default-clause-led g c = tt
+
+pub returns-in_default-clause-found : goal.returns-in_default-clause-found
+returns-in_default-clause-found g c = tt
+
+pub returns-in_default-clause-links : goal.returns-in_default-clause-links
+returns-in_default-clause-links g c = tt
+
+pub returns-in-Err-clause-used : goal.returns-in-Err-clause-used
+returns-in-Err-clause-used g c = tt
+
+pub returns-in-Err-clause-targets : goal.returns-in-Err-clause-targets
+returns-in-Err-clause-targets g c = tt
+
+pub returns-in-Err-clause-led : goal.returns-in-Err-clause-led
+returns-in-Err-clause-led g c = tt
+
+pub returns-in-Err-clause-found : goal.returns-in-Err-clause-found
+returns-in-Err-clause-found g c = tt
+
+pub returns-in-Err-clause-links : goal.returns-in-Err-clause-links
+returns-in-Err-clause-links g c = tt
+
+pub returns-clause-fault : goal.returns-clause-fault
+returns-clause-fault g c = tt
+
+pub returns-in_default-clause-fault : goal.returns-in_default-clause-fault
+returns-in_default-clause-fault g c = inl refl
+
+pub returns-in-Err-clause-fault : goal.returns-in-Err-clause-fault
+returns-in-Err-clause-fault g c = c.in-Err.ensures.fault
+
+pub returns-clause-targets : goal.returns-clause-targets
+returns-clause-targets g c = c.loop-after.invariant.used.told
+
+pub next_in_run-requires : goal.next_in_run-requires
+next_in_run-requires g c = record { run = c.loop-after.invariant.run }
+
+pub follow_record-requires-clause-from : goal.follow_record-requires-clause-from
+follow_record-requires-clause-from g c = c.in-Some.ensures.within
+
+pub follow_record-requires-clause-end : goal.follow_record-requires-clause-end
+follow_record-requires-clause-end g c = subst (λ (n : ℕ). c.in-Some.after ≤ n) c.loop-after.invariant.whole c.in-Some.ensures.room
+
+pub follow_record-requires-clause-run : goal.follow_record-requires-clause-run
+follow_record-requires-clause-run g c = c.in-Some.ensures.below
+
+pub follow_record-requires-clause-records : goal.follow_record-requires-clause-records
+follow_record-requires-clause-records g c = c.requires.records
+
+pub follow_record-requires-clause-used : goal.follow_record-requires-clause-used
+follow_record-requires-clause-used g c = c.loop-after.invariant.used
+
+pub loop-after-smaller : goal.loop-after-smaller
+loop-after-smaller g c = nearer c.loop-after.place c.in-Some.after c.end_of_all-end.result c.in-Some.ensures.forth c.in-Some.ensures.room

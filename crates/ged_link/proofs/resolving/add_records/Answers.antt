@@ -1,4 +1,4 @@
-use Rattle.std.proofs.Common.{◌≡◌, ◌+◌, ◌∷◌, ℕ, Option, List, length, None, true, false, inr, inl, sym, ap, ◌∙◌, refl, arith, subst, map, slice_index_or, drop}
+use Rattle.std.proofs.Common.{◌≡◌, ◌<◌, ◌+◌, ◌∷◌, ℕ, Option, List, length, None, true, false, inr, inl, sym, ap, ◌∙◌, refl, arith, subst, map, slice_index_or, drop}
 use Rattle.ged_line.specs.Bytes.{Bytes}
 use Rattle.ged_tree.specs.Places.{structure_at}
 use Rattle.ged_tree.specs.Trees.{Trees}
@@ -12,7 +12,8 @@ use Rattle.ged_link.specs.inner.Listing.{listed_halves, listed_digits, AreTypesO
 use Rattle.ged_link.specs.inner.Resolving.{AddsRecord}
 use Rattle.ged_link.proofs.KeptPlaces.{none_placed}
 use Rattle.ged_link.proofs.ListingLemmas.{types_next, listed_here}
-use Rattle.ged_link.proofs.RecordLemmas.{left_next, left_after, level_next, number_within, numbered_here, records_start, records_level, records_next, records_all, repeated_here, none_repeated_all, typed_start, typed_next}
+use Rattle.ged_link.proofs.RecordLemmas.{left_within, left_next, left_after, level_next, xref_here, number_within, numbered_here, records_start, records_level, records_next, records_all, repeated_here, none_repeated_all, typed_start, typed_next}
+use Rattle.ged_link.proofs.WalkLemmas.{nearer}
 use Rattle.ged_link.proofs.resolving.add_records.Goals as goal
 
 pub loop-after-init : goal.loop-after-init
@@ -105,3 +106,119 @@ add_record-requires-clause-listed g c =
     (inv.names ∙ ap (λ (xs : List (Option Bytes)). map listed_halves xs) ids)
     (inv.digits ∙ ap (λ (xs : List (Option Bytes)). map listed_digits xs) ids)
     c.joined.result c.index-in-Some.result.now c.index.result.now c.index.result.now c.index.ensures c.joined.ensures c.index-in-Some.result.now c.index-in-Some.ensures
+
+pub add_record-requires-clause-named : goal.add_record-requires-clause-named
+add_record-requires-clause-named g c =
+    let inv = c.loop-after.invariant in
+    xref_here (g.F.Forest.trees c.args.forest.now) c.loop-after.place c.args.end c.in-Some.after c.loop-after.number c.in-Some.ensures inv.left inv.level
+
+pub index-requires : goal.index-requires
+index-requires g c =
+    let w = g.F.Forest.trees c.args.forest.now in
+    let p = c.loop-after.place in
+    let e = c.args.end in
+    let a = c.in-Some.after in
+    let step : IsStep w p e a = c.in-Some.ensures in
+    let named : c.loop-after.number < length c.args.list.now.names.items =
+    left_within c.args.list.now.names.items c.loop-after.number (listed_halves (structure_at w p).xref) (map listed_halves (identifiers (trees_between w a e)))
+    (c.loop-after.invariant.names ∙ ap (λ (t : Trees). map listed_halves (identifiers t)) step.first) in
+    subst (λ (n : ℕ). c.loop-after.number < n) (sym c.args.list.now.names.ok.0) named
+
+pub index-requires-in-Some : goal.index-requires-in-Some
+index-requires-in-Some g c =
+    let w = g.F.Forest.trees c.args.forest.now in
+    let p = c.loop-after.place in
+    let e = c.args.end in
+    let a = c.in-Some.after in
+    let step : IsStep w p e a = c.in-Some.ensures in
+    let counted : c.loop-after.number < length c.args.list.now.digits.items =
+    left_within c.args.list.now.digits.items c.loop-after.number (listed_digits (structure_at w p).xref) (map listed_digits (identifiers (trees_between w a e)))
+    (c.loop-after.invariant.digits ∙ ap (λ (t : Trees). map listed_digits (identifiers t)) step.first) in
+    subst (λ (n : ℕ). c.loop-after.number < n) (sym c.args.list.now.digits.ok.0) counted
+
+pub returns-in_default-clause-records : goal.returns-in_default-clause-records
+returns-in_default-clause-records g c = tt
+
+pub returns-in_default-clause-keyed : goal.returns-in_default-clause-keyed
+returns-in_default-clause-keyed g c = tt
+
+pub returns-in_default-clause-types : goal.returns-in_default-clause-types
+returns-in_default-clause-types g c types are = tt
+
+pub returns-in_default-clause-places : goal.returns-in_default-clause-places
+returns-in_default-clause-places g c = tt
+
+pub returns-in_default-clause-distinct : goal.returns-in_default-clause-distinct
+returns-in_default-clause-distinct g c = tt
+
+pub returns-in-Ok-false-clause-records : goal.returns-in-Ok-false-clause-records
+returns-in-Ok-false-clause-records g c = tt
+
+pub returns-in-Ok-false-clause-keyed : goal.returns-in-Ok-false-clause-keyed
+returns-in-Ok-false-clause-keyed g c = tt
+
+pub returns-in-Ok-false-clause-types : goal.returns-in-Ok-false-clause-types
+returns-in-Ok-false-clause-types g c types are = tt
+
+pub returns-in-Ok-false-clause-places : goal.returns-in-Ok-false-clause-places
+returns-in-Ok-false-clause-places g c = tt
+
+pub returns-in-Ok-false-clause-distinct : goal.returns-in-Ok-false-clause-distinct
+returns-in-Ok-false-clause-distinct g c = tt
+
+pub returns-in-Err-clause-records : goal.returns-in-Err-clause-records
+returns-in-Err-clause-records g c = tt
+
+pub returns-in-Err-clause-keyed : goal.returns-in-Err-clause-keyed
+returns-in-Err-clause-keyed g c = tt
+
+pub returns-in-Err-clause-types : goal.returns-in-Err-clause-types
+returns-in-Err-clause-types g c types are = tt
+
+pub returns-in-Err-clause-places : goal.returns-in-Err-clause-places
+returns-in-Err-clause-places g c = tt
+
+pub returns-in-Err-clause-distinct : goal.returns-in-Err-clause-distinct
+returns-in-Err-clause-distinct g c = tt
+
+pub returns-in_default-push_place-clause-records : goal.returns-in_default-push_place-clause-records
+returns-in_default-push_place-clause-records g c = tt
+
+pub returns-in_default-push_place-clause-keyed : goal.returns-in_default-push_place-clause-keyed
+returns-in_default-push_place-clause-keyed g c = tt
+
+pub returns-in_default-push_place-clause-types : goal.returns-in_default-push_place-clause-types
+returns-in_default-push_place-clause-types g c types are = tt
+
+pub returns-in_default-push_place-clause-places : goal.returns-in_default-push_place-clause-places
+returns-in_default-push_place-clause-places g c = tt
+
+pub returns-in_default-push_place-clause-distinct : goal.returns-in_default-push_place-clause-distinct
+returns-in_default-push_place-clause-distinct g c = tt
+
+pub returns-in_default-clause-fault : goal.returns-in_default-clause-fault
+returns-in_default-clause-fault g c = inl refl
+
+pub returns-in-Err-clause-fault : goal.returns-in-Err-clause-fault
+returns-in-Err-clause-fault g c = inl refl
+
+pub returns-in_default-push_place-clause-fault : goal.returns-in_default-push_place-clause-fault
+returns-in_default-push_place-clause-fault g c = inl refl
+
+pub returns-clause-fault : goal.returns-clause-fault
+returns-clause-fault g c = tt
+
+pub returns-clause-keyed : goal.returns-clause-keyed
+returns-clause-keyed g c = c.loop-after.invariant.keyed
+
+pub returns-clause-places : goal.returns-clause-places
+returns-clause-places g c = c.loop-after.invariant.placed
+
+pub next_in_run-requires : goal.next_in_run-requires
+next_in_run-requires g c = record { run = c.loop-after.invariant.run }
+
+pub add_record-requires-clause-within : goal.add_record-requires-clause-within
+add_record-requires-clause-within g c = c.in-Some.ensures.within
+
+pub loop-after-smaller : goal.loop-after-smaller
+loop-after-smaller g c = nearer c.loop-after.place c.in-Some.after c.args.end c.in-Some.ensures.forth c.in-Some.ensures.room

@@ -1,16 +1,9 @@
-use Rattle.std.proofs.Common.{◌≡◌, true, false, Bool, not, Option, None, Some, is_none, is_some, sym, ◌∙◌, ap, refl, subst}
-use Rattle.ged_link.specs.declared.index.RecordPlace.{RecordPlace}
+use Rattle.std.proofs.Common.{◌≡◌, true, Bool, Some, is_none, sym, ◌∙◌, ap, refl, subst}
 use Rattle.ged_link.specs.declared.names.Names.{Names}
 use Rattle.ged_link.specs.inner.Resolving.{AddsRecord}
 use Rattle.ged_link.specs.inner.Slots.{kept_at}
-use Rattle.ged_link.proofs.NameLemmas.{adds_kept}
+use Rattle.ged_link.proofs.NameLemmas.{adds_kept, told_none}
 use Rattle.ged_link.proofs.names.Names.keep_in.Goals as goal
-
-told_none : (told : Bool) (o : Option RecordPlace) → is_some o ≡ not told → told ≡ is_none o
-told_none true None e = refl
-told_none false None e = absurd (cc)
-told_none true (Some found) e = absurd (cc)
-told_none false (Some found) e = refl
 
 pub returns-in-Some-true-clause-added : goal.returns-in-Some-true-clause-added
 returns-in-Some-true-clause-added c name is at =
