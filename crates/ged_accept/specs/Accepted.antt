@@ -1,5 +1,5 @@
 -- Which files are accepted, and what is wrong with each of the others.
-use Rattle.std.specs.Prelude.{◌≡◌, ℕ, ◌⊎◌}
+use Rattle.std.specs.Prelude.{◌≡◌, ℕ, ◌⊎◌, ⊤}
 use Rattle.ged_line.specs.Bytes.{Bytes}
 use Rattle.ged_tree.specs.Trees.{Trees}
 use Rattle.ged_tree.specs.Building.{HasFile}
@@ -52,7 +52,7 @@ FileFaultAt profile file line kind =
 -- why there is no answer: a fault of the file at a line where it stands, or want of memory
 abbrev pub IsRefusal : (ℕ → FileFault → Type 0) → Fault → Type 0
 IsRefusal Stands (InFile line kind) = Stands line kind
-IsRefusal Stands (Memory error) = Unit {0}
+IsRefusal Stands (Memory error) = ⊤
 IsRefusal Stands TooLong = ⊥
 IsRefusal Stands ReadFailed = ⊥
 IsRefusal Stands WriteFailed = ⊥

@@ -14,19 +14,19 @@ use Rattle.ged_faults.specs.declared.faults.Outcome.{Outcome}
 use Rattle.ged_faults.specs.declared.faults.Outcome.TheVariants.{Done, Different, Failed}
 
 -- the fault of a line, as a fault of its file: the one of the same name
-abbrev pub file_fault_of : LineFault → FileFault
-file_fault_of of_line.NotUtf8 = NotUtf8
-file_fault_of of_line.BannedCharacter = BannedCharacter
-file_fault_of of_line.EmptyLine = EmptyLine
-file_fault_of of_line.BadLevel = BadLevel
-file_fault_of of_line.LevelTooLarge = LevelTooLarge
-file_fault_of of_line.BadXref = BadXref
-file_fault_of of_line.BadTag = BadTag
-file_fault_of of_line.BadValue = BadValue
+abbrev pub file_fault_of_line : LineFault → FileFault
+file_fault_of_line of_line.NotUtf8 = NotUtf8
+file_fault_of_line of_line.BannedCharacter = BannedCharacter
+file_fault_of_line of_line.EmptyLine = EmptyLine
+file_fault_of_line of_line.BadLevel = BadLevel
+file_fault_of_line of_line.LevelTooLarge = LevelTooLarge
+file_fault_of_line of_line.BadXref = BadXref
+file_fault_of_line of_line.BadTag = BadTag
+file_fault_of_line of_line.BadValue = BadValue
 
 -- the fault of a document's lines, as a fault of their file
 abbrev pub file_fault_of_tree : TreeFault → FileFault
-file_fault_of_tree (of_tree.Line fault) = file_fault_of fault
+file_fault_of_tree (of_tree.Line fault) = file_fault_of_line fault
 file_fault_of_tree of_tree.LevelJump = LevelJump
 file_fault_of_tree of_tree.XrefNotAllowed = XrefNotAllowed
 file_fault_of_tree of_tree.MisplacedCont = MisplacedCont

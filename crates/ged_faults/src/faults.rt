@@ -1,6 +1,6 @@
 // What a run can answer, and the numbers by which a program tells it.
 ghost use Rattle.std.specs.Prelude.{◌≡◌};
-ghost use Rattle.ged_faults.specs.Faults.{file_fault_of, file_fault_of_tree, file_fault_of_tables};
+ghost use Rattle.ged_faults.specs.Faults.{file_fault_of_line, file_fault_of_tree, file_fault_of_tables};
 ghost use Rattle.ged_faults.specs.Faults.{file_fault_number, fault_number, status_of};
 
 use ged_line::LineFault;
@@ -93,7 +93,7 @@ pub enum FileFault {
 }
 
 impl From<LineFault> for FileFault {
-    ghost from_gives = { λ fault kind. kind ≡ file_fault_of fault };
+    ghost from_gives = { λ fault kind. kind ≡ file_fault_of_line fault };
 
     fn from(fault: LineFault) -> FileFault {
         match fault {

@@ -1,4 +1,4 @@
--- The slots that keep the numbers of rows. Only private functions cite what stands here.
+-- The slots that keep the numbers of rows. Of what is public only the invariant of `ContextRows` cites this.
 use Rattle.std.specs.Prelude.{ℕ, ◌+◌, ◌-◌, ◌*◌, ◌%◌, ◌==◌, ◌&&◌, Bool, true, List, [], ◌∷◌, length, slice_index}
 use Rattle.ged_line.specs.Bytes.{Bytes}
 use Rattle.ged_schema.specs.declared.slots.TheConstants.{SLOTS}
