@@ -35,8 +35,8 @@ has_calendar _ = false
 abbrev pub has_kind : (Kind → Bool) → Option Row → Bool
 has_kind test r = option_map_or (λ some. test some.kind) r false
 
--- the second line is the first without something that has no meaning at a place with this row: a word of the default
--- calendar, or, in the second edition, a leading zero
+-- the second line is the first without something that has no meaning at a place with this row: one word GREGORIAN, the default
+-- calendar's, or, in the second edition, one leading zero
 pub data Shortened (edition : Edition) (r : Option Row) (longer shorter : Bytes) : Type 0 where
   calendar : has_kind has_calendar r ≡ true → LeavesOut (words_of longer) (words_of shorter) → Shortened edition r longer shorter
   leading_zero : edition ≡ Second → has_kind has_integers r ≡ true → LeavesOutZero (words_of longer) (words_of shorter)
@@ -54,7 +54,7 @@ pub data Change (edition : Edition) (context : Context) : Trees → Trees → Ty
   -- two neighbours with different tags change places
   exchange : (s t : Structure) (below_s below_t next : Trees) → s.tag ≢ t.tag
       → Change edition context (tree s below_s (tree t below_t next)) (tree t below_t (tree s below_s next))
-  -- a payload is respelt, to and fro
+  -- a payload is respelt, in either direction
   leave_out : (s : Structure) (longer shorter : Payload) (below next : Trees) → Respelt edition (row context s.tag) longer shorter
       → Change edition context (tree (record s { payload = longer }) below next) (tree (record s { payload = shorter }) below next)
   put_in : (s : Structure) (longer shorter : Payload) (below next : Trees) → Respelt edition (row context s.tag) longer shorter
@@ -101,8 +101,8 @@ pub data Gains (name : Bytes) : Trees → Trees → Type 0 where
       → Gains name (tree (record s { xref = None }) below next) (tree (record s { xref = Some name }) below next)
   after : {t u : Trees} (s : Structure) (below : Trees) → Gains name t u → Gains name (tree s below t) (tree s below u)
 
--- a record gains a name that no record has and no pointer names
-pub record GainsName (d e : Trees) : Type 0 where
+-- a record gains an identifier that no record has and no pointer names
+pub record GainsIdentifier (d e : Trees) : Type 0 where
   pub name : Bytes
   pub no_record_has_it : IsAmong name (xrefs d) → ⊥
   pub no_pointer_names_it : IsNamed d name → ⊥
@@ -114,8 +114,8 @@ pub record GainsName (d e : Trees) : Type 0 where
 pub data Move (edition : Edition) (d e : Trees) : Type 0 where
   change : Somewhere (Change edition) File d e → Move edition d e
   rename : Renamed d e → Move edition d e
-  gain : GainsName d e → Move edition d e
-  lose : GainsName e d → Move edition d e
+  gain : GainsIdentifier d e → Move edition d e
+  lose : GainsIdentifier e d → Move edition d e
 
 -- A step leads from a document to a document: so HEAD stays first, and names stay names.
 pub record Step (edition : Edition) (d e : Trees) : Type 0 where

@@ -18,7 +18,7 @@ use Rattle.ged_value.specs.Kinds.{target}
 use Rattle.ged_schema.specs.Checked.{PointsRight, count_of, CountsRight, MeetsRow, AreChecked, Checked}
 use Rattle.ged_schema.specs.inner.Lookups.{IsRecordNamed}
 use Rattle.ged_canon.specs.declared.edition.Edition.{Edition}
-use Rattle.ged_canon.specs.Steps.{Respelt, respelt, Change, exchange, leave_out, put_in, Somewhere, here, under, later, new_name, renamed_payload, renamed, Renamed, Gains, gains, after, GainsName, Move, change, rename, gain, lose, Step}
+use Rattle.ged_canon.specs.Steps.{Respelt, respelt, Change, exchange, leave_out, put_in, Somewhere, here, under, later, new_name, renamed_payload, renamed, Renamed, Gains, gains, after, GainsIdentifier, Move, change, rename, gain, lose, Step}
 use Rattle.ged_canon.specs.inner.StepParts.{renamed_xref}
 use Rattle.ged_canon.proofs.theory.Fixed.{is_named-true}
 use Rattle.ged_canon.proofs.theory.Moves.{somewhere_names}
@@ -91,13 +91,13 @@ gained_distinct name _ _ (after {t = t} {u = u} s below h) free d = by s.xref (g
 same_names : (name target : Bytes) (xs ys : Trees) → Gains name xs ys → (IsNamed xs target → IsNamed ys target) × (IsNamed ys target → IsNamed xs target)
 same_names name target xs ys h = ((λ k. is_named-from ys target (sym (gained_names name target xs ys h) ∙ is_named-true xs target k)), (λ k. is_named-from xs target (gained_names name target xs ys h ∙ is_named-true ys target k)))
 
-gain_resolved : (d e : Trees) → GainsName d e → Resolved d → Resolved e
+gain_resolved : (d e : Trees) → GainsIdentifier d e → Resolved d → Resolved e
 gain_resolved d e h r = record {
   distinct = gained_distinct h.name d e h.gained h.no_record_has_it r.distinct;
   found = λ name k. gains_among h.name name d e h.gained (r.found name ((same_names h.name name d e h.gained).1 k));
 }
 
-lose_resolved : (d e : Trees) → GainsName e d → Resolved d → Resolved e
+lose_resolved : (d e : Trees) → GainsIdentifier e d → Resolved d → Resolved e
 lose_resolved d e h r = record {
   distinct = lost_distinct h.name e d h.gained r.distinct;
   found = λ name k. ⊎_elim (λ p. absurd (h.no_pointer_names_it (subst (IsNamed e) p k))) (λ q. q) (gains_cases h.name name e d h.gained (r.found name ((same_names h.name name e d h.gained).0 k)));
@@ -198,10 +198,10 @@ lost_record : (name other tag : Bytes) (xs ys : Trees) → (name ≢ other) → 
 lost_record name other tag _ _ ne (gains s below next) h = ⊎_elim (λ p. absurd (ne (some_some name other p.0))) (λ q. inr q) h
 lost_record name other tag _ _ ne (after {t = t} {u = u} s below g) h = let rest = lost_record name other tag t u ne g in ⊎_elim (λ p. inl p) (λ q. inr (rest q)) h
 
-gain_checked : (d e : Trees) → GainsName d e → Checked d → Checked e
+gain_checked : (d e : Trees) → GainsIdentifier d e → Checked d → Checked e
 gain_checked d e h k = other_checked d e File e (λ name q tag. gained_record h.name name tag d e h.gained) ((gained_checked h.name d File d e h.gained).0 k)
 
-lose_checked : (d e : Trees) → GainsName e d → Checked d → Checked e
+lose_checked : (d e : Trees) → GainsIdentifier e d → Checked d → Checked e
 lose_checked d e h k = other_checked d e File e (λ name q tag. lost_record h.name name tag e d (λ x. h.no_pointer_names_it (subst (IsNamed e) (sym x) q)) h.gained) ((gained_checked h.name d File e d h.gained).1 k)
 
 -- Renaming.

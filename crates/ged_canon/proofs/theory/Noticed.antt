@@ -13,7 +13,7 @@ use Rattle.ged_schema.specs.Rows.{Row}
 use Rattle.ged_schema.specs.Tables.{row, context_below}
 use Rattle.ged_schema.specs.Unlisted.{Unlisted}
 use Rattle.ged_canon.specs.declared.edition.Edition.{Edition}
-use Rattle.ged_canon.specs.Steps.{Respelt, respelt, Change, exchange, leave_out, put_in, Somewhere, here, under, later, new_name, renamed_payload, renamed, Gains, gains, after, GainsName, Move, change, rename, gain, lose, Step}
+use Rattle.ged_canon.specs.Steps.{Respelt, respelt, Change, exchange, leave_out, put_in, Somewhere, here, under, later, new_name, renamed_payload, renamed, Gains, gains, after, GainsIdentifier, Move, change, rename, gain, lose, Step}
 use Rattle.ged_canon.specs.inner.StepParts.{with_payload, renamed_structure, renamed_xref}
 use Rattle.ged_schema.specs.Profiles.{NoNotice}
 use Rattle.ged_canon.proofs.theory.Fixed.{with_others}
@@ -204,12 +204,12 @@ module _ (new : Bytes) (d : Trees) where
   record_lost _ _ (gains s below next) h = ⊎_elim (λ p. inl (some_tree (IsOneWay d s.tag (Some new)) (IsOneWay d s.tag None) below (one_way_nameless new d s.tag) p)) (λ q. inr q) h
   record_lost _ _ (after {t = t} {u = u} s below g) h = let rest = record_lost t u g in ⊎_elim (λ p. inl p) (λ q. inr (rest q)) h
 
-one_way_gain : (d e : Trees) → GainsName d e → OneWay d → OneWay e
+one_way_gain : (d e : Trees) → GainsIdentifier d e → OneWay d → OneWay e
 one_way_gain d e g h =
     some_tree (HasOneWay d) (HasOneWay e) e (λ r b p. some_tree (IsOneWay d r.tag r.xref) (IsOneWay e r.tag r.xref) b (λ s c q. some_in (Goes d r.tag r.xref s) (Goes e r.tag r.xref s) links (λ link k. (k.0, k.1, k.2, k.3, unanswered_gained g.name k.2 r.xref link d e g.gained k.4)) q) p)
     (record_gained g.name d g.no_pointer_names_it d e g.gained h)
 
-one_way_lose : (d e : Trees) → GainsName e d → OneWay d → OneWay e
+one_way_lose : (d e : Trees) → GainsIdentifier e d → OneWay d → OneWay e
 one_way_lose d e g h =
     some_inside (HasOneWay d) (HasOneWay e) (IsNamed e) Anything e (λ n k. k) (λ n k. tt) (λ r b i p.
     some_inside (IsOneWay d r.tag r.xref) (IsOneWay e r.tag r.xref) (IsNamed e) Anything b i.1 (λ n k. tt) (λ s c j q.

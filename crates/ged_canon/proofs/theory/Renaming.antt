@@ -14,7 +14,7 @@ use Rattle.ged_schema.specs.declared.context.Context.TheVariants.{File}
 use Rattle.ged_schema.specs.Rows.{Row}
 use Rattle.ged_schema.specs.Tables.{row, context_below}
 use Rattle.ged_canon.specs.declared.edition.Edition.{Edition}
-use Rattle.ged_canon.specs.Steps.{new_name, renamed_payload, renamed, Renamed, Gains, gains, after, GainsName}
+use Rattle.ged_canon.specs.Steps.{new_name, renamed_payload, renamed, Renamed, Gains, gains, after, GainsIdentifier}
 use Rattle.ged_canon.specs.inner.StepParts.{renamed_structure, renamed_xref, olds, news}
 use Rattle.ged_canon.specs.inner.Working.{put, names, is_named, used_xref, used_structure, used_trees, used_document, brief, brief_structure, sorted, sorted_document, number_of, numbered_document, canon}
 use Rattle.ged_canon.proofs.theory.Texts.{same_bytes, equal_bytes, other_bytes}
@@ -238,7 +238,7 @@ pub gained_names : (name target : Bytes) (xs ys : Trees) → Gains name xs ys �
 gained_names name target _ _ (gains s below next) = refl
 gained_names name target _ _ (after {t = t} {u = u} s below h) = ap (λ b. names s.payload target || (is_named below target || b)) (gained_names name target t u h)
 
-pub canon_gain : (edition : Edition) (d e : Trees) → GainsName d e → canon edition d ≡ canon edition e
+pub canon_gain : (edition : Edition) (d e : Trees) → GainsIdentifier d e → canon edition d ≡ canon edition e
 canon_gain edition d e h =
     let u : is_named d ≡ is_named e = λ i target. gained_names h.name target d e h.gained i in
     let off : is_named e h.name ≡ false = sym (gained_names h.name h.name d e h.gained) ∙ unused d h.name h.no_pointer_names_it in

@@ -92,7 +92,7 @@ pub(crate) fn placed_nodes(
     Ok(made)
 }
 
-/// A tree at a place with this rule, with what stands below it in order.
+/// A tree that stands in a context, with what stands below it in order.
 fn placed_node(
     alloc: Global,
     edition: Edition,
@@ -125,7 +125,6 @@ fn used_identifier(
     requires here { slice_get (identifiers (records_of document.now)) number ≡ Some (option_copied xref) }
     ensures { IfOk result (λ kept. kept ≡ used_xref (is_named document.now) (option_copied xref.entry)) }
 {
-    let _ = document;
     let Some(name) = xref else {
         return Ok(None);
     };

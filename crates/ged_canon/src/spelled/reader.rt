@@ -1,6 +1,7 @@
 // Reading the bytes of a form, which stand in many places.
 ghost use Rattle.std.specs.Prelude.{◌≡◌, ◌≤◌, ◌<◌, ◌++◌, [], IsTrue, false, length, take, drop};
 ghost use Rattle.std.specs.Io.{StartsWith};
+ghost use Rattle.ged_line.specs.Bytes.{Bytes};
 
 use crate::spelled::KeptRun;
 use std::marker::Model;
@@ -92,11 +93,13 @@ impl<'a> FormReader<'a> {
         front
     }
 
-    /// Reads as many bytes as the buffer has, or all that are left, to its front, and answers how many. Takes no memory.
+    /// Reads as many bytes as the buffer has, or all that are left, to its front, and answers how many. What stands behind them in the
+    /// buffer stays. Takes no memory.
     pub fn fill(&mut self, buffer: &mut [u8]) -> usize
         ensures count { result ≤ length buffer.old }
         ensures length { length buffer.new ≡ length buffer.old }
         ensures front { take result buffer.new ≡ take (length buffer.old) self.old }
+        ensures behind { drop result buffer.new ≡ drop result buffer.old }
         ensures rest { self.new ≡ drop (length buffer.old) self.old }
     {
         let mut filled = 0usize;
@@ -115,6 +118,7 @@ impl<'a> FormReader<'a> {
     /// memory.
     pub fn passes(&mut self, text: &[u8]) -> bool
         ensures passed { IsTrue result → self.old ≡ text.now ++ self.new }
+        ensures part { (read : Bytes) × (self.old ≡ read ++ self.new) }
         ensures other { result ≡ false → ¬ StartsWith self.old text.now }
     {
         let mut left = text;

@@ -43,11 +43,17 @@ fn has_leading_zero(word: &str) -> bool
     trim_zeros(word) != word
 }
 
+fn is_left_out(word: &str, without_calendar: bool) -> bool
+    ensures { result ≡ (without_calendar && bytes_eq word.now default_word) }
+{
+    without_calendar && word == "GREGORIAN"
+}
+
 /// Whether a word stays, where the default calendar's word is left out, or leading zeros are.
 fn is_brief_word(word: &str, without_calendar: bool, without_zeros: bool) -> bool
     ensures { result ≡ tests_word without_calendar without_zeros word.now }
 {
-    !(without_calendar && word == "GREGORIAN") && !(without_zeros && has_leading_zero(word))
+    !is_left_out(word, without_calendar) && !(without_zeros && has_leading_zero(word))
 }
 
 /// Whether all words of a line stay. No word is read where none is left out, nor where only GREGORIAN is and no byte is a G.
@@ -98,12 +104,6 @@ pub(crate) fn is_brief_line(edition: Edition, rule: &Rule, line: &str) -> bool
         has_calendar(rule.kind),
         leaves_zeros_out(edition, rule.kind),
     )
-}
-
-fn is_left_out(word: &str, without_calendar: bool) -> bool
-    ensures { result ≡ (without_calendar && bytes_eq word.now default_word) }
-{
-    without_calendar && word == "GREGORIAN"
 }
 
 fn trimmed(word: &str, without_zeros: bool) -> &str

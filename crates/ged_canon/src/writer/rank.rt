@@ -1,5 +1,5 @@
 // The ranks of tags, which are compared in place of the tags.
-ghost use Rattle.std.specs.Prelude.{◌≡◌, ◌≢◌, ◌<◌, ◌+◌, length, slice_index_or};
+ghost use Rattle.std.specs.Prelude.{◌≡◌, ◌<◌, ◌+◌, slice_index_or};
 ghost use Rattle.ged_line.specs.Names.{tag_order as order_of_tags};
 ghost use Rattle.ged_canon.specs.inner.Ranks.{own_rank, tag_rank};
 
@@ -53,7 +53,7 @@ pub(crate) fn rank_of(tag: &str) -> u64
     match tag.as_bytes() {
         [a, b, c, d] => {
             let number = u32::from_be_bytes([*a, *b, *c, *d]);
-            if number == 0x4745_4443 {
+            if number == u32::from_be_bytes(*b"GEDC") {
                 return 0;
             }
             u64::from(number) * 0x1_0000_0000 + 5

@@ -1,5 +1,5 @@
 // The spelling of a document's tidy form, written from the document itself.
-ghost use Rattle.std.specs.Prelude.{◌≡◌, ◌∷◌, [], IfOk};
+ghost use Rattle.std.specs.Prelude.{◌∷◌, [], IfOk};
 ghost use Rattle.ged_link.specs.Indexes.{IsIndexOf};
 ghost use Rattle.ged_tree.specs.Trees.{Trees};
 ghost use Rattle.ged_schema.specs.Checked.{Checked};
