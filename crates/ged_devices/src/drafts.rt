@@ -1,5 +1,5 @@
 // New files, which are written beside the file whose place they take.
-ghost use Rattle.std.specs.Prelude.{◌≡◌, None, false, IfOk, OnOk, OnErr};
+ghost use Rattle.std.specs.Prelude.{◌≡◌, ◌≢◌, None, false, IfOk, OnOk, OnErr};
 ghost use Rattle.std.specs.Io.{WritesAtMost};
 ghost use Rattle.ged_devices.specs.Devices.{failed_after};
 
@@ -7,7 +7,7 @@ use crate::devices::{Failed, Sink};
 use crate::reasons::Reason;
 use itoa::Buffer;
 use std::alloc::Global;
-use std::fs::{self, OpenFile, OpenOptions, Permissions};
+use std::fs::{self, Metadata, OpenFile, OpenOptions, Permissions};
 use std::io::{self, ErrorKind, Write};
 use std::os::unix::fs::{MetadataExt, OpenOptionsExt, PermissionsExt};
 use std::rt::Files;
@@ -28,7 +28,7 @@ pub enum Fate {
     Pending,
     /// It has taken that file's place.
     Placed,
-    /// It was given up: it never was created, or the system was told to remove it.
+    /// It was given up: it never was created, or the system was told to remove it, or it had taken that file's place before.
     Dropped,
 }
 
@@ -54,7 +54,8 @@ impl Kept {
 }
 
 /// A new file of the system, which is to take the place of another. It is created by its first write, beside the other one, and
-/// keeps the permissions of that, but for those of a group that is not its own.
+/// keeps the permissions of that, but for those of a group that is not its own. Once it is placed or given up nothing more is done to
+/// the disk, since another program may have a file of that name by then.
 #[derive(Drop)]
 pub struct NewFile<'a, F: Files> {
     files: &'a F,
@@ -71,7 +72,7 @@ pub struct NewFile<'a, F: Files> {
 
 impl<'a, F: Files> NewFile<'a, F> {
     /// A new file for the place of the one of this name. Nothing is created yet. Answers an error where no file can take that
-    /// place: there is one that is no regular file, or may not be written; and where no memory was found. Grows.
+    /// place, and notes why: there is one that is no regular file, or may not be written; and where no memory was found. Grows.
     pub fn new(
         alloc: Global,
         files: &'a F,
@@ -81,8 +82,8 @@ impl<'a, F: Files> NewFile<'a, F> {
         ensures no_failure { IfOk result (λ draft. draft.failed ≡ false) }
         ensures pending { IfOk result (λ draft. draft.fate ≡ Fate.Pending) }
     {
-        let target = target_of(alloc, files, name)?;
-        let kept = kept_of(files, target.as_str())?;
+        let target = reason.noting(target_of(alloc, files, name))?;
+        let kept = kept_of(files, reason, target.as_str())?;
         let folder = folder_of(alloc, target.as_str())?;
         let path = String::with_capacity(alloc, folder.len() + NAME_ROOM)?;
         Ok(NewFile {
@@ -151,7 +152,7 @@ impl<'a, F: Files> NewFile<'a, F> {
         ensures bound { WritesAtMost result bytes.now }
         ensures failure { self.new.failed ≡ self.old.failed }
     {
-        if self.file.is_none() {
+        if self.file.is_none() && self.fate == Fate::Pending {
             self.create()?;
         }
         match &mut self.file {
@@ -174,14 +175,34 @@ impl<'a, F: Files> NewFile<'a, F> {
         fs::rename(self.files, self.path.as_str(), self.target.as_str())
     }
 
-    /// Puts the file in the other's place once it is synced, or gives it up and answers Failed where that can't be. Takes no memory.
+    /// Puts the file in the other's place once it is synced, or gives it up and answers Failed where that can't be. One that was
+    /// placed or given up before stays so. Takes no memory.
     pub fn place(&mut self) -> Result<(), Failed>
+        ensures failure { self.new.failed ≡ failed_after self.old.failed result }
+        ensures placed { OnOk result (self.new.fate ≡ Fate.Placed) }
+        ensures dropped { OnErr result (self.new.fate ≡ Fate.Dropped) }
+        ensures once { self.old.fate ≢ Fate.Pending → self.new.fate ≡ self.old.fate }
+    {
+        match self.fate {
+            Fate::Pending => self.place_pending(),
+            Fate::Placed => Ok(()),
+            Fate::Dropped => {
+                self.failed = true;
+                Err(Failed)
+            }
+        }
+    }
+
+    /// The same for one that was neither placed nor given up.
+    fn place_pending(&mut self) -> Result<(), Failed>
         ensures failure { self.new.failed ≡ failed_after self.old.failed result }
         ensures placed { OnOk result (self.new.fate ≡ Fate.Placed) }
         ensures dropped { OnErr result (self.new.fate ≡ Fate.Dropped) }
     {
         match self.rename() {
             Ok(()) => {
+                // what has its name from now on is not removed
+                self.file = None;
                 self.fate = Fate::Placed;
                 Ok(())
             }
@@ -194,8 +215,8 @@ impl<'a, F: Files> NewFile<'a, F> {
         }
     }
 
-    /// Gives the file up. One that was created is removed; if the system refuses that too, nothing more can be done.
-    /// Takes no memory.
+    /// Gives the file up. One that was created is removed; if the system refuses that too, nothing more can be done. One that was
+    /// placed or given up before is left alone. Takes no memory.
     pub fn give_up(&mut self)
         ensures failure { self.new.failed ≡ self.old.failed }
         ensures dropped { self.new.fate ≡ Fate.Dropped }
@@ -250,24 +271,33 @@ fn give_permissions<F: OpenFile>(file: &F, kept: Kept) -> io::Result<()> {
 }
 
 /// What a new file keeps of the file of this path, or `None` where there is none. One that is no regular file, or may not be
-/// written, is an error, so that no device is replaced, and no file that is protected.
-fn kept_of<F: Files>(files: &F, path: &str) -> io::Result<Option<Kept>> {
-    let metadata = match fs::metadata(files, path) {
-        Ok(metadata) => metadata,
-        Err(error) if error.kind() == ErrorKind::NotFound => return Ok(None),
-        Err(error) => return Err(error),
+/// written, is an error, so that no device is replaced, and no file that is protected. Why is noted.
+fn kept_of<F: Files>(files: &F, reason: &Reason, path: &str) -> io::Result<Option<Kept>> {
+    let Some(metadata) = reason.noting(metadata_of(files, path))? else {
+        return Ok(None);
     };
     if metadata.is_dir() {
-        return Err(io::Error::from(ErrorKind::IsADirectory));
+        return reason.noting(Err(io::Error::from(ErrorKind::IsADirectory)));
     }
     if !metadata.is_file() {
+        // the system may answer an error of this kind for other reasons
+        reason.note_own("not a regular file");
         return Err(io::Error::from(ErrorKind::Unsupported));
     }
-    OpenOptions::new().write(true).open(files, path)?;
+    reason.noting(OpenOptions::new().write(true).open(files, path))?;
     Ok(Some(Kept {
         mode: metadata.permissions().mode(),
         group: metadata.gid(),
     }))
+}
+
+/// What the system tells of the file of this path, or `None` where there is none.
+fn metadata_of<F: Files>(files: &F, path: &str) -> io::Result<Option<Metadata>> {
+    match fs::metadata(files, path) {
+        Ok(metadata) => Ok(Some(metadata)),
+        Err(error) if error.kind() == ErrorKind::NotFound => Ok(None),
+        Err(error) => Err(error),
+    }
 }
 
 /// The folder of the file of this path, with its slash; nothing where the path has none.

@@ -1,5 +1,5 @@
 // Why a device failed, as the system says it.
-ghost use Rattle.std.specs.Prelude.{ℕ, ◌≡◌};
+ghost use Rattle.std.specs.Prelude.{◌≡◌};
 
 use std::cell::Cell;
 use std::io;
@@ -24,6 +24,21 @@ impl Reason {
         self.words.set(words_of(error.kind()));
     }
 
+    /// What was answered, once the reason of its error is kept. Takes no memory.
+    pub(crate) fn noting<T: Drop>(&self, answered: io::Result<T>) -> io::Result<T>
+        ensures { result ≡ answered }
+    {
+        if let Err(error) = &answered {
+            self.note(error);
+        }
+        answered
+    }
+
+    /// Keeps a reason that is none of the system's. Takes no memory.
+    pub(crate) fn note_own(&self, words: &'static str) {
+        self.words.set(words);
+    }
+
     /// The reason in words; empty where no device has failed, or the system gave a reason that has no words here.
     /// Takes no memory.
     pub fn words(&self) -> &'static str {
@@ -33,7 +48,7 @@ impl Reason {
 
 fn words_of(kind: ErrorKind) -> &'static str {
     match kind {
-        ErrorKind::NotFound => "no such file",
+        ErrorKind::NotFound => "no such file or folder",
         ErrorKind::PermissionDenied => "permission denied",
         ErrorKind::IsADirectory => "is a directory",
         ErrorKind::NotADirectory => "not a directory",
@@ -44,7 +59,7 @@ fn words_of(kind: ErrorKind) -> &'static str {
         ErrorKind::FilesystemLoop => "too many symbolic links",
         ErrorKind::InvalidFilename => "file name too long",
         ErrorKind::BrokenPipe => "broken pipe",
-        ErrorKind::Unsupported => "not a regular file",
+        ErrorKind::AlreadyExists => "all names for a new file are taken",
         _ => "",
     }
 }
@@ -69,11 +84,7 @@ impl<R: Read> Read for Noted<'_, R> {
     ghost remaining = { λ s. R.remaining s.device };
 
     fn read(&mut self, buf: &mut [u8]) -> io::Result<usize> {
-        let result = self.device.read(buf);
-        if let Err(error) = &result {
-            self.reason.note(error);
-        }
-        result
+        self.reason.noting(self.device.read(buf))
     }
 }
 
@@ -81,18 +92,10 @@ impl<W: Write> Write for Noted<'_, W> {
     ghost contents = { λ s. W.contents s.device };
 
     fn write(&mut self, buf: &[u8]) -> io::Result<usize> {
-        let result = self.device.write(buf);
-        if let Err(error) = &result {
-            self.reason.note(error);
-        }
-        result
+        self.reason.noting(self.device.write(buf))
     }
 
     fn flush(&mut self) -> io::Result<()> {
-        let result = self.device.flush();
-        if let Err(error) = &result {
-            self.reason.note(error);
-        }
-        result
+        self.reason.noting(self.device.flush())
     }
 }
