@@ -21,10 +21,14 @@ ShowsLine name bytes line text = (shown : Bytes) × ShowsPiece bytes line shown 
 abbrev pub reason_line : Bytes → Bytes
 reason_line reason = if length reason == 0 then [] else codes "  reason: " ++ (reason ++ line_feed ∷ [])
 
--- how the lines that explain a fault begin: with the file and the line, or with the file and the reason
+-- how the line begins that tells what usually causes a fault
+abbrev pub cause_head : Bytes
+cause_head = codes "  cause: "
+
+-- how the lines that explain a fault begin: with the file and the line, or with the file and then its cause
 abbrev pub Opens : Bytes → Bytes → Fault → Bytes → Type 0
 Opens name bytes (InFile line kind) text = ShowsLine name bytes line text
-Opens name bytes TooLong text = Begins (file_line name) text
-Opens name bytes ReadFailed text = Begins (file_line name) text
-Opens name bytes WriteFailed text = Begins (file_line name) text
-Opens name bytes (Memory error) text = Begins (file_line name) text
+Opens name bytes TooLong text = Begins (file_line name ++ cause_head) text
+Opens name bytes ReadFailed text = Begins (file_line name ++ cause_head) text
+Opens name bytes WriteFailed text = Begins (file_line name ++ cause_head) text
+Opens name bytes (Memory error) text = Begins (file_line name ++ cause_head) text

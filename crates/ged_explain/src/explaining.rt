@@ -1,13 +1,15 @@
 // The lines that explain a fault or a notice.
-ghost use Rattle.std.specs.Prelude.{◌≡◌, ◌++◌, IfOk, OnOk, string_bytes};
+ghost use Rattle.std.specs.Prelude.{◌≡◌, ◌++◌, IfOk, OnOk, option_map, string_bytes};
 ghost use Rattle.ged_explain.specs.Showing.{Begins};
-ghost use Rattle.ged_explain.specs.Openings.{Opens, ShowsLine, file_line as line_of_file, opening, reason_line};
+ghost use Rattle.ged_explain.specs.inner.Passing.{IsPieceAt};
+ghost use Rattle.ged_explain.specs.Openings.{Opens, ShowsLine, cause_head, file_line as line_of_file, opening, reason_line};
 
+use crate::explanation::Explanation;
 use crate::faults::meaning_of;
-use crate::path::Step;
+use crate::path::{Step, Walk};
+use crate::pieces::piece_at;
 use crate::shown::shown_line;
 use crate::site::Site;
-use crate::told::Told;
 use crate::wrong_lines::say_wrong_line;
 use crate::wrong_links::say_wrong_link;
 use crate::wrong_structures::say_wrong_structure;
@@ -46,11 +48,16 @@ pub fn explain_notice(
 ) -> Result<String, AllocError>
     ensures { IfOk result (λ text. ShowsLine name.now bytes.now notice.now.line (string_bytes text)) }
 {
-    let kind = match notice.kind {
+    let kind = fault_of(notice.kind);
+    explain_kind(alloc, bytes, notice.line, kind, name)
+}
+
+/// The fault that a notice is under the strict profile.
+pub(crate) fn fault_of(kind: NoticeKind) -> FileFault {
+    match kind {
         NoticeKind::OneWay => FileFault::OneWayLink,
         NoticeKind::Unlisted => FileFault::UnlistedTag,
-    };
-    explain_kind(alloc, bytes, notice.line, kind, name)
+    }
 }
 
 /// The lines that explain a fault of a device, of the limit or of memory: the name of the file and the reason, which are handed
@@ -61,7 +68,7 @@ pub fn explain_device(
     name: &str,
     reason: &str,
 ) -> Result<String, AllocError>
-    ensures { IfOk result (λ text. Begins (line_of_file name.now ++ reason_line reason.now) (string_bytes text)) }
+    ensures { IfOk result (λ text. Begins (line_of_file name.now ++ (reason_line reason.now ++ cause_head)) (string_bytes text)) }
 {
     let mut text = file_line(alloc, name)?;
     push_reason(reason, &mut text)?;
@@ -103,9 +110,31 @@ fn explain_kind(
 ) -> Result<String, AllocError>
     ensures { IfOk result (λ text. ShowsLine name.now bytes.now line (string_bytes text)) }
 {
-    let shown = shown_line(alloc, bytes, line)?;
-    let details = details_of(alloc, bytes, line, kind)?;
-    let mut text = numbered_line(alloc, line, name)?;
+    let mut walk = Walk::new(bytes);
+    walk.go_to(line);
+    let site = Site {
+        bytes,
+        line,
+        piece: piece_at(bytes, line),
+        path: walk.path(),
+        known: None,
+    };
+    explain_site(alloc, &site, kind, name)
+}
+
+/// The same of a line that has been found.
+pub(crate) fn explain_site(
+    alloc: Global,
+    site: &Site<'_, '_>,
+    kind: FileFault,
+    name: &str,
+) -> Result<String, AllocError>
+    requires { IsPieceAt site.now.bytes.now site.now.line (option_map (λ piece. piece.now) site.now.piece) }
+    ensures { IfOk result (λ text. ShowsLine name.now site.now.bytes.now site.now.line (string_bytes text)) }
+{
+    let shown = shown_line(alloc, site.piece)?;
+    let details = details_of(alloc, site, kind)?;
+    let mut text = numbered_line(alloc, site.line, name)?;
     text.push_str(shown.as_str())?;
     text.push_str(details.as_str())?;
     Ok(text)
@@ -123,18 +152,13 @@ fn numbered_line(alloc: Global, line: u64, name: &str) -> Result<String, AllocEr
 }
 
 /// What is told below the line.
-fn details_of(
-    alloc: Global,
-    bytes: &[u8],
-    line: u64,
-    kind: FileFault,
-) -> Result<String, AllocError> {
-    let mut told = Told::new(alloc);
-    let site = Site::of(bytes, line);
-    say_place(&site, &mut told);
+fn details_of(alloc: Global, site: &Site<'_, '_>, kind: FileFault) -> Result<String, AllocError> {
+    let mut told = Explanation::new(alloc);
+    say_place(site, &mut told);
     told.say("  wrong: ");
-    say_wrong(kind, &site, &mut told);
+    say_wrong(kind, site, &mut told);
     told.say("\n  cause: ");
+    let line = site.line;
     told.say(meaning_of(&Fault::InFile { line, kind }).cause);
     told.say("\n");
     told.into_text()
@@ -142,7 +166,7 @@ fn details_of(
 
 /// Says where the line stands. One that is no line has no level that can be relied on, so that the place of the line before it
 /// is said.
-fn say_place(site: &Site<'_>, told: &mut Told) {
+fn say_place(site: &Site<'_, '_>, told: &mut Explanation) {
     let Some(last) = site.path.last() else {
         return;
     };
@@ -154,7 +178,7 @@ fn say_place(site: &Site<'_>, told: &mut Told) {
     told.say("\n");
 }
 
-fn say_wrong(kind: FileFault, site: &Site<'_>, told: &mut Told) {
+fn say_wrong(kind: FileFault, site: &Site<'_, '_>, told: &mut Explanation) {
     match site.own() {
         Some(own) => say_wrong_here(kind, site, own, told),
         None => match site.piece {
@@ -164,14 +188,14 @@ fn say_wrong(kind: FileFault, site: &Site<'_>, told: &mut Told) {
     }
 }
 
-fn say_end(kind: FileFault, told: &mut Told) {
+fn say_end(kind: FileFault, told: &mut Explanation) {
     told.say(match kind {
         FileFault::NoTrailer => "the last line has to be 0 TRLR",
         _ => "the first line has to be 0 HEAD",
     });
 }
 
-fn say_wrong_here(kind: FileFault, site: &Site<'_>, own: Step<'_>, told: &mut Told) {
+fn say_wrong_here(kind: FileFault, site: &Site<'_, '_>, own: Step<'_>, told: &mut Explanation) {
     match kind {
         FileFault::DuplicateXref
         | FileFault::DanglingPointer

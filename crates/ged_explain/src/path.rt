@@ -1,6 +1,6 @@
 // The structures above a line.
-use crate::told::Told;
-use ged_line::{LineView, ValueView, view_lines};
+use crate::explanation::Explanation;
+use ged_line::{LineView, LineViews, ValueView, view_lines};
 use ged_schema::{Context, context_below, lookup_name};
 
 /// More columns of a tag, of an identifier or of a value are not told.
@@ -45,27 +45,58 @@ pub(crate) struct Path<'a> {
     before: Option<Step<'a>>,
 }
 
-/// The lines of a file up to one, which is counted from 1.
-pub(crate) fn path_to(bytes: &[u8], line: u64) -> Path<'_> {
-    let mut path = Path {
-        steps: [None; 100],
-        last: None,
-        before: None,
-    };
-    let mut number = 0u64;
-    for spelled in view_lines(bytes) {
-        number = number.saturating_add(1);
-        if let Ok(spelled) = spelled {
-            path.take(Step::of(number, &spelled.line));
-        }
-        if number >= line {
-            break;
+/// The lines of a file up to one: for a line behind the last that was asked for it reads on from there.
+#[derive(Drop)]
+pub(crate) struct Walk<'a> {
+    bytes: &'a [u8],
+    /// Those behind the lines that were read.
+    lines: LineViews<'a>,
+    /// How many were read.
+    number: u64,
+    path: Path<'a>,
+}
+
+impl<'a> Walk<'a> {
+    pub(crate) fn new(bytes: &'a [u8]) -> Walk<'a> {
+        Walk {
+            bytes,
+            lines: view_lines(bytes),
+            number: 0,
+            path: Path::new(),
         }
     }
-    path
+
+    /// Reads up to a line, which is counted from 1.
+    pub(crate) fn go_to(&mut self, line: u64) {
+        if line <= self.number {
+            *self = Walk::new(self.bytes);
+        }
+        while let Some(spelled) = self.lines.next() {
+            self.number = self.number.saturating_add(1);
+            if let Ok(spelled) = spelled {
+                self.path.take(Step::of(self.number, &spelled.line));
+            }
+            if self.number >= line {
+                break;
+            }
+        }
+    }
+
+    /// The lines up to the one that was asked for last.
+    pub(crate) fn path(&self) -> &Path<'a> {
+        &self.path
+    }
 }
 
 impl<'a> Path<'a> {
+    fn new() -> Path<'a> {
+        Path {
+            steps: [None; 100],
+            last: None,
+            before: None,
+        }
+    }
+
     fn take(&mut self, step: Step<'a>) {
         if let Some(slot) = self.steps.get_mut(usize::from(step.level)) {
             *slot = Some(step);
@@ -110,7 +141,7 @@ impl<'a> Path<'a> {
 
     /// Says the lines from level 0 down to a level: of each the tag and the identifier. A line of a lower level that stands
     /// further down ends what is below one, so that it is left out.
-    pub(crate) fn say(&self, level: u8, told: &mut Told) {
+    pub(crate) fn say(&self, level: u8, told: &mut Explanation) {
         let mut line = 0u64;
         for step in self.steps.iter().take(usize::from(level).saturating_add(1)) {
             if let Some(step) = step {
@@ -123,7 +154,7 @@ impl<'a> Path<'a> {
     }
 }
 
-fn say_step(step: Step<'_>, is_below: bool, told: &mut Told) {
+fn say_step(step: Step<'_>, is_below: bool, told: &mut Explanation) {
     if is_below {
         told.say(" > ");
     }
@@ -135,7 +166,7 @@ fn say_step(step: Step<'_>, is_below: bool, told: &mut Told) {
 }
 
 /// Says an identifier with its two `@`.
-pub(crate) fn say_identifier(name: &str, told: &mut Told) {
+pub(crate) fn say_identifier(name: &str, told: &mut Explanation) {
     told.say("@");
     told.say_clipped(name.as_bytes(), NAME_COLUMNS);
     told.say("@");

@@ -1,11 +1,10 @@
 // A line of a file as it is shown.
-ghost use Rattle.std.specs.Prelude.{◌≡◌, ◌++◌, ◌∷◌, ◌↔◌, [], codes, string_bytes, IsTrue, MatchOption, OnOk, IfOk};
+ghost use Rattle.std.specs.Prelude.{◌≡◌, ◌++◌, ◌∷◌, ◌↔◌, [], codes, string_bytes, IsTrue, MatchOption, OnOk, IfOk, option_map};
 ghost use Rattle.std.specs.List.{All};
-ghost use Rattle.ged_line.specs.Bytes.{Bytes, line_feed};
-ghost use Rattle.ged_explain.specs.Showing.{Begins, IsPlain, IsSign, ShowsPiece};
+ghost use Rattle.ged_line.specs.Bytes.{line_feed};
+ghost use Rattle.ged_explain.specs.Showing.{Begins, IsPlain, IsShownAs, IsSign};
 
-use crate::pieces::piece_at;
-use crate::told::Told;
+use crate::explanation::Explanation;
 use std::alloc::{AllocError, Global};
 use std::str;
 
@@ -13,10 +12,10 @@ use std::str;
 const LINE_COLUMNS: usize = 120;
 
 /// What stands behind the number of a line: a colon and the line as it stands, or that the file has no such line.
-pub(crate) fn shown_line(alloc: Global, bytes: &[u8], line: u64) -> Result<String, AllocError>
-    ensures { IfOk result (λ text. ShowsPiece bytes.now line (string_bytes text)) }
+pub(crate) fn shown_line(alloc: Global, piece: Option<&[u8]>) -> Result<String, AllocError>
+    ensures { IfOk result (λ text. IsShownAs (option_map (λ piece. piece.now) piece.entry) (string_bytes text)) }
 {
-    let Some(piece) = piece_at(bytes, line) else {
+    let Some(piece) = piece else {
         let text = String::from_str(alloc, " is past the last line\n")?;
         return Ok(text);
     };
@@ -47,7 +46,7 @@ fn push_shown(alloc: Global, piece: &[u8], text: &mut String) -> Result<(), Allo
 }
 
 fn clipped_text(alloc: Global, piece: &[u8]) -> Result<String, AllocError> {
-    let mut told = Told::new(alloc);
+    let mut told = Explanation::new(alloc);
     told.say_clipped(piece, LINE_COLUMNS);
     told.into_text()
 }

@@ -1,30 +1,34 @@
 // The line at which a fault stands, and what stands around it.
-use crate::path::{Path, Step, path_to};
+use crate::path::{Path, Step};
 use crate::pieces::piece_at;
 use ged_line::{view_line, view_lines};
 use ged_schema::{Context, Rule, context_below, lookup_name};
 
 /// A line of a file.
-#[derive(Drop)]
-pub(crate) struct Site<'a> {
+#[derive(Clone, Copy)]
+pub(crate) struct Site<'p, 'a> {
     pub(crate) bytes: &'a [u8],
     /// Counted from 1.
     pub(crate) line: u64,
     /// The line as it stands, or none behind the last one.
     pub(crate) piece: Option<&'a [u8]>,
-    pub(crate) path: Path<'a>,
+    /// The lines up to this one.
+    pub(crate) path: &'p Path<'a>,
+    /// A record that need not be looked for.
+    pub(crate) known: Option<Record<'a>>,
 }
 
-impl<'a> Site<'a> {
-    pub(crate) fn of(bytes: &'a [u8], line: u64) -> Site<'a> {
-        Site {
-            bytes,
-            line,
-            piece: piece_at(bytes, line),
-            path: path_to(bytes, line),
-        }
-    }
+/// A record that has an identifier.
+#[derive(Clone, Copy)]
+pub(crate) struct Record<'a> {
+    /// Counted from 1.
+    pub(crate) line: u64,
+    /// Its identifier, without the two `@`.
+    pub(crate) xref: &'a str,
+    pub(crate) tag: &'a str,
+}
 
+impl<'a> Site<'_, 'a> {
     /// The line, where it is one.
     pub(crate) fn own(&self) -> Option<Step<'a>> {
         match self.path.last() {
@@ -75,17 +79,49 @@ impl<'a> Site<'a> {
         first
     }
 
-    /// The first record that has an identifier of this name.
-    pub(crate) fn record_named(&self, name: &str) -> Option<Step<'a>> {
+    /// Whether a structure with a tag stands below the line, one level deeper.
+    pub(crate) fn has_below(&self, own: Step<'a>, tag: &str) -> bool {
         let mut number = 0u64;
         for spelled in view_lines(self.bytes) {
             number = number.saturating_add(1);
+            if number <= self.line {
+                continue;
+            }
             if let Ok(spelled) = spelled {
-                if spelled.line.xref() == Some(name) {
-                    return Some(Step::of(number, &spelled.line));
+                let level = spelled.line.level();
+                if level <= own.level {
+                    return false;
+                }
+                if level - 1 == own.level && spelled.line.tag() == tag {
+                    return true;
                 }
             }
         }
-        None
+        false
     }
+
+    /// The first record that has an identifier of this name.
+    pub(crate) fn record_named(&self, name: &str) -> Option<Record<'a>> {
+        match self.known {
+            Some(record) if record.xref == name => Some(record),
+            _ => record_in(self.bytes, name),
+        }
+    }
+}
+
+/// The first record of a file that has an identifier of this name.
+fn record_in<'a>(bytes: &'a [u8], name: &str) -> Option<Record<'a>> {
+    let mut line = 0u64;
+    for spelled in view_lines(bytes) {
+        line = line.saturating_add(1);
+        if let Ok(spelled) = spelled {
+            if let Some(xref) = spelled.line.xref() {
+                if xref == name {
+                    let tag = spelled.line.tag();
+                    return Some(Record { line, xref, tag });
+                }
+            }
+        }
+    }
+    None
 }

@@ -133,7 +133,7 @@ pub(crate) static MEANINGS: [Meaning; 29] = [
         number: 19,
         name: "WrongVersion",
         title: "The file does not say that it is GEDCOM 7.0.",
-        cause: "The program that wrote the file exports an older version, such as 5.5.1. Many programs offer GEDCOM 7 as a choice when they export.",
+        cause: "The program that wrote the file exports another version, such as 5.5.1. Many programs offer GEDCOM 7 as a choice when they export.",
         example: "0 HEAD\n1 GEDC\n2 VERS 5.5.1    <- here",
     },
     Meaning {
@@ -202,7 +202,7 @@ pub(crate) static MEANINGS: [Meaning; 29] = [
     Meaning {
         number: 29,
         name: "UnlistedTag",
-        title: "A tag of the standard stands where the standard does not list it.",
+        title: "A tag that does not begin with _ stands where the structure tables do not list it.",
         cause: "An older version of GEDCOM had the tag there, or the program that wrote the file uses it in its own way. A program's own tags begin with _.",
         example: "0 @I7@ INDI\n1 AFN 1234    <- here",
     },

@@ -1,10 +1,11 @@
 // What is wrong with a line by itself: faults 1 to 8.
+use crate::explanation::Explanation;
 use crate::path::NAME_COLUMNS;
-use crate::told::Told;
 use ged_faults::FileFault;
+use ged_line::is_plain;
 use std::str;
 
-pub(crate) fn say_wrong_line(kind: FileFault, piece: &[u8], told: &mut Told) {
+pub(crate) fn say_wrong_line(kind: FileFault, piece: &[u8], told: &mut Explanation) {
     match kind {
         FileFault::NotUtf8 => say_wrong_byte(piece, told),
         FileFault::BannedCharacter => say_banned(piece, told),
@@ -27,7 +28,7 @@ pub(crate) fn say_wrong_line(kind: FileFault, piece: &[u8], told: &mut Told) {
     }
 }
 
-fn say_wrong_byte(piece: &[u8], told: &mut Told) {
+fn say_wrong_byte(piece: &[u8], told: &mut Explanation) {
     if let Err(error) = str::from_utf8(piece) {
         let place = error.valid_up_to();
         if let Some(byte) = piece.get(place) {
@@ -40,7 +41,7 @@ fn say_wrong_byte(piece: &[u8], told: &mut Told) {
     }
 }
 
-fn say_banned(piece: &[u8], told: &mut Told) {
+fn say_banned(piece: &[u8], told: &mut Explanation) {
     let text = str::from_utf8(piece).unwrap_or("");
     if let Some(character) = text.chars().find(|character| is_banned(*character)) {
         told.say("no line may have the character ");
@@ -49,13 +50,11 @@ fn say_banned(piece: &[u8], told: &mut Told) {
 }
 
 fn is_banned(character: char) -> bool {
-    matches!(
-        character,
-        '\0'..='\u{8}' | '\u{A}'..='\u{1F}' | '\u{7F}' | '\u{FFFE}'..='\u{FFFF}'
-    )
+    let mut room = [0; 4];
+    !is_plain(character.encode_utf8(&mut room))
 }
 
-fn say_wrong_tag(piece: &[u8], told: &mut Told) {
+fn say_wrong_tag(piece: &[u8], told: &mut Explanation) {
     told.say("\"");
     told.say_clipped(
         tag_of(str::from_utf8(piece).unwrap_or("")).as_bytes(),

@@ -1,11 +1,16 @@
 // What is wrong with an identifier or a pointer: faults 17, 18, 21 and 28.
+use crate::explanation::Explanation;
 use crate::kinds::wanted;
 use crate::path::{NAME_COLUMNS, Step, say_identifier};
-use crate::site::Site;
-use crate::told::Told;
+use crate::site::{Record, Site};
 use ged_faults::FileFault;
 
-pub(crate) fn say_wrong_link(kind: FileFault, site: &Site<'_>, own: Step<'_>, told: &mut Told) {
+pub(crate) fn say_wrong_link(
+    kind: FileFault,
+    site: &Site<'_, '_>,
+    own: Step<'_>,
+    told: &mut Explanation,
+) {
     match kind {
         FileFault::DuplicateXref => say_duplicate(site, own, told),
         FileFault::DanglingPointer => say_dangling(own, told),
@@ -14,7 +19,7 @@ pub(crate) fn say_wrong_link(kind: FileFault, site: &Site<'_>, own: Step<'_>, to
     }
 }
 
-fn say_duplicate(site: &Site<'_>, own: Step<'_>, told: &mut Told) {
+fn say_duplicate(site: &Site<'_, '_>, own: Step<'_>, told: &mut Explanation) {
     let name = own.xref.unwrap_or("");
     say_identifier(name, told);
     told.say(" is the identifier of ");
@@ -22,12 +27,12 @@ fn say_duplicate(site: &Site<'_>, own: Step<'_>, told: &mut Told) {
     told.say(" too");
 }
 
-fn say_dangling(own: Step<'_>, told: &mut Told) {
+fn say_dangling(own: Step<'_>, told: &mut Explanation) {
     say_identifier(own.pointer().unwrap_or(""), told);
     told.say(" is no record's identifier");
 }
 
-fn say_target(site: &Site<'_>, own: Step<'_>, told: &mut Told) {
+fn say_target(site: &Site<'_, '_>, own: Step<'_>, told: &mut Explanation) {
     let name = own.pointer().unwrap_or("");
     if let Some(rule) = site.rule(own) {
         told.say(wanted(rule.kind));
@@ -39,7 +44,7 @@ fn say_target(site: &Site<'_>, own: Step<'_>, told: &mut Told) {
 }
 
 /// Says `the SOUR record of line 30`.
-fn say_record(record: Option<Step<'_>>, told: &mut Told) {
+fn say_record(record: Option<Record<'_>>, told: &mut Explanation) {
     let Some(record) = record else {
         return told.say("no record");
     };
@@ -49,7 +54,7 @@ fn say_record(record: Option<Step<'_>>, told: &mut Told) {
     told.say_number(record.line);
 }
 
-fn say_one_way(site: &Site<'_>, own: Step<'_>, told: &mut Told) {
+fn say_one_way(site: &Site<'_, '_>, own: Step<'_>, told: &mut Explanation) {
     let Some(name) = site.path.record().and_then(|record| record.xref) else {
         return told.say("the record has no identifier, so that no other record can name it");
     };
@@ -63,10 +68,10 @@ fn say_one_way(site: &Site<'_>, own: Step<'_>, told: &mut Told) {
 
 /// The tag of the link that answers one with this tag.
 fn answering(tag: &str) -> &'static str {
-    for (link, answer) in [("FAMC", "CHIL"), ("CHIL", "FAMC"), ("FAMS", "HUSB or WIFE")] {
-        if tag == link {
-            return answer;
-        }
+    match tag {
+        "FAMC" => "CHIL",
+        "CHIL" => "FAMC",
+        "FAMS" => "HUSB or WIFE",
+        _ => "FAMS",
     }
-    "FAMS"
 }

@@ -1,14 +1,14 @@
 // What is wrong with a line among its neighbours: faults 9 to 16.
+use crate::explanation::Explanation;
 use crate::path::Step;
 use crate::site::Site;
-use crate::told::Told;
 use ged_faults::FileFault;
 
 pub(crate) fn say_wrong_structure(
     kind: FileFault,
-    site: &Site<'_>,
+    site: &Site<'_, '_>,
     own: Step<'_>,
-    told: &mut Told,
+    told: &mut Explanation,
 ) {
     match kind {
         FileFault::LevelJump => say_jump(site.path.before(), own.level, told),
@@ -25,7 +25,7 @@ pub(crate) fn say_wrong_structure(
     }
 }
 
-fn say_jump(before: Option<Step<'_>>, level: u8, told: &mut Told) {
+fn say_jump(before: Option<Step<'_>>, level: u8, told: &mut Explanation) {
     let Some(before) = before else {
         return told.say("the first line has to be 0 HEAD");
     };
@@ -37,7 +37,7 @@ fn say_jump(before: Option<Step<'_>>, level: u8, told: &mut Told) {
     told.say_number(u64::from(before.level).saturating_add(1));
 }
 
-fn say_misplaced(own: Step<'_>, told: &mut Told) {
+fn say_misplaced(own: Step<'_>, told: &mut Explanation) {
     if own.tag != "CONT" {
         return told.say("nothing stands below a CONT");
     }
@@ -46,7 +46,7 @@ fn say_misplaced(own: Step<'_>, told: &mut Told) {
     )
 }
 
-fn say_trailer(before: Option<Step<'_>>, told: &mut Told) {
+fn say_trailer(before: Option<Step<'_>>, told: &mut Explanation) {
     told.say("0 TRLR");
     if let Some(before) = before {
         told.say(" of line ");

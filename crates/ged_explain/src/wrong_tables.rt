@@ -1,17 +1,17 @@
 // What the structure tables find wrong: faults 19, 20, 22, 23 and 29.
+use crate::explanation::Explanation;
 use crate::kinds::wanted;
 use crate::path::{NAME_COLUMNS, Step, say_identifier};
 use crate::site::Site;
-use crate::told::Told;
 use ged_faults::FileFault;
 use ged_line::ValueView;
 use ged_schema::rows;
 
 pub(crate) fn say_wrong_by_tables(
     kind: FileFault,
-    site: &Site<'_>,
+    site: &Site<'_, '_>,
     own: Step<'_>,
-    told: &mut Told,
+    told: &mut Explanation,
 ) {
     match kind {
         FileFault::WrongVersion => say_version(own, told),
@@ -22,7 +22,7 @@ pub(crate) fn say_wrong_by_tables(
     }
 }
 
-fn say_version(own: Step<'_>, told: &mut Told) {
+fn say_version(own: Step<'_>, told: &mut Explanation) {
     told.say("this file says ");
     match own.value {
         ValueView::Text(text) => {
@@ -34,7 +34,7 @@ fn say_version(own: Step<'_>, told: &mut Told) {
     told.say("; gedtool reads 7.0");
 }
 
-fn say_payload(site: &Site<'_>, own: Step<'_>, told: &mut Told) {
+fn say_payload(site: &Site<'_, '_>, own: Step<'_>, told: &mut Explanation) {
     if let Some(rule) = site.rule(own) {
         told.say(wanted(rule.kind));
         told.say(" belongs here; ");
@@ -46,7 +46,7 @@ fn say_payload(site: &Site<'_>, own: Step<'_>, told: &mut Told) {
     say_value(own.value, told);
 }
 
-fn say_value(value: ValueView<'_>, told: &mut Told) {
+fn say_value(value: ValueView<'_>, told: &mut Explanation) {
     match value {
         ValueView::Empty => told.say("nothing"),
         ValueView::Void => told.say("the pointer @VOID@"),
@@ -62,28 +62,39 @@ fn say_value(value: ValueView<'_>, told: &mut Told) {
     }
 }
 
-fn say_tag(own: Step<'_>, told: &mut Told) {
+fn say_tag(own: Step<'_>, told: &mut Explanation) {
     told.say_clipped(own.tag.as_bytes(), NAME_COLUMNS);
 }
 
-fn say_too_many(site: &Site<'_>, own: Step<'_>, told: &mut Told) {
+fn say_too_many(site: &Site<'_, '_>, own: Step<'_>, told: &mut Explanation) {
     say_tag(own, told);
     told.say(" may stand once here; the first one stands at line ");
     told.say_number(site.first_sibling(own));
 }
 
-/// No context has two rows whose structures must stand, so that the first one is what is missing.
-fn say_missing(site: &Site<'_>, own: Step<'_>, told: &mut Told) {
+/// Says the tags that have to stand below a line and do not.
+fn say_missing(site: &Site<'_, '_>, own: Step<'_>, told: &mut Explanation) {
+    let mut is_one = false;
+    let mut are_many = false;
     for rule in rows(site.context_below(own)) {
-        if rule.least > 0 {
+        if rule.least > 0 && !site.has_below(own, rule.tag) {
+            if is_one {
+                told.say(" and ");
+            }
             told.say(rule.tag);
-            told.say(" has to stand below ");
-            return say_tag(own, told);
+            are_many = is_one;
+            is_one = true;
         }
     }
+    told.say(if are_many {
+        " have to stand below "
+    } else {
+        " has to stand below "
+    });
+    say_tag(own, told);
 }
 
-fn say_unlisted(site: &Site<'_>, own: Step<'_>, told: &mut Told) {
+fn say_unlisted(site: &Site<'_, '_>, own: Step<'_>, told: &mut Explanation) {
     say_tag(own, told);
     told.say(" is not listed ");
     match site.path.superstructure(own.level) {
@@ -97,7 +108,7 @@ fn say_unlisted(site: &Site<'_>, own: Step<'_>, told: &mut Told) {
 }
 
 /// Says the tags that the structure tables list at the place of a line.
-fn say_listed(site: &Site<'_>, own: Step<'_>, told: &mut Told) {
+fn say_listed(site: &Site<'_, '_>, own: Step<'_>, told: &mut Explanation) {
     let listed = rows(site.path.context(own.level));
     if listed.is_empty() {
         return told.say("; no tag is listed there");

@@ -1,18 +1,19 @@
 // What is told, as a text that grows.
+use crate::characters::is_seen;
 use std::alloc::{AllocError, Global};
 use std::fmt::Write;
 use std::str;
 
 /// The text so far. It remembers whether memory was wanting, and tells it once, at its end: so whoever writes into it need not.
 #[derive(Drop)]
-pub(crate) struct Told {
+pub(crate) struct Explanation {
     text: String,
     lacks_memory: bool,
 }
 
-impl Told {
-    pub(crate) fn new(alloc: Global) -> Told {
-        Told {
+impl Explanation {
+    pub(crate) fn new(alloc: Global) -> Explanation {
+        Explanation {
             text: String::new(alloc),
             lacks_memory: false,
         }
@@ -105,35 +106,4 @@ fn first_character(bytes: &[u8]) -> Option<(&str, &[u8])> {
         }
     }
     None
-}
-
-/// Whether a character is seen as it is: no control character, none that turns the direction of a text or takes no room, and no space
-/// but the one of ASCII, which it could be taken for.
-fn is_seen(character: char) -> bool {
-    !matches!(
-        character,
-        '\0'..='\u{1F}'
-            | '\u{7F}'..='\u{A0}'
-            | '\u{AD}'
-            | '\u{34F}'
-            | '\u{61C}'
-            | '\u{115F}'..='\u{1160}'
-            | '\u{1680}'
-            | '\u{17B4}'..='\u{17B5}'
-            | '\u{180B}'..='\u{180F}'
-            | '\u{2000}'..='\u{200F}'
-            | '\u{2028}'..='\u{202F}'
-            | '\u{205F}'..='\u{206F}'
-            | '\u{2800}'
-            | '\u{3000}'
-            | '\u{3164}'
-            | '\u{FE00}'..='\u{FE0F}'
-            | '\u{FEFF}'
-            | '\u{FFA0}'
-            | '\u{FFF0}'..='\u{FFFB}'
-            | '\u{FFFE}'..='\u{FFFF}'
-            | '\u{1BCA0}'..='\u{1BCA3}'
-            | '\u{1D173}'..='\u{1D17A}'
-            | '\u{E0000}'..='\u{E0FFF}'
-    )
 }
