@@ -7,9 +7,10 @@ use Rattle.ged_accept.specs.Accepted.{IsRefusal}
 use Rattle.ged_tool.specs.Answers.{Answers, FaultAt}
 use Rattle.ged_faults.specs.Faults.{fault_number}
 use Rattle.ged_tool.specs.declared.runs.answer.Command.{Command}
+use Rattle.ged_tool.specs.Limits.{greatest_limit}
 use Rattle.ged_faults.specs.declared.faults.Fault.{Fault}
 use Rattle.ged_faults.specs.declared.faults.Fault.TheVariants.{InFile, TooLong, ReadFailed, WriteFailed, Memory}
-use Rattle.ged_c.specs.Settings.{settings_number, last_settings, limit}
+use Rattle.ged_c.specs.Settings.{settings_number, last_settings}
 use Rattle.ged_c.specs.declared.answering.Ended.{Ended}
 use Rattle.ged_c.specs.declared.answering.Ended.TheVariants.{Answered, NoRoom, Refused, BadSettings, NotFound}
 
@@ -55,17 +56,17 @@ IsPut text before after NotFound = ⊥
 
 -- why a command has no answer to a file: it is too long; or it has this fault at this line, or memory was wanting
 abbrev pub TellsOf : Profile → Command → Bytes → Fault → Type 0
-TellsOf profile command file (InFile line kind) = (length file ≤ limit) × IsRefusal (FaultAt profile command file) (InFile line kind)
-TellsOf profile command file TooLong = limit < length file
+TellsOf profile command file (InFile line kind) = (length file ≤ greatest_limit) × IsRefusal (FaultAt profile command file) (InFile line kind)
+TellsOf profile command file TooLong = greatest_limit < length file
 TellsOf profile command file ReadFailed = ⊥
 TellsOf profile command file WriteFailed = ⊥
-TellsOf profile command file (Memory error) = length file ≤ limit
+TellsOf profile command file (Memory error) = length file ≤ greatest_limit
 
 -- what one end of a call means, under a profile and in an edition
 abbrev pub MeansAs : Profile → Edition → Command → Bytes → Bytes → Bytes → Ended → Type 0
-MeansAs profile edition command file before after (Answered count) = (length file ≤ limit)
+MeansAs profile edition command file before after (Answered count) = (length file ≤ greatest_limit)
     × ((text : Bytes) × Answers profile edition command file text × IsPut text before after (Answered count))
-MeansAs profile edition command file before after (NoRoom count) = (length file ≤ limit)
+MeansAs profile edition command file before after (NoRoom count) = (length file ≤ greatest_limit)
     × ((text : Bytes) × Answers profile edition command file text × IsPut text before after (NoRoom count))
 MeansAs profile edition command file before after (Refused fault) = TellsOf profile command file fault × (after ≡ before)
 MeansAs profile edition command file before after BadSettings = ⊥

@@ -4,12 +4,13 @@ use Rattle.ged_line.specs.Bytes.{Bytes}
 use Rattle.ged_schema.specs.declared.profile.Profile.{Profile}
 use Rattle.ged_canon.specs.declared.edition.Edition.{Edition}
 use Rattle.ged_tool.specs.Same.{AreCompared, IsSameRefusal}
+use Rattle.ged_tool.specs.Limits.{greatest_limit}
 use Rattle.ged_faults.specs.Faults.{fault_number}
 use Rattle.ged_faults.specs.declared.faults.Which.{Which}
 use Rattle.ged_faults.specs.declared.faults.Which.TheVariants.{First, Second}
 use Rattle.ged_faults.specs.declared.faults.Fault.{Fault}
 use Rattle.ged_faults.specs.declared.faults.Fault.TheVariants.{TooLong}
-use Rattle.ged_c.specs.Settings.{settings_number, last_settings, limit}
+use Rattle.ged_c.specs.Settings.{settings_number, last_settings}
 use Rattle.ged_c.specs.Calls.{line_of_fault}
 use Rattle.ged_c.specs.declared.comparing.Compared.{Compared}
 use Rattle.ged_c.specs.declared.comparing.Compared.TheVariants.{Known, Refused, BadSettings}
@@ -42,12 +43,12 @@ same_line_of BadSettings = 0
 
 -- both files are within the limit
 abbrev pub AreWithin : Bytes → Bytes → Type 0
-AreWithin first second = (length first ≤ limit) × (length second ≤ limit)
+AreWithin first second = (length first ≤ greatest_limit) × (length second ≤ greatest_limit)
 
 -- why the files are not compared: one is too long, the first if both are; or one has a fault, or memory was wanting for it
 abbrev pub TellsOfTwo : Profile → Bytes → Bytes → Which → Fault → Type 0
-TellsOfTwo profile first second First TooLong = limit < length first
-TellsOfTwo profile first second Second TooLong = (length first ≤ limit) × (limit < length second)
+TellsOfTwo profile first second First TooLong = greatest_limit < length first
+TellsOfTwo profile first second Second TooLong = (length first ≤ greatest_limit) × (greatest_limit < length second)
 TellsOfTwo profile first second which fault = AreWithin first second × IsSameRefusal profile first second which fault
 
 -- What one end of a comparison means, for the number of its settings and the bytes of both files.

@@ -5,14 +5,15 @@ use Rattle.ged_schema.specs.declared.profile.Profile.{Profile}
 use Rattle.ged_canon.specs.declared.edition.Edition.{Edition}
 use Rattle.ged_tool.specs.Digest.{IsDigest}
 use Rattle.ged_tool.specs.declared.runs.answer.Command.TheVariants.{Canon}
-use Rattle.ged_c.specs.Settings.{settings_number, last_settings, limit}
+use Rattle.ged_tool.specs.Limits.{greatest_limit}
+use Rattle.ged_c.specs.Settings.{settings_number, last_settings}
 use Rattle.ged_c.specs.Calls.{IsPut, TellsOf, status_of, line_of}
 use Rattle.ged_c.specs.declared.answering.Ended.{Ended}
 use Rattle.ged_c.specs.declared.answering.Ended.TheVariants.{Answered, NoRoom, Refused, BadSettings, NotFound}
 
 -- what one end of the call means, under a profile and in an edition; its faults are those of the canonical form
 abbrev pub DigestMeansAs : Profile → Edition → Bytes → Bytes → Bytes → Ended → Type 0
-DigestMeansAs profile edition file before after (Answered count) = (length file ≤ limit)
+DigestMeansAs profile edition file before after (Answered count) = (length file ≤ greatest_limit)
     × ((digest : Bytes) × IsDigest profile edition file digest × IsPut digest before after (Answered count))
 DigestMeansAs profile edition file before after (NoRoom count) = (length before < 32) × (after ≡ before)
 DigestMeansAs profile edition file before after (Refused fault) = (32 ≤ length before) × TellsOf profile Canon file fault × (after ≡ before)

@@ -1,4 +1,4 @@
--- The numbers by which C tells settings, and the most bytes that a file may have.
+-- The numbers by which C tells settings.
 use Rattle.std.specs.Prelude.{ℕ}
 use Rattle.ged_schema.specs.declared.profile.Profile.{Profile}
 use Rattle.ged_schema.specs.declared.profile.Profile.TheVariants.{Lenient, Strict}
@@ -15,7 +15,3 @@ settings_number Strict Second = 3
 -- the largest number of settings
 abbrev pub last_settings : ℕ
 last_settings = 3
-
--- the most bytes that a file may have
-abbrev pub limit : ℕ
-limit = 1073741824

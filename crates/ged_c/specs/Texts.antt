@@ -19,7 +19,7 @@ part_number Example = 2
 abbrev pub last_part : ℕ
 last_part = 2
 
--- that part, as the table has it
+-- that part of a meaning
 abbrev pub part_text : Part → Meaning → Bytes
 part_text Title meaning = meaning.title.now
 part_text Cause meaning = meaning.cause.now
@@ -30,8 +30,8 @@ abbrev pub NameMeans : ℕ → Bytes → Bytes → Ended → Type 0
 NameMeans fault before after NotFound = (numbered fault named_faults ≡ None) × (after ≡ before)
 NameMeans fault before after ended = (named : Named) × (numbered fault named_faults ≡ Some named) × IsPut named.name before after ended
 
--- what one end of a call for a part of what a fault means: that part was put of what the fault with this number and its name means; or no
--- fault has the number, or no part
+-- what one end of a call for a part of a meaning means: that part of the meaning of the fault with this number was put; or no fault has
+-- the number, or no part has its
 abbrev pub PartMeans : ℕ → ℕ → Bytes → Bytes → Ended → Type 0
 PartMeans fault part before after NotFound = ((numbered fault named_faults ≡ None) ⊎ (last_part < part)) × (after ≡ before)
 PartMeans fault part before after ended = (meaning : Meaning) × (asked : Part) × (numbered fault named_faults ≡ Some (as_named meaning))

@@ -1,13 +1,22 @@
 // How a call ended, and an answer about one file in a room that the caller hands.
 ghost use Rattle.std.specs.Prelude.{◌≡◌, ◌≤◌, length};
-ghost use Rattle.ged_tool.specs.Profiles.{profile_of, edition_of};
-ghost use Rattle.ged_c.specs.Settings.{limit};
+ghost use Rattle.ged_tool.specs.Settings.{profile_of, edition_of};
+ghost use Rattle.ged_tool.specs.Limits.{greatest_limit};
 ghost use Rattle.ged_c.specs.Calls.{IsPut, Means, MeansAs, IsCall, status_of, length_of, line_of, line_of_fault as line_told};
 
 use crate::respelling::respell_into;
 use crate::settings::{is_too_long, settings_of};
 use ged_tool::{Command, Fault, Settings, answer};
 use std::alloc::Global;
+
+/// The status where the room is too small for the answer.
+const ROOM_TOO_SMALL: u32 = 64;
+
+/// The status where the number of the settings has no meaning.
+pub(crate) const BAD_SETTINGS: u32 = 65;
+
+/// The status where there is no such text.
+const NOT_FOUND: u32 = 66;
 
 /// How a call on one file, or for a text about a fault, ended.
 #[derive(Clone, Copy, PartialEq, Eq, Debug)]
@@ -31,10 +40,10 @@ impl Ended {
     {
         match self {
             Ended::Answered(_) => 0,
-            Ended::NoRoom(_) => 64,
+            Ended::NoRoom(_) => ROOM_TOO_SMALL,
             Ended::Refused(fault) => u32::from(fault.number()),
-            Ended::BadSettings => 65,
-            Ended::NotFound => 66,
+            Ended::BadSettings => BAD_SETTINGS,
+            Ended::NotFound => NOT_FOUND,
         }
     }
 
@@ -60,7 +69,7 @@ impl Ended {
 }
 
 /// The line of a fault of the file, counted from 1; 0 for any other fault. Takes no memory.
-pub fn line_of_fault(fault: &Fault) -> u64
+pub(crate) fn line_of_fault(fault: &Fault) -> u64
     ensures { result ≡ line_told fault.now }
 {
     match fault {
@@ -70,7 +79,7 @@ pub fn line_of_fault(fault: &Fault) -> u64
 }
 
 /// Answers a file into the room, and tells by three numbers how that ended. Grows.
-pub fn call(
+pub(crate) fn answer_file(
     alloc: Global,
     command: Command,
     settings: u32,
@@ -117,7 +126,7 @@ fn answer_text(
     file: &[u8],
     room: &mut [u8],
 ) -> Ended
-    requires { length file.now ≤ limit }
+    requires { length file.now ≤ greatest_limit }
     ensures { MeansAs (profile_of settings) (edition_of settings) command file.now room.old room.new result }
 {
     match answer(alloc, settings, command, file) {
@@ -127,7 +136,7 @@ fn answer_text(
 }
 
 /// Puts an answer at the front of the room, if it has room for all of it. Takes no memory.
-pub fn put(text: &[u8], room: &mut [u8]) -> Ended
+pub(crate) fn put(text: &[u8], room: &mut [u8]) -> Ended
     ensures { IsPut text.now room.old room.new result }
 {
     let length = text.len();

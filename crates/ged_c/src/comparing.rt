@@ -1,8 +1,8 @@
 // Whether two files say the same, told by numbers.
 ghost use Rattle.std.specs.Prelude.{◌≡◌};
-ghost use Rattle.ged_c.specs.Comparisons.{SameMeans, IsComparison, same_status, same_flag, which_number, same_line_of};
+ghost use Rattle.ged_c.specs.Comparisons.{SameMeans, same_status, same_flag, which_number, same_line_of};
 
-use crate::answering::line_of_fault;
+use crate::answering::{BAD_SETTINGS, line_of_fault};
 use crate::settings::{is_too_long, settings_of};
 use ged_tool::{Fault, Which, same_as};
 use std::alloc::Global;
@@ -26,7 +26,7 @@ impl Compared {
         match self {
             Compared::Known(_) => 0,
             Compared::Refused(_, fault) => u32::from(fault.number()),
-            Compared::BadSettings => 65,
+            Compared::BadSettings => BAD_SETTINGS,
         }
     }
 
@@ -63,7 +63,7 @@ impl Compared {
 }
 
 /// Compares two files. Grows.
-pub fn compare(alloc: Global, settings: u32, first: &[u8], second: &[u8]) -> Compared
+pub(crate) fn compare(alloc: Global, settings: u32, first: &[u8], second: &[u8]) -> Compared
     ensures { SameMeans settings first.now second.now result }
 {
     let Some(settings) = settings_of(settings) else {

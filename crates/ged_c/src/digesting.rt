@@ -1,5 +1,4 @@
 // The digest of a file, in a room that the caller hands.
-ghost use Rattle.std.specs.Prelude.{◌≡◌};
 ghost use Rattle.ged_c.specs.Digests.{DigestMeans};
 
 use crate::answering::{Ended, put};
@@ -11,7 +10,7 @@ use std::alloc::Global;
 const DIGEST: usize = 32;
 
 /// Puts a file's digest at the front of the room. Where that has fewer than 32 bytes the file is not judged. Grows.
-pub fn digest_into(alloc: Global, settings: u32, file: &[u8], room: &mut [u8]) -> Ended
+pub(crate) fn digest_into(alloc: Global, settings: u32, file: &[u8], room: &mut [u8]) -> Ended
     ensures { DigestMeans settings file.now room.old room.new result }
 {
     let Some(settings) = settings_of(settings) else {

@@ -1,11 +1,11 @@
 // The name of a fault, and what it means, by its number: in a room that the caller hands.
-ghost use Rattle.std.specs.Prelude.{◌≡◌, ◌<◌, None, IfSome, map, option_map};
+ghost use Rattle.std.specs.Prelude.{◌≡◌, ◌<◌, None, IfSome, option_map};
 ghost use Rattle.std.specs.Option.{option_copied};
 ghost use Rattle.ged_explain.specs.Names.{as_named, named_faults, numbered};
 ghost use Rattle.ged_c.specs.Texts.{NameMeans, PartMeans, last_part, part_number, part_text};
 
 use crate::answering::{Ended, put};
-use ged_explain::{Meaning, meanings};
+use ged_explain::{Meaning, meaning_numbered};
 
 /// A part of what a fault means.
 #[derive(Clone, Copy, PartialEq, Eq, Debug)]
@@ -46,22 +46,14 @@ fn text_of(part: Part, meaning: &Meaning) -> &'static str
 fn meaning_of(fault: u32) -> Option<&'static Meaning>
     ensures { option_map as_named (option_copied result) ≡ numbered fault named_faults }
 {
-    find_numbered(meanings(), fault)
-}
-
-fn find_numbered(among: &'static [Meaning], fault: u32) -> Option<&'static Meaning>
-    ensures { option_map as_named (option_copied result) ≡ numbered fault (map as_named among.now) }
-{
-    for meaning in among {
-        if u32::from(meaning.number) == fault {
-            return Some(meaning);
-        }
-    }
-    None
+    let Ok(number) = u8::try_from(fault) else {
+        return None;
+    };
+    meaning_numbered(number)
 }
 
 /// Puts the name of the fault with a number at the front of the room. Takes no memory.
-pub fn name_into(fault: u32, room: &mut [u8]) -> Ended
+pub(crate) fn name_into(fault: u32, room: &mut [u8]) -> Ended
     ensures { NameMeans fault room.old room.new result }
 {
     let Some(meaning) = meaning_of(fault) else {
@@ -71,7 +63,7 @@ pub fn name_into(fault: u32, room: &mut [u8]) -> Ended
 }
 
 /// Puts a part of what the fault with a number means at the front of the room. Takes no memory.
-pub fn part_into(fault: u32, part: u32, room: &mut [u8]) -> Ended
+pub(crate) fn part_into(fault: u32, part: u32, room: &mut [u8]) -> Ended
     ensures { PartMeans fault part room.old room.new result }
 {
     let Some(meaning) = meaning_of(fault) else {

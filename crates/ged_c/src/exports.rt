@@ -6,7 +6,7 @@ ghost use Rattle.ged_c.specs.Comparisons.{IsComparison};
 ghost use Rattle.ged_c.specs.Digests.{IsDigestCall};
 ghost use Rattle.ged_c.specs.Texts.{IsNameCall, IsPartCall};
 
-use crate::answering::call;
+use crate::answering::answer_file;
 use crate::comparing::compare;
 use crate::digesting::digest_into;
 use crate::explaining::{name_into, part_into};
@@ -32,7 +32,7 @@ pub extern "C" fn gedtool_lines(
     ensures answered { IsCall Command.Lines settings file.now room.old room.new result length.new line.new }
     ensures short { length.new ≤ length_of_list file.now + 4 }
 {
-    call(alloc, Command::Lines, settings, file, room, length, line)
+    answer_file(alloc, Command::Lines, settings, file, room, length, line)
 }
 
 /// A line for each notice of an accepted file, and the line `accepted`.
@@ -52,7 +52,7 @@ pub extern "C" fn gedtool_check(
 ) -> u32
     ensures { IsCall Command.Check settings file.now room.old room.new result length.new line.new }
 {
-    call(alloc, Command::Check, settings, file, room, length, line)
+    answer_file(alloc, Command::Check, settings, file, room, length, line)
 }
 
 /// A line for each structure of an accepted file.
@@ -72,7 +72,7 @@ pub extern "C" fn gedtool_show(
 ) -> u32
     ensures { IsCall Command.Show settings file.now room.old room.new result length.new line.new }
 {
-    call(alloc, Command::Show, settings, file, room, length, line)
+    answer_file(alloc, Command::Show, settings, file, room, length, line)
 }
 
 /// The canonical bytes of an accepted file.
@@ -92,7 +92,7 @@ pub extern "C" fn gedtool_canon(
 ) -> u32
     ensures { IsCall Command.Canon settings file.now room.old room.new result length.new line.new }
 {
-    call(alloc, Command::Canon, settings, file, room, length, line)
+    answer_file(alloc, Command::Canon, settings, file, room, length, line)
 }
 
 /// Whether two accepted files say the same.

@@ -4,8 +4,8 @@ ghost use Rattle.ged_line.specs.Files.{joined};
 ghost use Rattle.ged_schema.specs.declared.profile.Profile.{Profile};
 ghost use Rattle.ged_canon.specs.declared.edition.Edition.{Edition};
 ghost use Rattle.ged_tool.specs.declared.runs.answer.Command.{Command};
+ghost use Rattle.ged_tool.specs.Limits.{greatest_limit};
 ghost use Rattle.ged_c.specs.Calls.{IsPut, MeansAs};
-ghost use Rattle.ged_c.specs.Settings.{limit};
 
 use crate::answering::Ended;
 use ged_line::{RespellFault, SpelledPart, respell_parts};
@@ -13,8 +13,8 @@ use ged_tool::Fault;
 use std::alloc::Global;
 
 /// Answers a file's lines into the room. Grows.
-pub fn respell_into(alloc: Global, file: &[u8], room: &mut [u8]) -> Ended
-    requires { length file.now ≤ limit }
+pub(crate) fn respell_into(alloc: Global, file: &[u8], room: &mut [u8]) -> Ended
+    requires { length file.now ≤ greatest_limit }
     ensures { MeansAs Profile.Lenient Edition.First Command.Lines file.now room.old room.new result }
 {
     let parts = match respell_parts(alloc, file) {
@@ -33,7 +33,7 @@ pub fn respell_into(alloc: Global, file: &[u8], room: &mut [u8]) -> Ended
 
 /// Puts parts at the front of the room, one after the other, if it has room for all of them. Takes no memory.
 fn put_parts(parts: &[SpelledPart<'_>], room: &mut [u8]) -> Ended
-    requires { length (joined parts.now) ≤ limit + 4 }
+    requires { length (joined parts.now) ≤ greatest_limit + 4 }
     ensures { IsPut (joined parts.now) room.old room.new result }
 {
     let length = length_of(parts);
@@ -50,7 +50,7 @@ fn put_parts(parts: &[SpelledPart<'_>], room: &mut [u8]) -> Ended
 
 /// The bytes of parts, counted. Takes no memory.
 fn length_of(parts: &[SpelledPart<'_>]) -> usize
-    requires { length (joined parts.now) ≤ limit + 4 }
+    requires { length (joined parts.now) ≤ greatest_limit + 4 }
     ensures { result ≡ length (joined parts.now) }
 {
     let mut length = 0usize;

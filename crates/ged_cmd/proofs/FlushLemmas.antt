@@ -17,7 +17,8 @@ use Rattle.ged_faults.specs.declared.faults.Fault.TheVariants.{ReadFailed, Write
 use Rattle.ged_faults.specs.declared.faults.Outcome.{Outcome}
 use Rattle.ged_faults.specs.declared.faults.Outcome.TheVariants.{Done, Different, Failed}
 use Rattle.ged_tool.specs.declared.runs.answer.Command.{Command}
-use Rattle.ged_cmd.specs.Program.{Files, IsAnswerOf, IsCompared, IsOver, Reader, Writer, limit, reader as reader_of}
+use Rattle.ged_tool.specs.Limits.{greatest_limit}
+use Rattle.ged_cmd.specs.Program.{Files, IsAnswerOf, IsCompared, IsOver, Reader, Writer, reader as reader_of}
 use Rattle.ged_cmd.specs.inner.Flushes.{IsFlushed}
 
 -- what a writer took stays taken where what it holds is kept
@@ -149,7 +150,7 @@ kept_compared form profile edition first second taken between holds failed_befor
 unflushed_compared : (form : Form) (profile : Profile) (edition : Edition) (first second : Reader) (taken between holds : Option (List ℕ)) (failed_before failed : Bool)
     (before after : Outcome) (same : Bool)
     → (compared : IsCompared form profile edition first second (record { taken = taken; holds = between; failed = failed_before }) before)
-    → IsAllOf limit (record { bytes = compared.bytes.first; left = first.left }) × IsAllOf limit (record { bytes = compared.bytes.second; left = second.left })
+    → IsAllOf greatest_limit (record { bytes = compared.bytes.first; left = first.left }) × IsAllOf greatest_limit (record { bytes = compared.bytes.second; left = second.left })
     × AreComparedBy profile (relation_of form edition) compared.bytes.first compared.bytes.second same × (compared.bytes.written ≡ same_line same)
     → ((which : Which) → before ≡ Failed (Some which) ReadFailed → ⊥)
     → Keeps between holds → failed ≡ true → after ≡ Failed None WriteFailed

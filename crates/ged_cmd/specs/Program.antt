@@ -26,10 +26,7 @@ use Rattle.ged_devices.specs.declared.drafts.Fate.{Fate}
 use Rattle.ged_devices.specs.declared.drafts.Fate.TheVariants.{Placed, Dropped}
 use Rattle.ged_cmd.specs.CommandLine.{gedtool}
 use Rattle.ged_cmd.specs.Tasks.{Task, asked, digest, explain, input_same, is_input, run, same}
-
--- the most bytes that a file may have
-abbrev pub limit : ℕ
-limit = 1073741824
+use Rattle.ged_tool.specs.Limits.{greatest_limit}
 
 -- what was done with a reader: the bytes to come before and after, where it tells them, and whether it has failed
 pub record Reader : Type 0 where
@@ -62,7 +59,7 @@ IsUnwritten writer = (writer.holds ≡ writer.taken) × (writer.failed ≡ false
 -- fault they have at which line. The reader has failed exactly where the outcome says so, and so has the writer, by a write
 -- or by the flush.
 pub record IsAnswerOf (Answer : List ℕ → List ℕ → Type 0) (Wrong : List ℕ → ℕ → FileFault → Type 0) (reader : Reader) (writer : Writer) (outcome : Outcome) : Type 0 where
-  pub bytes : IsRunOf Answer Wrong limit reader.to_come reader.left writer.taken writer.holds outcome
+  pub bytes : IsRunOf Answer Wrong greatest_limit reader.to_come reader.left writer.taken writer.holds outcome
   pub read_failed : IsTrue reader.failed ↔ (outcome ≡ Failed None ReadFailed)
   pub write_failed : IsTrue writer.failed ↔ (outcome ≡ Failed None WriteFailed)
 
@@ -76,21 +73,21 @@ IsDigested profile edition name = IsAnswerOf (TellsDigest profile edition name) 
 
 -- two files compared in a form, in the same way
 pub record IsCompared (form : Form) (profile : Profile) (edition : Edition) (first second : Reader) (writer : Writer) (outcome : Outcome) : Type 0 where
-  pub bytes : IsSameRunOf profile (relation_of form edition) limit first.to_come first.left second.to_come second.left writer.taken writer.holds outcome
+  pub bytes : IsSameRunOf profile (relation_of form edition) greatest_limit first.to_come first.left second.to_come second.left writer.taken writer.holds outcome
   pub first_failed : IsTrue first.failed ↔ (outcome ≡ Failed (Some First) ReadFailed)
   pub second_failed : IsTrue second.failed ↔ (outcome ≡ Failed (Some Second) ReadFailed)
   pub write_failed : IsTrue writer.failed ↔ (outcome ≡ Failed None WriteFailed)
 
 -- What is known of files by their names: which devices a name opens, and that it can't be opened; which new files may take
--- the place of the file of a name, and that none can; and what has become of a new file.
+-- the place of the file of a name, and by which fault none can; and what has become of a new file.
 pub record Files (D T : Type 0) : Type 1 where
   pub opens : Text → D → Type 0
   pub refuses : Text → Type 0
   pub drafts : Text → T → Type 0
-  pub withholds : Text → Type 0
+  pub withholds : Text → Fault → Type 0
   pub fate : T → Fate
 
--- meanings of faults are told, and nothing is read
+-- nothing is read, and the outcome says whether the writer has failed
 abbrev pub IsExplained : Reader → Writer → Outcome → Type 0
 IsExplained input writer outcome = IsUnread input × (outcome ≡ (if writer.failed then Failed None WriteFailed else Done))
 
@@ -99,7 +96,7 @@ module _ {D : Type 0} where
   abbrev pub SomeFile : (opens : D → Type 0) → (to_come : D → Option (List ℕ)) → (failed : D → Bool) → (Reader → Type 0) → Type 0
   SomeFile opens to_come failed done = (device left : D) × opens device × done (reader to_come failed device left)
 
--- the file with this name, if it is one of two, can't be opened, and nothing is written
+-- a file can't be opened, which is told with which of two it is, and nothing is written
 abbrev pub IsNotOpened : Type 0 → Option Which → Writer → Outcome → Type 0
 IsNotOpened refuses which writer outcome = refuses × IsUnwritten writer × (outcome ≡ Failed which ReadFailed)
 
@@ -109,15 +106,15 @@ IsEmpty None = ⊤
 IsEmpty (Some bytes) = bytes ≡ []
 
 -- what keeps a file from being replaced: it can't be, or no memory was found to prepare it
-abbrev pub Withholds : Fault → Type 0
-Withholds WriteFailed = ⊤
-Withholds (Memory error) = ⊤
-Withholds fault = ⊥
+abbrev pub IsFaultOfReplacing : Fault → Type 0
+IsFaultOfReplacing WriteFailed = ⊤
+IsFaultOfReplacing (Memory error) = ⊤
+IsFaultOfReplacing fault = ⊥
 
--- the file of a name can't be replaced, and nothing is read
-abbrev pub IsWithheld : (withholds : Type 0) → (input : Reader) → Outcome → Type 0
+-- the file of a name can't be replaced, which is told by the fault that keeps it from that, and nothing is read of standard input
+abbrev pub IsWithheld : (withholds : Fault → Type 0) → (input : Reader) → Outcome → Type 0
 IsWithheld withholds input outcome =
-    withholds × IsUnread input × ((fault : Fault) × Withholds fault × (outcome ≡ Failed None fault))
+    IsUnread input × ((fault : Fault) × IsFaultOfReplacing fault × withholds fault × (outcome ≡ Failed None fault))
 
 -- What becomes of a new file: where all went well it takes the place of the other one, which else stays as it is.
 abbrev pub fate_of : Outcome → Fate
@@ -232,8 +229,7 @@ module _ {D T : Type 0} where
     pub told : status ≡ status_of outcome
 
   -- What the program does for the words of its command line. Words without a fault that ask for nothing are a mistake:
-  -- those under which both files of `same` would be standard input, and a word
-  -- of `explain` that is of no fault.
+  -- those under which both files of `same`, or two of `digest`, would be standard input, and a word of `explain` that is of no fault.
   abbrev pub Performs : Files D T → (to_come : D → Option (List ℕ)) → (failed : D → Bool)
       → (taken : T → Option (List ℕ)) → (write_failed : T → Bool)
       → (words : List Text) → (input : Reader) → Writer → (status : ℕ) → Type 0

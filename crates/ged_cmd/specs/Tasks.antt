@@ -36,8 +36,8 @@ abbrev pub edition_asked : List Row → Edition
 edition_asked rows = if is_set (codes "second") rows then edition.Second else edition.First
 
 -- `canon`, which keeps the names of identifiers or gives them new ones
-abbrev pub canon_keeping : (names : Bool) → Command
-canon_keeping names = if names then Tidy else Canon
+abbrev pub canon_keeping : (keeps_names : Bool) → Command
+canon_keeping keeps_names = if keeps_names then Tidy else Canon
 
 -- the command of a name; the flag asks `canon` to keep the names of identifiers
 abbrev pub command_of : Text → (keeps_names : Bool) → Option Command
@@ -47,10 +47,14 @@ command_of name keeps_names =
     if bytes_eq name (codes "show") then Some Show else
     if bytes_eq name (codes "canon") then Some (canon_keeping keeps_names) else None
 
+-- the word stands for standard input, or output
+abbrev pub is_input : Text → Bool
+is_input word = bytes_eq word (codes "-")
+
 -- the file that a word names: none where the word is left out or is `-`, which both stand for standard input, or output
 abbrev pub file_named : Option Text → Option Text
 file_named None = None
-file_named (Some word) = if bytes_eq word (codes "-") then None else Some word
+file_named (Some word) = if is_input word then None else Some word
 
 abbrev pub run_asked : Text → List Row → Option Task
 run_asked name rows =
@@ -58,8 +62,8 @@ run_asked name rows =
     (file_named (first_of (codes "output") rows))) (command_of name (is_set (codes "keep-names") rows))
 
 -- the form in which files are compared: identifiers count where their names are to be kept
-abbrev pub form_keeping : (names : Bool) → Form
-form_keeping names = if names then form.Tidy else form.Canonical
+abbrev pub form_keeping : (keeps_names : Bool) → Form
+form_keeping keeps_names = if keeps_names then form.Tidy else form.Canonical
 
 abbrev pub form_asked : List Row → Form
 form_asked rows = form_keeping (is_set (codes "keep-names") rows)
@@ -89,10 +93,6 @@ explanation (Some word) = option_map (λ named. explain (Some named)) (called wo
 
 abbrev pub explain_asked : List Row → Option Task
 explain_asked rows = explanation (first_of (codes "FAULT") rows)
-
--- the word stands for standard input
-abbrev pub is_input : Text → Bool
-is_input word = bytes_eq word (codes "-")
 
 -- the digests of files, of which one at most may be standard input
 abbrev pub digests : Profile → Edition → List Text → Option Task

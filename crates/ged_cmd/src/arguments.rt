@@ -8,6 +8,18 @@ use crate::help;
 use clap::{Arg, ArgAction};
 use std::alloc::Global;
 
+/// The file that is read, or one of many.
+pub(crate) const FILE: &str = "FILE";
+
+/// The first of two files.
+pub(crate) const FIRST_FILE: &str = "A";
+
+/// The second of two files.
+pub(crate) const SECOND_FILE: &str = "B";
+
+/// The word of a fault.
+pub(crate) const FAULT: &str = "FAULT";
+
 /// The flag under which a notice refuses a file.
 pub(crate) const STRICT: &str = "strict";
 
@@ -53,11 +65,11 @@ pub(crate) fn told_argument<'a>(alloc: Global, argument: Argument) -> Arg<'a>
     ensures { IsArg (rule_given argument) result }
 {
     match argument {
-        Argument::File => file_argument(alloc, "FILE", help::OF_FILE),
-        Argument::FirstFile => required_argument(alloc, "A", help::OF_FIRST_FILE),
-        Argument::SecondFile => file_argument(alloc, "B", help::OF_SECOND_FILE),
+        Argument::File => file_argument(alloc, FILE, help::OF_FILE),
+        Argument::FirstFile => required_argument(alloc, FIRST_FILE, help::OF_FIRST_FILE),
+        Argument::SecondFile => file_argument(alloc, SECOND_FILE, help::OF_SECOND_FILE),
         Argument::Files => files_argument(alloc),
-        Argument::Fault => file_argument(alloc, "FAULT", help::OF_FAULT),
+        Argument::Fault => file_argument(alloc, FAULT, help::OF_FAULT),
         Argument::Strict => flag(alloc, STRICT, help::OF_STRICT),
         Argument::SecondEdition => flag(alloc, SECOND, help::OF_SECOND),
         Argument::KeepNames => flag(alloc, KEEP_NAMES, help::OF_KEEP_NAMES),
@@ -105,5 +117,5 @@ fn required_argument<'a>(alloc: Global, name: &'a str, help: &'a str) -> Arg<'a>
 fn files_argument<'a>(alloc: Global) -> Arg<'a>
     ensures { IsArg line.files result }
 {
-    required_argument(alloc, "FILE", help::OF_FILES).action(ArgAction::Append)
+    required_argument(alloc, FILE, help::OF_FILES).action(ArgAction::Append)
 }

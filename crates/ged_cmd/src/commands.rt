@@ -1,9 +1,9 @@
 // One command over one input, or over two.
 ghost use Rattle.std.specs.Prelude.{◌≡◌, ◌⊎◌, None, Some, false, option_map};
-ghost use Rattle.ged_tool.specs.Profiles.{profile_of, edition_of};
+ghost use Rattle.ged_tool.specs.Settings.{profile_of, edition_of};
 ghost use Rattle.ged_cmd.specs.inner.Flushes.{IsFlushed};
 ghost use Rattle.ged_cmd.specs.Program.{IsAnswered, IsCompared, IsDone, IsOver, IsPut, IsWithheld, fate_of, reader as reader_of, writer as writer_of};
-ghost use Rattle.ged_cmd.specs.Tasks.{input_same as input_same_task, run as run_task, same as same_task};
+ghost use Rattle.ged_cmd.specs.Tasks.{input_same as input_same_task, same as same_task};
 ghost use Rattle.ged_cmd.specs.inner.Tasks.{task_of};
 
 use crate::meanings::tell_meanings;
@@ -11,13 +11,11 @@ use crate::shelf::Shelf;
 use crate::words::Request;
 use ged_devices::{Failed, Output, Sink, Source};
 use ged_tool::{
-    Command, Comparison, Fault, Outcome, Settings, Told, Which, run_same_told, run_told,
+    Command, Comparison, Fault, GREATEST_LIMIT, Outcome, Settings, Told, Which, run_same_told,
+    run_told,
 };
 use std::alloc::Global;
 use std::io::Write;
-
-/// The most bytes that are read of one input.
-pub(crate) const LIMIT: u64 = 1_073_741_824;
 
 /// The outcome of a fault that names no file.
 pub(crate) fn failed(fault: Fault) -> Outcome
@@ -110,10 +108,7 @@ fn answer_output<S: Shelf, R: Source, W: Write>(
         (writer_of ⟦<Output<W> as Sink>⟧.taken ⟦<Output<W> as Sink>⟧.failed output.old output.new) result.outcome }
 {
     let told = answer_file(alloc, shelf, settings, command, file, input, output);
-    Told {
-        outcome: flushed(told.outcome, output),
-        bytes: told.bytes,
-    }
+    flushed_told(told, output)
 }
 
 /// Runs a command over a file, or over `input` where none is named, and puts the answer in the place of the file called `name`,
@@ -239,7 +234,7 @@ fn answer<R: Source, W: Sink>(
     ensures { IsAnswered (profile_of settings) (edition_of settings) command
         (reader_of R.to_come R.failed reader.old reader.new) (writer_of W.taken W.failed writer.old writer.new) result.outcome }
 {
-    run_told(alloc, settings, LIMIT, command, reader, writer)
+    run_told(alloc, settings, GREATEST_LIMIT, command, reader, writer)
 }
 
 /// Compares what two readers give, and flushes the answer.
@@ -257,7 +252,15 @@ fn compare<R: Source, S: Source, W: Write>(
         (reader_of R.to_come R.failed first.old first.new) (reader_of S.to_come S.failed second.old second.new)
         (writer_of ⟦<Output<W> as Sink>⟧.taken ⟦<Output<W> as Sink>⟧.failed output.old output.new) result.outcome }
 {
-    let told = run_same_told(alloc, comparison, LIMIT, first, second, output);
+    let told = run_same_told(alloc, comparison, GREATEST_LIMIT, first, second, output);
+    flushed_told(told, output)
+}
+
+/// What is told once the answer is flushed: the outcome of [`flushed`], and the same bytes.
+pub(crate) fn flushed_told<W: Write>(told: Told, output: &mut Output<W>) -> Told
+    ensures { IsFlushed (writer_of ⟦<Output<W> as Sink>⟧.taken ⟦<Output<W> as Sink>⟧.failed output.old output.new)
+        (⟦<Output<W> as Sink>⟧.failed output.old) told.outcome result.outcome }
+{
     Told {
         outcome: flushed(told.outcome, output),
         bytes: told.bytes,
@@ -266,7 +269,7 @@ fn compare<R: Source, S: Source, W: Write>(
 
 /// The outcome once the answer is flushed: WriteFailed where it can't be. An outcome without an
 /// answer stays, and nothing is flushed.
-pub(crate) fn flushed<W: Write>(outcome: Outcome, output: &mut Output<W>) -> Outcome
+fn flushed<W: Write>(outcome: Outcome, output: &mut Output<W>) -> Outcome
     ensures { IsFlushed (writer_of ⟦<Output<W> as Sink>⟧.taken ⟦<Output<W> as Sink>⟧.failed output.old output.new)
         (⟦<Output<W> as Sink>⟧.failed output.old) outcome result }
 {

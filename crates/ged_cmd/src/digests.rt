@@ -1,19 +1,21 @@
 // The digests of files, told one after the other.
 ghost use Rattle.std.specs.Prelude.{◌≡◌, ◌≤◌, ◌⊎◌, ◌<◌, None, count_by, true, false};
 ghost use Rattle.std.specs.Io.KnownBytes.{Keeps};
-ghost use Rattle.ged_tool.specs.Profiles.{profile_of, edition_of};
+ghost use Rattle.ged_tool.specs.Settings.{profile_of, edition_of};
 ghost use Rattle.ged_cmd.specs.Program.{AreDigested, IsDigested, IsNotOpened, SomeFile, graver as graver_of};
 ghost use Rattle.ged_cmd.specs.Program.{reader as reader_of, writer as writer_of};
 ghost use Rattle.ged_cmd.specs.Tasks.{is_input as is_input_word};
 ghost use Rattle.ged_cmd.specs.inner.Tasks.{names_of};
 
-use crate::commands::{LIMIT, flushed, not_opened};
-use crate::digest_words::{Digests, is_input};
+use crate::commands::{flushed_told, not_opened};
+use crate::digest_words::Digests;
 use crate::explanations::{text_of, write_text};
+use crate::names::{input_name, output_name};
 use crate::shelf::Shelf;
 use crate::tells::{tell, tell_named};
+use crate::words::{file_named, is_input};
 use ged_devices::{Output, Sink, Source};
-use ged_tool::{Fault, Outcome, Settings, Told, run_digest};
+use ged_tool::{Fault, GREATEST_LIMIT, Outcome, Settings, Told, run_digest};
 use std::alloc::Global;
 use std::io;
 use std::io::Write;
@@ -106,11 +108,8 @@ fn digest<R: Source, W: Write>(
         (reader_of R.to_come R.failed reader.old reader.new)
         (writer_of ⟦<Output<W> as Sink>⟧.taken ⟦<Output<W> as Sink>⟧.failed output.old output.new) result.outcome }
 {
-    let told = run_digest(alloc, settings, LIMIT, name, reader, output);
-    Told {
-        outcome: flushed(told.outcome, output),
-        bytes: told.bytes,
-    }
+    let told = run_digest(alloc, settings, GREATEST_LIMIT, name, reader, output);
+    flushed_told(told, output)
 }
 
 /// Tells the fault of a file, if it has one, after the file's name, and explains it, where that is asked for. A fault of the
@@ -129,18 +128,17 @@ fn tell_outcome<E: Write>(
         // a line that can't be written changes no status
         let _ = tell_after(name, &fault, errors);
         if explains {
-            let place = place_of(name, &fault);
-            write_text(text_of(alloc, &told.bytes, fault, place, reason), errors);
+            let source = source_name(name, &fault);
+            write_text(text_of(alloc, &told.bytes, fault, source, reason), errors);
         }
     }
 }
 
-/// The name of the file that has a fault and stands under a name, or of the stream.
-fn place_of<'a>(name: &'a str, fault: &Fault) -> &'a str {
+/// The name of the file that has a fault, which a word names, or of the stream.
+fn source_name<'a>(word: &'a str, fault: &Fault) -> &'a str {
     match fault {
-        Fault::WriteFailed => "standard output",
-        _ if is_input(name) => "standard input",
-        _ => name,
+        Fault::WriteFailed => output_name(None),
+        _ => input_name(file_named(Some(word))),
     }
 }
 

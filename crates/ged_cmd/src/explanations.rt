@@ -3,15 +3,15 @@ ghost use Rattle.std.specs.Prelude.{◌≡◌, false};
 ghost use Rattle.std.specs.Io.KnownBytes.{Keeps};
 ghost use Rattle.ged_faults.specs.Faults.{status_of};
 
-use crate::names::shown_name;
+use crate::names::{input_name, output_name, shown_name};
 use crate::tells::finish;
 use crate::words::Request;
-use ged_explain::{explain_device, explain_fault, explain_notice};
+use ged_explain::{Explainer, explain_device, explain_fault};
 use ged_tool::{Accepted, Command, Fault, Outcome, Settings, Told, Which, accept_as, notices};
 use std::alloc::{AllocError, Global};
 use std::io::Write;
 
-/// The most notices that are explained: each of them takes time by the length of the file. How many are left out is told.
+/// The most notices that are explained, so that they can be read. How many are left out is told.
 const MOST: usize = 100;
 
 /// Tells the outcome's fault, if it has one, and explains it, or the notices of `check`, where that is asked for; gives the
@@ -71,9 +71,9 @@ pub(crate) fn text_of(
 /// The name of the file of which a fault is told, or of the stream.
 fn name_of<'a>(request: Request<'a>, which: Option<Which>, fault: Fault) -> &'a str {
     if fault == Fault::WriteFailed {
-        return into_of(request).unwrap_or("standard output");
+        return output_name(into_of(request));
     }
-    file_of(request, which).unwrap_or("standard input")
+    input_name(file_of(request, which))
 }
 
 /// The name of the file that the answer goes into.
@@ -126,8 +126,7 @@ fn explain_done<E: Write>(alloc: Global, request: Request<'_>, bytes: &[u8], err
         into: _,
     } = request
     {
-        let name = file.unwrap_or("standard input");
-        if let Ok(shown) = shown_name(alloc, name) {
+        if let Ok(shown) = shown_name(alloc, input_name(file)) {
             explain_notices(alloc, settings, bytes, shown.as_str(), errors);
         }
     }
@@ -155,8 +154,9 @@ fn explain_accepted<E: Write>(
     let Ok(found) = notices(alloc, accepted) else {
         return;
     };
+    let mut explainer = Explainer::new(bytes, accepted.flat(), accepted.index());
     for notice in found.as_slice().iter().take(MOST) {
-        write_text(explain_notice(alloc, bytes, notice, name), errors);
+        write_text(explainer.explain(alloc, notice, name), errors);
     }
     tell_more(found.len().saturating_sub(MOST), errors);
 }

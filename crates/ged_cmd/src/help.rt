@@ -24,6 +24,7 @@ the one canonical form of a file, and say whether two files hold the same record
 
 Examples:
   gedtool check family.ged            What is wrong with the file, or its notices
+  gedtool check --explain family.ged  The same, and in words why, and what to do
   gedtool same one.ged another.ged    Whether the two hold the same records
   gedtool help canon                  More about a command",
 };
@@ -41,7 +42,7 @@ itself; nothing else of the file is judged or changed.",
 
 Examples:
   gedtool lines family.ged > spelled.ged
-  gedtool lines -o family.ged family.ged",
+  gedtool lines -o spelled.ged family.ged",
 };
 
 pub(crate) const CHECK: Help = Help {
@@ -104,7 +105,7 @@ Exit status:
 
 Examples:
   gedtool canon family.ged > canonical.ged
-  gedtool canon --keep-names -o family.ged family.ged",
+  gedtool canon --keep-names -o canonical.ged family.ged",
 };
 
 pub(crate) const SAME: Help = Help {
@@ -183,7 +184,7 @@ pub(crate) const OF_FAULT: &str = "The number or the name of a fault; all faults
 
 pub(crate) const OF_STRICT: &str = "Refuse a file that has a notice";
 
-pub(crate) const OF_SECOND: &str = "Also leave out leading zeros of dates, ages and counts";
+pub(crate) const OF_SECOND: &str = "Use the second edition, which leaves out leading zeros too";
 
 pub(crate) const OF_KEEP_NAMES: &str = "Leave identifiers as they are";
 

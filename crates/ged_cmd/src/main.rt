@@ -18,6 +18,7 @@ mod digest_words;
 mod digests;
 mod explanations;
 mod grammar;
+mod held;
 mod help;
 mod meanings;
 mod names;
@@ -32,6 +33,7 @@ use digests::tell_digests;
 use explanations::finish_told;
 use ged_devices::{Input, Noted, Output, Reason, Sink, Source};
 use ged_tool::Outcome;
+use held::held_input;
 use shelf::{Disk, Shelf};
 use std::alloc::Global;
 use std::io::Write;
@@ -49,9 +51,14 @@ struct Streams<R, W, E> {
 }
 
 fn main(rt: HostRuntime) -> ExitCode {
+    // before any file is opened, and up to the end
+    let held = held_input(&rt);
     let reason = Reason::new();
+    // why what is held can't be read says nothing of standard input
+    let untold = Reason::new();
+    let of_input = if held.is_some() { &untold } else { &reason };
     let mut streams = Streams {
-        input: Input::new(Noted::new(rt.stdin(), &reason)),
+        input: Input::new(Noted::new(rt.stdin(), of_input)),
         output: Output::new(Noted::new(rt.stdout(), &reason)),
         errors: rt.stderr(),
     };

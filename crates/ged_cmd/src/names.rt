@@ -1,43 +1,75 @@
-// Names of files as standard error shows them.
+// Names of files, and other words of the command line, as standard error shows them.
+use ged_explain::is_harmless;
 use std::alloc::{AllocError, Global};
-use std::fmt::Write as _;
-use std::io;
-use std::io::Write;
+use std::fmt;
+use std::fmt::{Display, Formatter, Write as _};
 
-/// Whether a character stands for itself: it ends no line, controls no terminal, and does not turn the direction of a text.
-fn is_shown(character: char) -> bool {
-    !matches!(
-        character,
-        '\0'..='\u{1F}'
-            | '\u{7F}'..='\u{9F}'
-            | '\u{61C}'
-            | '\u{200E}'..='\u{200F}'
-            | '\u{2028}'..='\u{202E}'
-            | '\u{2066}'..='\u{2069}'
-    )
+/// The name of the file that is read, or of standard input where none is named.
+pub(crate) fn input_name(file: Option<&str>) -> &str {
+    file.unwrap_or("standard input")
 }
 
-/// Writes a name, and `U+NNNN` for each character of it that does not stand for itself. It takes no memory.
-pub(crate) fn write_name<W: Write>(name: &str, line: &mut W) -> io::Result<()> {
-    for character in name.chars() {
-        if is_shown(character) {
-            write!(line, "{character}")?;
-        } else {
-            write!(line, "U+{:04X}", u32::from(character))?;
+/// The name of the file that is written, or of standard output where none is named.
+pub(crate) fn output_name(file: Option<&str>) -> &str {
+    file.unwrap_or("standard output")
+}
+
+/// A text as standard error shows it: with `U+NNNN` for each character that could change how what stands around it is shown.
+#[derive(Clone, Copy)]
+pub(crate) struct Shown<D> {
+    text: D,
+    has_lines: bool,
+}
+
+impl<D> Shown<D> {
+    /// Of a name.
+    pub(crate) fn name(text: D) -> Shown<D> {
+        Shown {
+            text,
+            has_lines: false,
         }
     }
-    Ok(())
+
+    /// Of a text of several lines, whose line feeds stay.
+    pub(crate) fn lines(text: D) -> Shown<D> {
+        Shown {
+            text,
+            has_lines: true,
+        }
+    }
 }
 
-/// The same as a text. Grows.
+impl<D: Display> Display for Shown<D> {
+    fn fmt<W: fmt::Write>(&self, f: &mut Formatter<W>) -> fmt::Result {
+        let mut shower = Shower {
+            writer: f,
+            has_lines: self.has_lines,
+        };
+        write!(shower, "{}", &self.text)
+    }
+}
+
+/// A writer that passes on each text as it is shown.
+#[derive(Drop)]
+struct Shower<'a, W> {
+    writer: &'a mut W,
+    has_lines: bool,
+}
+
+impl<W: fmt::Write> fmt::Write for Shower<'_, W> {
+    fn write_str(&mut self, text: &str) -> fmt::Result {
+        for character in text.chars() {
+            if is_harmless(character) || (self.has_lines && character == '\n') {
+                self.writer.write_char(character)?;
+            } else {
+                write!(self.writer, "U+{:04X}", u32::from(character))?;
+            }
+        }
+        Ok(())
+    }
+}
+
+/// A name as it is shown. Grows.
 pub(crate) fn shown_name(alloc: Global, name: &str) -> Result<String, AllocError> {
-    let mut shown = String::with_capacity(alloc, name.len())?;
-    for character in name.chars() {
-        if is_shown(character) {
-            shown.push(character)?;
-        } else if write!(shown, "U+{:04X}", u32::from(character)).is_err() {
-            return Err(AllocError);
-        }
-    }
-    Ok(shown)
+    format!(in alloc; "{}", Shown::name(name))
 }

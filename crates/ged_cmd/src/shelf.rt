@@ -2,7 +2,7 @@
 ghost use Rattle.std.specs.Prelude.{◌≡◌, false, ⊤, IfErr, IfOk, OnErr, OnOk};
 ghost use Rattle.std.specs.Io.KnownBytes.{Keeps};
 ghost use Rattle.ged_devices.specs.Devices.{failed_after};
-ghost use Rattle.ged_cmd.specs.Program.{IsEmpty, Withholds};
+ghost use Rattle.ged_cmd.specs.Program.{IsEmpty, IsFaultOfReplacing};
 
 use ged_devices::{Failed, Fate, Input, NewFile, Noted, Reason, Sink, Source};
 use ged_tool::Fault;
@@ -41,8 +41,8 @@ pub(crate) trait Shelf {
         ensures drafted { IfOk result ((files self.now).drafts name.now) }
         ensures empty { IfOk result (λ draft. IsEmpty (Self.Draft.taken draft)) }
         ensures no_failure { IfOk result (λ draft. Self.Draft.failed draft ≡ false) }
-        ensures withheld { OnErr result ((files self.now).withholds name.now) }
-        ensures fault { IfErr result Withholds };
+        ensures withheld { IfErr result ((files self.now).withholds name.now) }
+        ensures fault { IfErr result IsFaultOfReplacing };
 
     /// Puts a new file in its place, with all that was written to it, or gives it up and answers Failed where that can't be.
     fn place(&self, draft: &mut Self::Draft) -> Result<(), Failed>
@@ -81,7 +81,7 @@ impl<'a, F: Files> Shelf for Disk<'a, F> {
       opens = λ _ _. ⊤;
       refuses = λ _. ⊤;
       drafts = λ _ _. ⊤;
-      withholds = λ _. ⊤;
+      withholds = λ _ _. ⊤;
       fate = λ draft. draft.fate;
     } };
 
@@ -102,10 +102,7 @@ impl<'a, F: Files> Shelf for Disk<'a, F> {
     fn draft(&self, alloc: Global, name: &str) -> Result<NewFile<'a, F>, Fault> {
         match NewFile::new(alloc, self.files, self.reason, name) {
             Ok(draft) => Ok(draft),
-            Err(error) => {
-                self.reason.note(&error);
-                Err(fault_of(&error))
-            }
+            Err(error) => Err(fault_of(&error)),
         }
     }
 
@@ -120,7 +117,7 @@ impl<'a, F: Files> Shelf for Disk<'a, F> {
 
 /// The fault of a file that can't be replaced.
 fn fault_of(error: &io::Error) -> Fault
-    ensures { Withholds result }
+    ensures { IsFaultOfReplacing result }
 {
     match error.kind() {
         ErrorKind::OutOfMemory => Fault::Memory(AllocError),

@@ -7,11 +7,12 @@ ghost use Rattle.ged_faults.specs.Faults.{status_of};
 ghost use Rattle.ged_cmd.specs.Program.{IsUnwritten, refusal_status, writer as writer_of};
 
 use crate::commands::failed;
-use crate::names::write_name;
+use crate::names::Shown;
 use crate::wanted::Mistake;
 use clap::Error;
 use clap::error::ErrorKind;
 use ged_devices::{Failed, Output, Sink};
+use ged_explain::meaning_of;
 use ged_tool::{Fault, Outcome, Which};
 use std::alloc::AllocError;
 use std::fmt::Display;
@@ -39,6 +40,8 @@ For more information, try '--help'.
 
 /// What is told where the word of `explain` is of no fault, in clap's form.
 const NO_FAULT: &str = "error: no fault has the number or the name that is given for '[FAULT]'
+
+  tip: 'gedtool explain' lists all faults
 
 Usage: gedtool explain [FAULT]
 
@@ -72,8 +75,16 @@ pub(crate) fn tell<E: Write>(
 ) -> io::Result<()> {
     let mut line = Cursor::new([0; LINE_ROOM]);
     write_line(which, fault, &mut line)?;
-    let length = line.position() as usize;
-    errors.write_all(&line.get_ref()[..length.min(LINE_ROOM)])
+    write_held(&line, errors)
+}
+
+/// Writes what a room on the stack holds.
+fn write_held<const ROOM: usize, E: Write>(
+    held: &Cursor<[u8; ROOM]>,
+    errors: &mut E,
+) -> io::Result<()> {
+    let length = held.position() as usize;
+    errors.write_all(&held.get_ref()[..length.min(ROOM)])
 }
 
 /// Writes the line that tells a fault after a name, by one write where the writer takes it whole and the name is no longer than
@@ -81,17 +92,13 @@ pub(crate) fn tell<E: Write>(
 pub(crate) fn tell_named<E: Write>(name: &str, fault: &Fault, errors: &mut E) -> io::Result<()> {
     let mut line = Cursor::new([0; NAMED_LINE_ROOM]);
     match write_named_line(name, fault, &mut line) {
-        Ok(()) => {
-            let length = line.position() as usize;
-            errors.write_all(&line.get_ref()[..length.min(NAMED_LINE_ROOM)])
-        }
+        Ok(()) => write_held(&line, errors),
         Err(_) => write_named_line(name, fault, errors),
     }
 }
 
 fn write_named_line<W: Write>(name: &str, fault: &Fault, line: &mut W) -> io::Result<()> {
-    write_name(name, line)?;
-    write!(line, ": ")?;
+    write!(line, "{}: ", Shown::name(name))?;
     write_line(None, fault, line)
 }
 
@@ -104,10 +111,7 @@ fn write_line<W: Write>(which: Option<Which>, fault: &Fault, line: &mut W) -> io
     let number = fault.number();
     match fault {
         Fault::InFile { line: at, kind } => writeln!(line, "fault {number} at line {at}: {kind}"),
-        Fault::TooLong => writeln!(line, "fault {number}: TooLong"),
-        Fault::ReadFailed => writeln!(line, "fault {number}: ReadFailed"),
-        Fault::WriteFailed => writeln!(line, "fault {number}: WriteFailed"),
-        Fault::Memory(_) => writeln!(line, "fault {number}: Memory"),
+        _ => writeln!(line, "fault {number}: {}", meaning_of(fault).name),
     }
 }
 
@@ -133,13 +137,24 @@ pub(crate) fn refuse<W: Write, E: Write>(
     tell_help(error, output, errors)
 }
 
-/// Tells a mistake in the words, and gives the status of one.
+/// Tells a mistake in the words, and gives the status of one. The words that it quotes are shown as names are; but a line feed that one
+/// of them has can't be told from those of the text.
 fn tell_mistake<D: Display, E: Write>(mistake: &D, errors: &mut E) -> u8
     ensures { result ≡ 2 }
 {
     // a text that can't be written changes no status
-    let _ = write!(errors, "{mistake}");
+    let _ = write_shown(mistake, errors);
     USAGE_STATUS
+}
+
+/// Writes a text as it is shown, by one write where the writer takes it whole and it is no longer than a line with a name. It takes
+/// no memory.
+fn write_shown<D: Display, E: Write>(text: &D, errors: &mut E) -> io::Result<()> {
+    let mut shown = Cursor::new([0; NAMED_LINE_ROOM]);
+    match write!(shown, "{}", Shown::lines(text)) {
+        Ok(()) => write_held(&shown, errors),
+        Err(_) => write!(errors, "{}", Shown::lines(text)),
+    }
 }
 
 /// Prints help or the version, and gives the status: 0, or that of a fault of the output.
@@ -184,7 +199,8 @@ pub(crate) fn refuse_unread<E: Write>(error: &io::Error, errors: &mut E) -> u8
 {
     let text = match error.kind() {
         io::ErrorKind::OutOfMemory => "error: out of memory\n",
-        _ => "error: the command line isn't UTF-8 text\n",
+        _ =>
+            "error: the command line isn't UTF-8 text; a file with another name can be given as standard input\n",
     };
     tell_mistake(&text, errors)
 }

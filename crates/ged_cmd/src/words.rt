@@ -1,18 +1,15 @@
 // What the words of the command line ask for.
-ghost use Rattle.std.specs.Prelude.{◌≡◌, [], List, IfOk, IfErr, false, codes, map, option_and_then, option_map, string_bytes};
+ghost use Rattle.std.specs.Prelude.{◌≡◌, false, option_map};
 ghost use Rattle.std.specs.Prelude.{if◌then◌else◌};
-ghost use Rattle.std.specs.Option.{option_map_or};
-ghost use Rattle.clap.specs.Words.{App, Row, Rule, Text, rows_of, found_of, subcommand_rows_of, fault_of, new_app, with_rule, with_subcommand};
-ghost use Rattle.clap.specs.Kinds.{HasKind};
+ghost use Rattle.clap.specs.Words.{rows_of, found_of};
 ghost use Rattle.ged_cmd.specs.CommandLine as line;
-ghost use Rattle.ged_cmd.specs.inner.CommandLine.{IsArg, IsCommand};
-ghost use Rattle.ged_tool.specs.Profiles.{profile_of, edition_of};
+ghost use Rattle.ged_tool.specs.Settings.{profile_of, edition_of};
 ghost use Rattle.ged_cmd.specs.Tasks.{explain_asked, explanation as explanation_of, single_asked};
-ghost use Rattle.ged_cmd.specs.Tasks.{canon_keeping as canon_keeping_of, command_of, comparison as comparison_task, edition_asked, file_named as file_of, is_set};
+ghost use Rattle.ged_cmd.specs.Tasks.{canon_keeping as canon_keeping_of, command_of, comparison as comparison_task, edition_asked, file_named as file_of, is_input as is_input_word, is_set};
 ghost use Rattle.ged_cmd.specs.Tasks.{form_asked, form_keeping as form_keeping_of, profile_asked, run_asked, same_asked};
 ghost use Rattle.ged_cmd.specs.inner.Tasks.{task_of};
 
-use crate::arguments::{KEEP_NAMES, OUTPUT, SECOND, STRICT};
+use crate::arguments::{FAULT, FILE, FIRST_FILE, KEEP_NAMES, OUTPUT, SECOND, SECOND_FILE, STRICT};
 use crate::meanings::meaning_called;
 use clap::ArgMatches;
 use ged_explain::{Meaning, meanings};
@@ -63,8 +60,8 @@ pub(crate) fn request_of<'a>(name: &str, matches: &ArgMatches<'a>) -> Option<Req
 fn same_request<'a>(matches: &ArgMatches<'a>) -> Option<Request<'a>>
     ensures { option_map task_of result ≡ same_asked (rows_of (found_of matches.now)) }
 {
-    let first = file_named(matches.get_str("A"));
-    let second = file_named(matches.get_str("B"));
+    let first = file_named(matches.get_str(FIRST_FILE));
+    let second = file_named(matches.get_str(SECOND_FILE));
     comparing(comparison_of(matches), first, second)
 }
 
@@ -81,10 +78,14 @@ fn comparison_of(matches: &ArgMatches<'_>) -> Comparison
 }
 
 /// The form in which files are compared: that in which identifiers count, where their names are to be kept.
-fn form_keeping(names: bool) -> Form
-    ensures { result ≡ form_keeping_of names }
+fn form_keeping(keeps_names: bool) -> Form
+    ensures { result ≡ form_keeping_of keeps_names }
 {
-    if names { Form::Tidy } else { Form::Canonical }
+    if keeps_names {
+        Form::Tidy
+    } else {
+        Form::Canonical
+    }
 }
 
 /// The request to compare two files, or `None` where both would be standard input.
@@ -113,7 +114,7 @@ fn comparing<'a>(
 fn explain_request<'a>(matches: &ArgMatches<'a>) -> Option<Request<'a>>
     ensures { option_map task_of result ≡ explain_asked (rows_of (found_of matches.now)) }
 {
-    explanation(matches.get_str("FAULT"))
+    explanation(matches.get_str(FAULT))
 }
 
 /// The request to explain what a word is of, or `None` where it is of no fault.
@@ -135,20 +136,24 @@ fn run_request<'a>(name: &str, matches: &ArgMatches<'a>) -> Option<Request<'a>>
     Some(Request::Run {
         command: command_named(name, is_flagged(matches, KEEP_NAMES))?,
         settings: settings_of(matches),
-        file: file_named(matches.get_str("FILE")),
+        file: file_named(matches.get_str(FILE)),
         into: file_named(matches.get_str(OUTPUT)),
     })
 }
 
-/// The file that a word names: `None` where the word is left out or is `-`, which both stand for
-/// standard input, or output.
-fn file_named(word: Option<&str>) -> Option<&str>
+/// The file that a word names: `None` where the word is left out or stands for standard input, or output.
+pub(crate) fn file_named(word: Option<&str>) -> Option<&str>
     ensures { option_map (λ name. name.now) result ≡ file_of (option_map (λ word. word.now) word.entry) }
 {
-    match word {
-        Some("-") => None,
-        _ => word,
-    }
+    let word = word?;
+    if is_input(word) { None } else { Some(word) }
+}
+
+/// Whether a word stands for standard input, or output.
+pub(crate) fn is_input(word: &str) -> bool
+    ensures { result ≡ is_input_word word.now }
+{
+    word == "-"
 }
 
 /// The command over one file that has this name. The flag asks `canon` to keep the names of identifiers.
@@ -165,10 +170,14 @@ fn command_named(name: &str, keeps_names: bool) -> Option<Command>
 }
 
 /// `canon`, which keeps the names of identifiers or gives them new ones.
-fn canon_keeping(names: bool) -> Command
-    ensures { result ≡ canon_keeping_of names }
+fn canon_keeping(keeps_names: bool) -> Command
+    ensures { result ≡ canon_keeping_of keeps_names }
 {
-    if names { Command::Tidy } else { Command::Canon }
+    if keeps_names {
+        Command::Tidy
+    } else {
+        Command::Canon
+    }
 }
 
 /// The settings that the flags of a subcommand ask for: lenient and of the first edition where it

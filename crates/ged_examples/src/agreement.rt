@@ -12,7 +12,7 @@ use ged_tool::{
 use std::alloc::{AllocError, Global};
 
 /// More bytes than any file here has.
-const LIMIT: u64 = 1_073_741_824;
+pub(crate) const LIMIT: u64 = 1_073_741_824;
 
 /// More bytes are not asked of the calls on trees, which find each structure by a walk from the first one on.
 const MOST_IN_TREES: usize = 4096;

@@ -2,15 +2,14 @@
 //
 // A device that fails here fails once, and would then go on: so a run that asks it once more is seen by the later calls
 // and by what it then wrote.
-use crate::agreement::{say_outcome, two_parts};
+use crate::agreement::{LIMIT, say_outcome, two_parts};
 use crate::answers::Answer;
-use crate::fakes::{Endless, Failure, Taker, make_giver, make_taker};
+use crate::fakes::{Endless, Failure, Full, Taker, make_giver, make_taker};
 use crate::ranges::Ranges;
+use ged_devices::{Noted, Reason};
 use ged_tool::{Command, Input, Outcome, Output, Sink, Source, canonicalise, run, run_same};
 use std::alloc::Global;
-
-/// More bytes than any file here has.
-const LIMIT: u64 = 1_073_741_824;
+use std::io::{Read, Write};
 
 /// How many bytes a device gives or takes at a call, at most.
 const STEPS: [usize; 3] = [1, 7, 100];
@@ -34,6 +33,8 @@ pub(crate) fn answer(alloc: Global, call: &str, argument: &[u8], answer: &mut An
         "bytewise" => answer_bytewise(alloc, argument, answer),
         "endless" => answer_endless(alloc, argument, answer),
         "full_slice" => answer_full_slice(alloc, argument, answer),
+        "flushes" => answer_flushes(alloc, answer),
+        "noted" => answer_noted(alloc, answer),
         _ => return false,
     }
     true
@@ -330,4 +331,41 @@ fn answer_full_slice(alloc: Global, file: &[u8], answer: &mut Answer) {
     say_outcome(answer, outcome);
     answer.say(" ");
     answer.say_bytes(room.as_slice());
+}
+
+/// Flushes an output over a device that can be flushed, and one over a device that can't.
+fn answer_flushes(alloc: Global, answer: &mut Answer) {
+    let mut taker = make_taker(alloc, 0, 100, None);
+    say_flushed(answer, &mut taker);
+    say_count(answer, taker.flushes, " flushes\n");
+    let mut full = Full { flushes: 0 };
+    say_flushed(answer, &mut full);
+    say_count(answer, full.flushes, " flushes\n");
+}
+
+fn say_flushed<W: Write>(answer: &mut Answer, device: &mut W) {
+    let reason = Reason::new();
+    let mut output = Output::new(Noted::new(device, &reason));
+    let is_flushed = output.flush().is_ok();
+    say_named_truth(answer, "flushed=", is_flushed);
+    say_named_truth(answer, ", failed=", output.failed());
+    answer.say(", ");
+    answer.say(reason.words());
+}
+
+/// A read and a write that fail once, and would then succeed, each asked twice.
+fn answer_noted(alloc: Global, answer: &mut Answer) {
+    let reason = Reason::new();
+    let failure = Some(Failure::Other);
+    let mut reader = Noted::new(make_giver(b"0 HEAD", 0, 100, failure), &reason);
+    let mut room = [0u8; 8];
+    for _ in 0..2 {
+        say_named_truth(answer, "read=", reader.read(&mut room).is_ok());
+        answer.say("\n");
+    }
+    let mut writer = Noted::new(make_taker(alloc, 0, 100, failure), &reason);
+    for _ in 0..2 {
+        say_named_truth(answer, "written=", writer.write(b"0 HEAD").is_ok());
+        answer.say("\n");
+    }
 }

@@ -1,12 +1,9 @@
 // The digest of a file, as the line that tells it.
-use crate::agreement::{Answered, Ways, answered, are_plain};
+use crate::agreement::{Answered, LIMIT, Ways, answered, are_plain};
 use crate::answers::Answer;
 use ged_tool::{Fault, Input, Outcome, Output, Settings, digest, digest_as, run_digest};
 use std::alloc::Global;
 use std::io::Write;
-
-/// More bytes than any file here has.
-const LIMIT: u64 = 1_073_741_824;
 
 /// The line of a file's digest and the name `f`, by each call that tells it.
 pub(crate) fn digest_ways(alloc: Global, settings: Settings, file: &[u8]) -> Ways {

@@ -4,8 +4,8 @@ use crate::answers::Answer;
 use crate::questions::Question;
 use crate::whole::{KINDS, settings_of};
 use ged_explain::{
-    Meaning, explain_device, explain_fault, explain_notice, meaning_named, meaning_numbered,
-    meaning_of, meanings, piece_at,
+    Explainer, Meaning, explain_device, explain_fault, explain_notice, is_harmless, meaning_named,
+    meaning_numbered, meaning_of, meanings, piece_at,
 };
 use ged_link::Notice;
 use ged_tool::{Accepted, Fault, Settings, accept, accept_as, notices};
@@ -25,6 +25,7 @@ pub(crate) fn answer(alloc: Global, call: &str, argument: &[u8], answer: &mut An
         "explain_notice" => answer_notice(alloc, argument, answer),
         "explain_device" => answer_device(alloc, question.word, argument, answer),
         "piece_at" => answer_piece(question.word, argument, answer),
+        "is_harmless" => answer_harmless(argument, answer),
         _ => return answer_meaning(name, argument, answer),
     }
     true
@@ -62,6 +63,42 @@ fn answer_notice(alloc: Global, file: &[u8], answer: &mut Answer) {
 fn say_notices(alloc: Global, file: &[u8], accepted: &Accepted<'_>, answer: &mut Answer) {
     if let Some(all) = answer.given(notices(alloc, accepted)) {
         say_first(alloc, file, &all, answer);
+        if !are_explained_alike(alloc, file, accepted, &all) {
+            answer.say("and by an Explainer another text");
+        }
+    }
+}
+
+/// Whether one `Explainer` says the same of each notice as `explain_notice`, in the order of their lines and then backwards.
+fn are_explained_alike(
+    alloc: Global,
+    file: &[u8],
+    accepted: &Accepted<'_>,
+    all: &[Notice],
+) -> bool {
+    let mut explainer = Explainer::new(file, accepted.flat(), accepted.index());
+    let mut alike = true;
+    for notice in all {
+        let text = explainer.explain(alloc, notice, NAME);
+        alike &= is_text_of(alloc, file, notice, text);
+    }
+    for notice in all.iter().rev() {
+        let text = explainer.explain(alloc, notice, NAME);
+        alike &= is_text_of(alloc, file, notice, text);
+    }
+    alike
+}
+
+/// Whether a text is what `explain_notice` says of a notice.
+fn is_text_of(
+    alloc: Global,
+    file: &[u8],
+    notice: &Notice,
+    text: Result<String, AllocError>,
+) -> bool {
+    match (text, explain_notice(alloc, file, notice, NAME)) {
+        (Ok(text), Ok(alone)) => text.as_str() == alone.as_str(),
+        _ => false,
     }
 }
 
@@ -84,6 +121,13 @@ fn answer_piece(number: &str, file: &[u8], answer: &mut Answer) {
     match piece_at(file, u64::from(number_of(number))) {
         Some(piece) => answer.say_bytes(piece),
         None => answer.say("None"),
+    }
+}
+
+/// What is answered for each character of a text.
+fn answer_harmless(text: &[u8], answer: &mut Answer) {
+    for character in str::from_utf8(text).unwrap_or("").chars() {
+        answer.say_truth(is_harmless(character));
     }
 }
 

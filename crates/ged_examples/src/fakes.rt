@@ -89,6 +89,8 @@ pub(crate) struct Taker {
     pub(crate) calls: u64,
     /// How often it was written to after it had failed.
     pub(crate) later: u64,
+    /// How often it was flushed.
+    pub(crate) flushes: u64,
 }
 
 /// A writer that fails behind so many bytes, or never.
@@ -106,6 +108,7 @@ pub(crate) fn make_taker(
         taken: Vec::new(alloc),
         calls: 0,
         later: 0,
+        flushes: 0,
     }
 }
 
@@ -144,7 +147,26 @@ impl Write for Taker {
     }
 
     fn flush(&mut self) -> io::Result<()> {
+        self.flushes = self.flushes.saturating_add(1);
         Ok(())
+    }
+}
+
+/// A writer that takes all, but has no space left once it is flushed.
+#[derive(Drop)]
+pub(crate) struct Full {
+    /// How often it was flushed.
+    pub(crate) flushes: u64,
+}
+
+impl Write for Full {
+    fn write(&mut self, bytes: &[u8]) -> io::Result<usize> {
+        Ok(bytes.len())
+    }
+
+    fn flush(&mut self) -> io::Result<()> {
+        self.flushes = self.flushes.saturating_add(1);
+        Err(io::Error::from(io::ErrorKind::StorageFull))
     }
 }
 

@@ -1,7 +1,8 @@
 // The calls that grow and make a whole answer to a file: that of a command, its tidy bytes, its digest.
+use crate::agreement::LIMIT;
 use crate::answers::Answer;
 use crate::growing::say_made_fault;
-use crate::growing_files::{LIMIT, ROOM, say_run};
+use crate::growing_files::{ROOM, say_run};
 use crate::growths::Marks;
 use ged_tool::{
     Command, Fault, Input, Output, Settings, answer as answer_to, digest_as, run_digest, tidy_as,

@@ -2,7 +2,7 @@
 ghost use Rattle.ged_link.specs.Indexes.{IsIndexOf};
 ghost use Rattle.ged_schema.specs.Checked.{Checked};
 
-use crate::agreement::say_outcome;
+use crate::agreement::{LIMIT, say_outcome};
 use crate::answers::Answer;
 use crate::growing::{
     say_made_bytes, say_made_document, say_made_fault, say_made_lines, say_made_notices, say_memory,
@@ -18,9 +18,6 @@ use ged_tool::{
 };
 use ged_tree::{Flat, flatten};
 use std::alloc::Global;
-
-/// More bytes than any file here has.
-pub(crate) const LIMIT: u64 = 1_073_741_824;
 
 /// Makes a call that judges whole files; false where there is none of this name.
 pub(crate) fn call_of_file(

@@ -1,4 +1,4 @@
-// The laws of `ged_line` and `ged_tree`, which are functions that do nothing and return.
+// The laws of `ged_line`, `ged_tree` and `ged_document`: functions that do nothing and return, whatever a few of them are handed.
 use crate::answers::Answer;
 use ged_document::one_place;
 use ged_line::{line_or_fault, one_cut, one_line, one_reading, spelling_spells, written_is_read};

@@ -2,10 +2,10 @@
 use crate::answers::Answer;
 use crate::parts::{Parts, read_parts, say_line, say_line_fault, say_view};
 use ged_line::{
-    Line, LineAt, LineView, ParseFault, RespellFault, Tag, Text, Xref, first_line, is_plain,
-    is_same_tag, parse_line, read_lines, respell_lines, respell_parts, split_pieces, tag_order,
-    text_behind_mark, view_line, view_lines, view_text, write_head, write_line, write_lines,
-    write_parts, write_view,
+    Line, LineAt, LineView, ParseFault, RespellFault, Tag, Text, Xref, behind_mark, first_line,
+    is_plain, is_same_tag, parse_line, read_lines, respell_lines, respell_parts, split_pieces,
+    tag_order, text_behind_mark, view_line, view_lines, view_text, write_head, write_line,
+    write_lines, write_parts, write_view,
 };
 use std::alloc::Global;
 use std::str;
@@ -82,6 +82,7 @@ fn answer_of_file(alloc: Global, call: &str, file: &[u8], answer: &mut Answer) -
         "view_lines" => say_levels(file, answer),
         "SpelledLine::text" => say_texts(file, answer),
         "text_behind_mark" => answer.say(text_behind_mark(file).unwrap_or("None")),
+        "behind_mark" => answer.say_bytes(behind_mark(file)),
         _ => return false,
     }
     true

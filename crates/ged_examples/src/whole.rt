@@ -3,7 +3,7 @@
 // A call may begin with `strict.`, with `second.` or with `strict.second.`, for the settings under which it is asked. What
 // each call answers stands at the head of data/whole.rows.
 use crate::agreement::{
-    Answered, Ways, accept_ways, answered, are_plain, canon_ways, check_ways, say_fault,
+    Answered, LIMIT, Ways, accept_ways, answered, are_plain, canon_ways, check_ways, say_fault,
     say_outcome, show_ways, tidy_ways, two_parts,
 };
 use crate::answers::Answer;
@@ -20,9 +20,6 @@ use ged_tool::{
 };
 use std::alloc::{AllocError, Global};
 use std::io::Write;
-
-/// More bytes than any file here has.
-const LIMIT: u64 = 1_073_741_824;
 
 const SAME: &[u8] = b"same\n";
 

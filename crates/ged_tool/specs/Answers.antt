@@ -8,7 +8,7 @@ use Rattle.ged_schema.specs.declared.profile.Profile.{Profile}
 use Rattle.ged_canon.specs.declared.edition.Edition.{Edition}
 use Rattle.ged_accept.specs.Accepted.{IsAccepted, FileFaultAt}
 use Rattle.ged_tool.specs.Canon.{IsCanon}
-use Rattle.ged_faults.specs.Faults.{file_fault_of}
+use Rattle.ged_faults.specs.Faults.{file_fault_of_line}
 use Rattle.ged_accept.specs.Notices.{IsVerdict}
 use Rattle.ged_accept.specs.Shown.{IsShown}
 use Rattle.ged_tool.specs.Tidied.{IsTidied}
@@ -27,7 +27,7 @@ Answers profile edition Tidy bytes text = IsTidied profile edition bytes text
 
 -- the command has no answer to these bytes, but this fault at this line to tell
 abbrev pub FaultAt : Profile → Command → Bytes → ℕ → FileFault → Type 0
-FaultAt profile Lines bytes line kind = (fault : LineFault) × IsFirstFault bytes line fault × (kind ≡ file_fault_of fault)
+FaultAt profile Lines bytes line kind = (fault : LineFault) × IsFirstFault bytes line fault × (kind ≡ file_fault_of_line fault)
 FaultAt profile Check bytes line kind = FileFaultAt profile bytes line kind
 FaultAt profile Show bytes line kind = FileFaultAt profile bytes line kind
 FaultAt profile Canon bytes line kind = FileFaultAt profile bytes line kind

@@ -1,11 +1,9 @@
 -- The canonical bytes of a file that is accepted (FamilySearch GEDCOM 7.0, "Lines" and "Structures").
-use Rattle.std.specs.Prelude.{◌≡◌}
 use Rattle.ged_line.specs.Bytes.{Bytes}
-use Rattle.ged_line.specs.Spelling.{file_of}
 use Rattle.ged_tree.specs.Trees.{Trees}
-use Rattle.ged_tree.specs.DocumentLines.{document_lines}
 use Rattle.ged_schema.specs.declared.profile.Profile.{Profile}
 use Rattle.ged_canon.specs.declared.edition.Edition.{Edition}
+use Rattle.ged_canon.specs.CanonText.{CanonText}
 use Rattle.ged_canon.specs.Normal.{IsNormalForm}
 use Rattle.ged_accept.specs.Accepted.{IsAccepted}
 
@@ -15,4 +13,4 @@ pub record IsCanon (profile : Profile) (edition : Edition) (file canonical : Byt
   pub normal : Trees
   pub accepted : IsAccepted profile file document
   pub normal_form : IsNormalForm edition document normal
-  pub spelled : canonical ≡ file_of (document_lines normal)
+  pub spelled : CanonText normal canonical

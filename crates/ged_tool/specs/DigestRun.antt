@@ -13,7 +13,7 @@ use Rattle.ged_faults.specs.declared.faults.Outcome.{Outcome}
 abbrev pub backslash : ℕ
 backslash = 0x5C
 
--- a byte that a name on a line cannot have as it is: it would end the line, or be taken for the sign of such a byte
+-- a byte that a name on a line cannot have as it is: it would end the line, or be taken for what stands for such a byte
 abbrev pub is_escaped : ℕ → Bool
 is_escaped byte = (byte == backslash) || ((byte == line_feed) || (byte == carriage_return))
 

@@ -10,12 +10,11 @@
 -- document, and each of the other changes is a step. Both files are judged under one profile.
 use Rattle.std.specs.Prelude.{◌≡◌, ◌↔◌}
 use Rattle.ged_line.specs.Bytes.{Bytes}
-use Rattle.ged_line.specs.Spelling.{file_of}
 use Rattle.ged_tree.specs.Trees.{Trees}
-use Rattle.ged_tree.specs.DocumentLines.{document_lines}
 use Rattle.ged_schema.specs.declared.profile.Profile.{Profile}
 use Rattle.ged_canon.specs.declared.edition.Edition.{Edition}
 use Rattle.ged_canon.specs.declared.edition.Edition.TheVariants.{First, Second}
+use Rattle.ged_canon.specs.CanonText.{CanonText}
 use Rattle.ged_canon.specs.Steps.{Equivalent}
 use Rattle.ged_canon.specs.Normal.{Normal}
 use Rattle.ged_accept.specs.Accepted.{IsAccepted}
@@ -31,7 +30,7 @@ pub record IsNormalFile (profile : Profile) (edition : Edition) (bytes : Bytes) 
   pub document : Trees
   pub accepted : IsAccepted profile bytes document
   pub normal : Normal edition document
-  pub spelled : bytes ≡ file_of (document_lines document)
+  pub spelled : CanonText document bytes
 
 -- what is promised of the canonical bytes of a file
 pub record Headline (profile : Profile) (edition : Edition) (file canonical : Bytes) : Type 0 where
@@ -41,7 +40,7 @@ pub record Headline (profile : Profile) (edition : Edition) (file canonical : By
   pub twice_is_once : IsOwnCanon profile edition canonical
   pub accepted : IsNormalFile profile edition canonical
 
--- What is promised besides of the canonical bytes of a file in the second edition.
+-- What is also promised of the canonical bytes of a file in the second edition.
 pub record AgreesWithFirst (profile : Profile) (file canonical : Bytes) : Type 0 where
   -- files with equal bytes in the first edition have equal bytes in the second
   pub equal_where_first : (other first other_canonical : Bytes) → IsCanon profile First file first → IsCanon profile First other first

@@ -1,4 +1,4 @@
--- What a feed keeps beside the bytes. Only private functions speak of these.
+-- What a feed keeps beside the bytes. Of what is public only the invariant of `Feed` cites this.
 use Rattle.std.specs.Prelude.{◌≡◌, ℕ, List, length}
 use Rattle.ged_line.specs.Bytes.{Bytes}
 use Rattle.ged_line.specs.Lines.{LineParts}

@@ -10,7 +10,8 @@ pub mod Tidied
 pub mod Same
 pub mod SameRun
 pub mod Kept
-pub mod Profiles
+pub mod Limits
+pub mod Settings
 pub mod Fed
 pub mod Judged
 pub mod Laws

@@ -5,7 +5,7 @@ use Rattle.ged_faults.specs.declared.faults.Fault.TheVariants.{ReadFailed, Write
 use Rattle.ged_faults.specs.declared.faults.Outcome.{Outcome}
 use Rattle.ged_faults.specs.declared.faults.Outcome.TheVariants.{Failed}
 
--- the reader is read once more than the limit at most, and a device has failed exactly where the outcome says so
+-- read is called at most once more than the limit has bytes, and a device has failed exactly where the outcome says so
 pub record TellsDevices (limit reads : ℕ) (read_failed write_failed : Bool) (outcome : Outcome) : Type 0 where
   pub calls : reads ≤ limit + 1
   pub reader : IsTrue read_failed ↔ (outcome ≡ Failed None ReadFailed)

@@ -12,7 +12,7 @@ use Rattle.ged_tool.specs.Same.{AreCompared, AreComparedBy, IsInForm, relation_o
 use Rattle.ged_tool.specs.declared.comparison.Form.{Form}
 use Rattle.ged_tool.specs.declared.comparison.Form.TheVariants.{Tidy}
 
--- Two files are compared with one answer: what `same_as` answers is what the laws below say.
+-- Comparing two files has at most one answer: so what `same_as` answers is what the laws below say.
 abbrev pub OneComparison : Type 0
 OneComparison = (profile : Profile) (edition : Edition) (first second : Bytes) (same other : Bool)
     → AreCompared profile edition first second same → AreCompared profile edition first second other → same ≡ other

@@ -4,6 +4,7 @@ pub(crate) mod canonicalise;
 pub(crate) mod digest;
 pub(crate) mod feed;
 pub(crate) mod judged_lines;
+pub(crate) mod made;
 pub(crate) mod same;
 pub(crate) mod spell;
 pub(crate) mod tidy;

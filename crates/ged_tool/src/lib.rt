@@ -4,6 +4,7 @@
 mod calls;
 mod comparison;
 mod laws;
+mod limit;
 mod runs;
 mod settings;
 
@@ -26,6 +27,7 @@ pub use laws::{
     headline, lines_keep_the_file, same_have_one_digest, same_in_each_form, same_is_an_equivalence,
     tidy_headline,
 };
+pub use limit::GREATEST_LIMIT;
 pub use runs::answer::{Command, answer};
 pub use runs::digest_file::run_digest;
 pub use runs::one_file::{run, run_as, run_told};

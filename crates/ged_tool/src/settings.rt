@@ -1,6 +1,6 @@
 // What a file has to meet, and which canonical form is meant.
 ghost use Rattle.std.specs.Prelude.{◌≡◌};
-ghost use Rattle.ged_tool.specs.Profiles.{profile_of, edition_of};
+ghost use Rattle.ged_tool.specs.Settings.{profile_of, edition_of};
 
 use ged_canon::Edition;
 use ged_schema::Profile;

@@ -4,7 +4,7 @@ use Rattle.std.specs.Borrow.{Bor}
 use Rattle.std.specs.Option.{option_copied}
 use Rattle.ged_explain.specs.Names.{as_named}
 use Rattle.clap.specs.Words.{Text}
-use Rattle.ged_tool.specs.Profiles.{profile_of, edition_of}
+use Rattle.ged_tool.specs.Settings.{profile_of, edition_of}
 use Rattle.ged_cmd.specs.declared.words.Request.{Request}
 use Rattle.ged_cmd.specs.declared.words.Request.TheVariants.{Explain, Run, Same, SameInput}
 use Rattle.ged_cmd.specs.declared.wanted.Wanted.{Wanted}

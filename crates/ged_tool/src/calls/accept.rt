@@ -1,7 +1,7 @@
 // Files that are accepted by settings.
 ghost use Rattle.std.specs.Prelude.{IfOk, IfErr};
 ghost use Rattle.ged_accept.specs.Accepted.{IsAccepted, FileFaultAt, IsRefusal};
-ghost use Rattle.ged_tool.specs.Profiles.{profile_of};
+ghost use Rattle.ged_tool.specs.Settings.{profile_of};
 
 use crate::settings::Settings;
 use ged_accept::Accepted;

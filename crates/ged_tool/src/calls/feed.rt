@@ -2,7 +2,7 @@
 ghost use Rattle.std.specs.Prelude.{◌≡◌, ◌++◌, ℕ, [], None, IfSome, IfOk, IfErr, IsErrOf};
 ghost use Rattle.ged_schema.specs.declared.profile.Profile.{Profile};
 ghost use Rattle.ged_faults.specs.declared.faults.FileFault.{FileFault};
-ghost use Rattle.ged_tool.specs.Profiles.{profile_of};
+ghost use Rattle.ged_tool.specs.Settings.{profile_of};
 ghost use Rattle.ged_accept.specs.Accepted.{IsAccepted, FileFaultAt, IsRefusal};
 ghost use Rattle.ged_tool.specs.Fed.{WholeLinesFaultAt, RefusesPiece};
 
@@ -102,8 +102,8 @@ impl Feed {
         self.finish_as(alloc, Settings::new())
     }
 
-    /// Ends the file: the document of the bytes that were taken in, where they are accepted under a profile, or why not,
-    /// as [`accept_as`] answers. More pieces may follow, and the call may be made again.
+    /// Judges the bytes that were taken in so far as a whole file: their document, where they are accepted under the profile, or why
+    /// not, as [`accept_as`] answers. More pieces may follow, and the call may be made again.
     ///
     /// Where a fault was told, answers this fault and takes no memory. Grows
     /// (FamilySearch GEDCOM 7.0, "Lines", "Structures" and "Data types").

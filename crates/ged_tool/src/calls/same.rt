@@ -1,7 +1,6 @@
 // Whether two files say the same.
 ghost use Rattle.std.specs.Prelude.{◌≡◌, ◌↔◌, IsTrue, IfOk, IfErr};
-ghost use Rattle.ged_tool.specs.Profiles.{profile_of, edition_of};
-ghost use Rattle.ged_accept.specs.Accepted.{FileFaultAt, IsRefusal};
+ghost use Rattle.ged_tool.specs.Settings.{profile_of, edition_of};
 ghost use Rattle.ged_tool.specs.Same.{AreCompared, AreComparedBy, IsSameRefusal, relation_of};
 
 use crate::calls::accept::accept_as;

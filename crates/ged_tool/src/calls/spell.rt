@@ -1,17 +1,18 @@
 // The form of a file in slices of it.
 ghost use Rattle.std.specs.Prelude.{◌≡◌, IfOk, IfErr, MatchResult, alloc_error};
-ghost use Rattle.ged_tool.specs.Profiles.{profile_of, edition_of};
+ghost use Rattle.ged_tool.specs.Settings.{profile_of, edition_of};
 ghost use Rattle.ged_accept.specs.Accepted.{FileFaultAt, IsRefusal};
 ghost use Rattle.ged_tool.specs.Same.{IsInForm};
 ghost use Rattle.ged_tool.specs.inner.Forms.{IsFormOf};
 
 use crate::calls::accept::accept_as;
+use crate::calls::made::made_or_memory;
 use crate::comparison::Form;
 use crate::settings::Settings;
 use ged_accept::Accepted;
 use ged_canon::{Edition, SpelledForm, spell_canonical_in, spell_tidy_in};
 use ged_faults::Fault;
-use ged_schema::Profile;
+use ged_line::behind_mark;
 use std::alloc::Global;
 
 /// A file that is accepted under the profile of the settings, in a form and in their edition, or why it is not accepted. What
@@ -46,14 +47,10 @@ fn spell_accepted<'f>(
     ensures memory { IfErr result (λ fault. fault ≡ Fault.Memory alloc_error) }
 {
     let (flat, index) = (accepted.flat(), accepted.index());
-    let spelled = match form {
+    made_or_memory(match form {
         Form::Canonical => spell_canonical_in(alloc, edition, flat, index, file),
         Form::Tidy => spell_tidy_in(alloc, edition, flat, index, file),
-    };
-    match spelled {
-        Ok(spelled) => Ok(spelled),
-        Err(error) => Err(Fault::Memory(error)),
-    }
+    })
 }
 
 /// The same as [`spell_form`] answers, in one vector.
@@ -68,18 +65,7 @@ pub(crate) fn bytes_in_form(
         (IsRefusal (FileFaultAt (profile_of settings) bytes.now)) }
 {
     match spell_form(alloc, settings, form, bytes) {
-        Ok(spelled) => match spelled.into_bytes(alloc) {
-            Ok(text) => Ok(text),
-            Err(error) => Err(Fault::Memory(error)),
-        },
+        Ok(spelled) => made_or_memory(spelled.into_bytes(alloc)),
         Err(fault) => Err(fault),
-    }
-}
-
-/// What stands behind the byte order mark, or all where there is none.
-fn behind_mark(bytes: &[u8]) -> &[u8] {
-    match bytes {
-        [0xEF, 0xBB, 0xBF, behind @ ..] => behind,
-        _ => bytes,
     }
 }

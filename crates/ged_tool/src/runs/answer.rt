@@ -1,11 +1,12 @@
 // What a command answers to the bytes of a file.
-ghost use Rattle.std.specs.Prelude.{◌≡◌, IfErr, IfOk, MatchResult, Result, alloc_error};
-ghost use Rattle.ged_tool.specs.Profiles.{profile_of, edition_of};
+ghost use Rattle.std.specs.Prelude.{MatchResult};
+ghost use Rattle.ged_tool.specs.Settings.{profile_of, edition_of};
 ghost use Rattle.ged_accept.specs.Accepted.{IsRefusal};
 ghost use Rattle.ged_tool.specs.Answers.{Answers, FaultAt};
 
 use crate::calls::accept::accept_as;
 use crate::calls::canonicalise::canonicalise_as;
+use crate::calls::made::made_or_memory;
 use crate::calls::tidy::tidy_as;
 use crate::settings::Settings;
 use ged_accept::{show_text, verdict};
@@ -13,7 +14,7 @@ use ged_canon::Edition;
 use ged_faults::Fault;
 use ged_line::{RespellFault, respell_lines};
 use ged_schema::Profile;
-use std::alloc::{AllocError, Global};
+use std::alloc::Global;
 
 /// What to answer about one file.
 #[derive(Clone, Copy, PartialEq, Eq, Debug)]
@@ -72,7 +73,7 @@ fn answer_check(alloc: Global, settings: Settings, bytes: &[u8]) -> Result<Vec<u
         (IsRefusal (FaultAt (profile_of settings) Command.Check bytes.now)) }
 {
     match accept_as(alloc, settings, bytes) {
-        Ok(accepted) => text_or_memory(verdict(alloc, &accepted)),
+        Ok(accepted) => made_or_memory(verdict(alloc, &accepted)),
         Err(fault) => Err(fault),
     }
 }
@@ -82,18 +83,7 @@ fn answer_show(alloc: Global, settings: Settings, bytes: &[u8]) -> Result<Vec<u8
         (IsRefusal (FaultAt (profile_of settings) Command.Show bytes.now)) }
 {
     match accept_as(alloc, settings, bytes) {
-        Ok(accepted) => text_or_memory(show_text(alloc, &accepted)),
+        Ok(accepted) => made_or_memory(show_text(alloc, &accepted)),
         Err(fault) => Err(fault),
-    }
-}
-
-/// A text that was made, or that there was no memory for it.
-fn text_or_memory(made: Result<Vec<u8>, AllocError>) -> Result<Vec<u8>, Fault>
-    ensures made { IfOk result (λ text. made ≡ Result.Ok text) }
-    ensures memory { IfErr result (λ fault. fault ≡ Fault.Memory alloc_error) }
-{
-    match made {
-        Ok(text) => Ok(text),
-        Err(error) => Err(Fault::Memory(error)),
     }
 }

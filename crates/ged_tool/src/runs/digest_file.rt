@@ -1,11 +1,13 @@
 // The run that tells the digest of a file: read the whole file, make its line, write it.
 ghost use Rattle.std.specs.Prelude.{◌≡◌, ◌≤◌, false, MatchResult};
-ghost use Rattle.ged_tool.specs.Profiles.{profile_of, edition_of};
+ghost use Rattle.ged_tool.specs.Limits.{greatest_limit};
+ghost use Rattle.ged_tool.specs.Settings.{profile_of, edition_of};
 ghost use Rattle.ged_tool.specs.RunDevices.{TellsDevices};
 ghost use Rattle.ged_accept.specs.Accepted.{FileFaultAt, IsRefusal};
 ghost use Rattle.ged_tool.specs.DigestRun.{IsKeptDigestRun, TellsDigest};
 
 use crate::calls::digest::digest_as;
+use crate::calls::made::made_or_memory;
 use crate::runs::digest_line::digest_line;
 use crate::runs::one_file::read_whole;
 use crate::runs::told::{Told, told_with, told_without};
@@ -33,7 +35,7 @@ pub fn run_digest<R: Source, W: Sink>(
     reader: &mut R,
     writer: &mut W,
 ) -> Told
-    requires limit { limit ≤ 1073741824 }
+    requires limit { limit ≤ greatest_limit }
     requires unread { R.reads reader.old ≡ 0 }
     requires no_failure { (R.failed reader.old ≡ false) × (W.failed writer.old ≡ false) }
     ensures devices { TellsDevices limit (R.reads reader.new) (R.failed reader.new) (W.failed writer.new) result.outcome }
@@ -66,8 +68,5 @@ fn line_of(alloc: Global, settings: Settings, name: &str, bytes: &[u8]) -> Resul
         Ok(digest) => digest,
         Err(fault) => return Err(fault),
     };
-    match digest_line(alloc, &digest, name) {
-        Ok(line) => Ok(line),
-        Err(error) => Err(Fault::Memory(error)),
-    }
+    made_or_memory(digest_line(alloc, &digest, name))
 }

@@ -2,7 +2,8 @@
 ghost use Rattle.std.specs.Prelude.{◌≡◌, ◌+◌, ◌<◌, ◌≤◌, ◌↔◌, false, IsTrue, IfOk, IfErr, IsErrOf, vec_len};
 ghost use Rattle.std.specs.Io.KnownBytes.{Consumes};
 ghost use Rattle.ged_line.specs.Bytes.{Bytes};
-ghost use Rattle.ged_tool.specs.Profiles.{profile_of, edition_of};
+ghost use Rattle.ged_tool.specs.Limits.{greatest_limit};
+ghost use Rattle.ged_tool.specs.Settings.{profile_of, edition_of};
 ghost use Rattle.ged_tool.specs.RunDevices.{TellsDevices};
 ghost use Rattle.ged_tool.specs.Run.{IsWhole, IsRun};
 ghost use Rattle.ged_tool.specs.Kept.{IsKeptRun};
@@ -26,7 +27,7 @@ pub fn run<R: Source, W: Sink>(
     reader: &mut R,
     writer: &mut W,
 ) -> Outcome
-    requires limit { limit ≤ 1073741824 }
+    requires limit { limit ≤ greatest_limit }
     requires unread { R.reads reader.old ≡ 0 }
     requires no_failure { (R.failed reader.old ≡ false) × (W.failed writer.old ≡ false) }
     ensures devices { TellsDevices limit (R.reads reader.new) (R.failed reader.new) (W.failed writer.new) result }
@@ -39,7 +40,7 @@ pub fn run<R: Source, W: Sink>(
 /// Reads a file to the reader's end, answers it by the command under the profile and in the edition of the settings, and
 /// writes the answer.
 ///
-/// `limit` is the most bytes that the file may have, 1,073,741,824 at most. The reader must not have been read before,
+/// `limit` is the most bytes that the file may have, [`crate::GREATEST_LIMIT`] at most. The reader must not have been read before,
 /// and neither device have failed. No more than `limit + 1` calls of read are made, and nothing is written unless the
 /// whole answer was made. Memory is taken for the file, for its document and index where the command asks for them, and
 /// for the answer; for that of `Lines`, `Canon` and `Tidy` only for what it has that the file has not, and for the last two for
@@ -60,7 +61,7 @@ pub fn run_as<R: Source, W: Sink>(
     reader: &mut R,
     writer: &mut W,
 ) -> Outcome
-    requires limit { limit ≤ 1073741824 }
+    requires limit { limit ≤ greatest_limit }
     requires unread { R.reads reader.old ≡ 0 }
     requires no_failure { (R.failed reader.old ≡ false) × (W.failed writer.old ≡ false) }
     ensures devices { TellsDevices limit (R.reads reader.new) (R.failed reader.new) (W.failed writer.new) result }
@@ -81,7 +82,7 @@ pub fn run_told<R: Source, W: Sink>(
     reader: &mut R,
     writer: &mut W,
 ) -> Told
-    requires limit { limit ≤ 1073741824 }
+    requires limit { limit ≤ greatest_limit }
     requires unread { R.reads reader.old ≡ 0 }
     requires no_failure { (R.failed reader.old ≡ false) × (W.failed writer.old ≡ false) }
     ensures devices { TellsDevices limit (R.reads reader.new) (R.failed reader.new) (W.failed writer.new) result.outcome }
@@ -107,7 +108,7 @@ pub(crate) fn read_whole<R: Source>(
     limit: u64,
     reader: &mut R,
 ) -> Result<Vec<u8>, Fault>
-    requires limit { limit ≤ 1073741824 }
+    requires limit { limit ≤ greatest_limit }
     requires unread { R.reads reader.old ≡ 0 }
     requires no_failure { R.failed reader.old ≡ false }
     ensures calls { R.reads reader.new ≤ limit + 1 }

@@ -9,7 +9,8 @@ use std::alloc::Global;
 pub struct Told {
     /// How the run ended.
     pub outcome: Outcome,
-    /// The bytes of the file of which the outcome tells, as they came; none where no file came whole.
+    /// The bytes of the file of which the outcome tells, as they came; none where no file came whole, nor where two files were
+    /// compared and neither has a fault.
     pub bytes: Vec<u8>,
 }
 

@@ -1,6 +1,7 @@
 // One run over two files: read both, judge both, write whether they are the same.
 ghost use Rattle.std.specs.Prelude.{◌≡◌, ◌≤◌, Some, false};
-ghost use Rattle.ged_tool.specs.Profiles.{profile_of, edition_of};
+ghost use Rattle.ged_tool.specs.Limits.{greatest_limit};
+ghost use Rattle.ged_tool.specs.Settings.{profile_of, edition_of};
 ghost use Rattle.ged_tool.specs.RunDevices.{TellsThreeDevices};
 ghost use Rattle.ged_tool.specs.Same.{relation_of};
 ghost use Rattle.ged_tool.specs.SameRun.{IsSameRun, same_line as line_of_same};
@@ -27,7 +28,7 @@ pub fn run_same<R: Source, S: Source, W: Sink>(
     second: &mut S,
     writer: &mut W,
 ) -> Outcome
-    requires limit { limit ≤ 1073741824 }
+    requires limit { limit ≤ greatest_limit }
     requires unread { (R.reads first.old ≡ 0) × (S.reads second.old ≡ 0) }
     requires no_failure { (R.failed first.old ≡ false) × (S.failed second.old ≡ false) × (W.failed writer.old ≡ false) }
     ensures devices { TellsThreeDevices limit (R.reads first.new) (S.reads second.new)
@@ -63,7 +64,7 @@ pub fn run_same_as<R: Source, S: Source, W: Sink>(
     second: &mut S,
     writer: &mut W,
 ) -> Outcome
-    requires limit { limit ≤ 1073741824 }
+    requires limit { limit ≤ greatest_limit }
     requires unread { (R.reads first.old ≡ 0) × (S.reads second.old ≡ 0) }
     requires no_failure { (R.failed first.old ≡ false) × (S.failed second.old ≡ false) × (W.failed writer.old ≡ false) }
     ensures devices { TellsThreeDevices limit (R.reads first.new) (S.reads second.new)
@@ -88,7 +89,7 @@ pub fn run_same_told<R: Source, S: Source, W: Sink>(
     second: &mut S,
     writer: &mut W,
 ) -> Told
-    requires limit { limit ≤ 1073741824 }
+    requires limit { limit ≤ greatest_limit }
     requires unread { (R.reads first.old ≡ 0) × (S.reads second.old ≡ 0) }
     requires no_failure { (R.failed first.old ≡ false) × (S.failed second.old ≡ false) × (W.failed writer.old ≡ false) }
     ensures devices { TellsThreeDevices limit (R.reads first.new) (S.reads second.new)

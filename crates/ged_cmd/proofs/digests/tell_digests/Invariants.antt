@@ -1,6 +1,6 @@
 use Rattle.std.proofs.Common.{◌≡◌, false, count_by, take}
 use Rattle.std.specs.Io.KnownBytes.{Keeps}
-use Rattle.ged_tool.specs.Profiles.{profile_of, edition_of}
+use Rattle.ged_tool.specs.Settings.{profile_of, edition_of}
 use Rattle.ged_faults.specs.declared.faults.Outcome.TheVariants.{Done}
 use Rattle.ged_cmd.specs.Program.{AreDigested, reader, writer}
 use Rattle.ged_cmd.specs.Tasks.{is_input}

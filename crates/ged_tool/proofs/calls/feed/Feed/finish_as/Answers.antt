@@ -1,6 +1,6 @@
 use Rattle.std.proofs.Common.{ap, subst}
 use Rattle.ged_line.specs.Bytes.{Bytes}
-use Rattle.ged_tool.specs.Profiles.{profile_of}
+use Rattle.ged_tool.specs.Settings.{profile_of}
 use Rattle.ged_accept.specs.Accepted.{FileFaultAt, IsRefusal}
 use Rattle.ged_tool.specs.Fed.{Fed}
 use Rattle.ged_tool.proofs.calls.Feeding.{refusal_of}
