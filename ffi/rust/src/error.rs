@@ -94,7 +94,7 @@ file_faults! {
     Missing = 23,
     /// A person names a family that does not name the person, or the other way round.
     OneWayLink = 28,
-    /// A tag of the standard stands where the standard does not list it.
+    /// A tag that does not begin with _ stands where the structure tables do not list it.
     UnlistedTag = 29,
 }
 

@@ -3,7 +3,7 @@
 //! `GEDTOOL_PROGRAM` names the program; where it does not, it is the one that is built in the repository, and if there is none nothing
 //! is compared.
 
-use gedtool::{canon, check, lines, same, show, Error, FileFault, Settings};
+use gedtool::{canon, check, digest, lines, same, show, Error, FileFault, Settings};
 use std::path::{Path, PathBuf};
 use std::process::Command;
 use std::{env, fs};
@@ -44,6 +44,13 @@ fn check_text(file: &[u8], settings: Settings) -> Result<Vec<u8>, Error> {
     Ok((rows + "accepted\n").into_bytes())
 }
 
+/// The line of a digest, as the program writes it.
+fn digest_line(file: &[u8], settings: Settings, name: &str) -> Result<Vec<u8>, String> {
+    let digest = digest(file, settings).map_err(|error| format!("{name}: {error}"))?;
+    let digits: String = digest.iter().map(|byte| format!("{byte:02x}")).collect();
+    Ok(format!("{digits}  {name}\n").into_bytes())
+}
+
 /// All settings, each with the words by which the program is told of it.
 fn all_settings() -> [(Settings, &'static [&'static str]); 4] {
     let new = Settings::new();
@@ -57,9 +64,8 @@ fn all_settings() -> [(Settings, &'static [&'static str]); 4] {
 
 #[test]
 fn explanations() {
-    let program = match program() {
-        Some(program) => program,
-        None => return eprintln!("skipped: the program is not built"),
+    let Some(program) = program() else {
+        return eprintln!("skipped: the program is not built");
     };
     let of_files = FileFault::ALL.iter().map(|&kind| Error::InFile { line: 1, kind });
     for error in of_files.chain([Error::TooLong, Error::Memory]) {
@@ -73,9 +79,8 @@ fn explanations() {
 
 #[test]
 fn one_file() {
-    let program = match program() {
-        Some(program) => program,
-        None => return eprintln!("skipped: the program is not built"),
+    let Some(program) = program() else {
+        return eprintln!("skipped: the program is not built");
     };
     for path in examples() {
         let file = fs::read(&path).unwrap();
@@ -85,6 +90,8 @@ fn one_file() {
         for (settings, flags) in all_settings() {
             let canonical = canon(&file, settings).map_err(|error| error.to_string());
             assert_eq!(canonical, answers("canon", flags), "{name}: canon {flags:?}");
+            let line = digest_line(&file, settings, &name.to_string());
+            assert_eq!(line, answers("digest", flags), "{name}: digest {flags:?}");
             // the editions differ in the canonical spelling alone
             let flags: Vec<_> = flags.iter().copied().filter(|&flag| flag != "--second").collect();
             let notices = check_text(&file, settings).map_err(|error| error.to_string());
@@ -97,9 +104,8 @@ fn one_file() {
 
 #[test]
 fn two_files() {
-    let program = match program() {
-        Some(program) => program,
-        None => return eprintln!("skipped: the program is not built"),
+    let Some(program) = program() else {
+        return eprintln!("skipped: the program is not built");
     };
     for one in examples() {
         for other in examples() {

@@ -64,7 +64,8 @@ fn refuse_each<T: PartialEq + Debug>(call: &dyn Fn() -> T, is_want_of_memory: &d
     for refused in 1..=requests {
         let (answer, _) = made(call, refused);
         assert!(is_want_of_memory(&answer), "request {refused} of {requests}: {answer:?}");
-        assert_eq!(made(call, 0), (call(), requests));
+        let (again, count) = made(call, 0);
+        assert_eq!((&again, count), (&wanted, requests), "after request {refused} of {requests}");
     }
     assert_eq!(made(call, requests + 1), (wanted, requests));
 }
@@ -98,9 +99,8 @@ fn respelt(file: &[u8]) -> Vec<u8> {
 
 /// Whether some request of the call, refused, is told as want of memory for this file.
 fn is_named(call: &dyn Fn() -> Result<bool, SameError>, which: Which) -> bool {
-    (1..=made(call, 0).1).any(|refused| {
-        made(call, refused).0.is_err_and(|told| told.which == which && told.error == Error::Memory)
-    })
+    (1..=made(call, 0).1)
+        .any(|refused| made(call, refused).0.is_err_and(|told| told.which == which && told.error == Error::Memory))
 }
 
 #[test]
