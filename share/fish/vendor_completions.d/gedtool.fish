@@ -45,7 +45,7 @@ complete -c gedtool -n __gedtool_takes_command -a digest -d 'Write the digest of
 complete -c gedtool -n __gedtool_takes_command -a help -d 'Print this message or the help of the given subcommand(s)'
 
 complete -c gedtool -n '__gedtool_command check show canon same digest' -l strict -d 'Refuse a file that has a notice'
-complete -c gedtool -n '__gedtool_command canon same digest' -l second -d 'Also leave out leading zeros of dates, ages and counts'
+complete -c gedtool -n '__gedtool_command canon same digest' -l second -d 'Use the second edition, which leaves out leading zeros too'
 complete -c gedtool -n '__gedtool_command canon same' -l keep-names -d 'Leave identifiers as they are'
 complete -c gedtool -n '__gedtool_command lines show canon' -r -F -s o -l output -d 'Write the answer to this file, whole or not at all'
 complete -c gedtool -n '__gedtool_command lines check show canon same digest' -l explain -d 'Explain a fault, and the notices of check, on standard error'
