@@ -15,14 +15,14 @@ row_word None = codes "-"
 row_word (Some r) = kind_word r.kind
 
 -- the line of a structure at this level with this tag and row
-abbrev pub shown_line : ℕ → Bytes → Option Row → Bytes
-shown_line level tag r = decimal level ++ space ∷ (tag ++ space ∷ (row_word r ++ line_feed ∷ []))
+abbrev pub structure_line : ℕ → Bytes → Option Row → Bytes
+structure_line level tag r = decimal level ++ space ∷ (tag ++ space ∷ (row_word r ++ line_feed ∷ []))
 
 -- the lines of trees that stand at this level and in this context, each structure's before those of what stands below it
 abbrev pub shown : ℕ → Context → Trees → Bytes
 shown level context none = []
 shown level context (tree s below next) =
-    shown_line level s.tag (row context s.tag)
+    structure_line level s.tag (row context s.tag)
     ++ (shown (level + 1) (context_below context s.tag) below ++ shown level context next)
 
 -- the text shows the document; TRLR, which is no structure of it, has no line

@@ -1,8 +1,8 @@
 // A line for each structure of a document, with what the structure tables ask of its payload.
 ghost use Rattle.std.specs.Prelude.{◌≡◌, ◌≤◌, ◌+◌, ◌++◌, OnOk, IfOk, option_map};
-ghost use Rattle.ged_tree.specs.Runs.{IsRun, trees_between};
+ghost use Rattle.ged_tree.specs.Runs.{IsRunOfTrees, trees_between};
 ghost use Rattle.ged_schema.specs.Rows.{as_row};
-ghost use Rattle.ged_accept.specs.Shown.{row_word as word_of_row, shown_line, shown, IsShown};
+ghost use Rattle.ged_accept.specs.Shown.{row_word as word_of_row, structure_line, shown, IsShown};
 
 use crate::accepted::Accepted;
 use ged_schema::{Context, Rule, context_below, lookup_name};
@@ -27,7 +27,7 @@ fn push_line(
     rule: Option<Rule>,
     out: &mut Vec<u8>,
 ) -> Result<(), AllocError>
-    ensures { OnOk result (out.new.items ≡ out.old.items ++ shown_line level tag.now (option_map as_row rule)) }
+    ensures { OnOk result (out.new.items ≡ out.old.items ++ structure_line level tag.now (option_map as_row rule)) }
 {
     let mut buffer = Buffer::new();
     out.extend_from_slice(buffer.format(level).as_bytes())?;
@@ -48,7 +48,7 @@ fn push_shown<F: Forest>(
     end: usize,
     out: &mut Vec<u8>,
 ) -> Result<(), AllocError>
-    requires run { IsRun (F.trees forest.now) start end }
+    requires run { IsRunOfTrees (F.trees forest.now) start end }
     requires level { level ≤ start }
     ensures { OnOk result (out.new.items ≡ out.old.items
         ++ shown level context (trees_between (F.trees forest.now) start end)) }

@@ -6,7 +6,7 @@ use Rattle.ged_line.specs.Spelling.{LineText, spelling, spelled_lines}
 use Rattle.ged_line.specs.Pieces.{IsEnd, IsBehindMark}
 use Rattle.ged_line.specs.Files.{SpellLines, IsRespelling}
 use Rattle.ged_tool.specs.declared.runs.answer.Command.TheVariants.{Lines}
-use Rattle.ged_c.specs.Calls.{IsCall, Means, length_of}
+use Rattle.ged_c.specs.Calls.{IsCall, EndMeans, length_of}
 use Rattle.ged_c.specs.declared.answering.Ended.{Ended}
 use Rattle.ged_c.specs.declared.answering.Ended.TheVariants.{Answered, NoRoom, Refused, BadSettings, NotFound}
 
@@ -40,7 +40,7 @@ pub respelling_fits : (file text : Bytes) → IsRespelling file text → length 
 respelling_fits file text (lines, (bytes, mark, spell), is) =
     let size = ap (λ (bs : Bytes). length bs) is in omega (arith, size, behind_few file bytes mark, lines_fit lines bytes spell)
 
-means_short : (settings : ℕ) (file before after : Bytes) (ended : Ended) → Means Lines settings file before after ended → length_of ended ≤ length file + 4
+means_short : (settings : ℕ) (file before after : Bytes) (ended : Ended) → EndMeans Lines settings file before after ended → length_of ended ≤ length file + 4
 means_short settings file before after (Answered count) (profile, edition, is, (within, (text, answers, put))) =
     let fits = respelling_fits file text answers in omega (arith, put.0, fits)
 means_short settings file before after (NoRoom count) (profile, edition, is, (within, (text, answers, put))) =

@@ -3,7 +3,7 @@ use Rattle.std.proofs.Common.{◌≡◌, ℕ, ◌+◌, ◌<◌, List, ◌∷◌,
 use Rattle.std.proofs.Math.Seq.{drop-append-add}
 use Rattle.std.proofs.lemmas.List.{drop_more}
 use Rattle.ged_line.specs.Bytes.{Bytes}
-use Rattle.ged_line.specs.Files.{joined}
+use Rattle.ged_line.specs.Files.{joined_parts}
 use Rattle.ged_line.specs.declared.file.spelled_part.SpelledPart.{SpelledPart}
 
 -- a text stands at the front of a room, and what was after it has stayed
@@ -27,13 +27,13 @@ put_after text more place before now after f put =
 -- so many parts were put there
 pub record HasPut (parts : List SpelledPart) (count place : ℕ) (before now : Bytes) : Type 0 where
   pub text : Bytes
-  pub split : joined parts ≡ text ++ joined (drop count parts)
+  pub split : joined_parts parts ≡ text ++ joined_parts (drop count parts)
   pub front : IsAtFront text place before now
 
 pub next_part : (parts : List SpelledPart) (count : ℕ) (part : SpelledPart) → count < length parts → part ≡ get_or parts count part
-    → joined (drop count parts) ≡ (part.made.items ++ part.kept.now) ++ joined (drop (count + 1) parts)
+    → joined_parts (drop count parts) ≡ (part.made.items ++ part.kept.now) ++ joined_parts (drop (count + 1) parts)
 next_part parts count part within is =
-    ap joined (drop_more parts count part within ∙ ap (λ p. p ∷ drop (count + 1) parts) (sym is)) ∙ sym (append_assoc part.made.items part.kept.now (joined (drop (count + 1) parts)))
+    ap joined_parts (drop_more parts count part within ∙ ap (λ p. p ∷ drop (count + 1) parts) (sym is)) ∙ sym (append_assoc part.made.items part.kept.now (joined_parts (drop (count + 1) parts)))
 
 -- what was put, with one part more
 module _ (parts : List SpelledPart) (count place : ℕ) (part : SpelledPart) (before now : Bytes) (within : count < length parts) (is : part ≡ get_or parts count part) (h : HasPut parts count place before now) where
@@ -44,9 +44,9 @@ module _ (parts : List SpelledPart) (count place : ℕ) (part : SpelledPart) (be
   kept = part.kept.now
 
   rest : Bytes
-  rest = joined (drop (count + 1) parts)
+  rest = joined_parts (drop (count + 1) parts)
 
-  split : joined parts ≡ ((h.text ++ made) ++ kept) ++ rest
+  split : joined_parts parts ≡ ((h.text ++ made) ++ kept) ++ rest
   unfolding made kept rest
   split =
       h.split ∙ ap (λ x. h.text ++ x) (next_part parts count part within is) ∙ sym (append_assoc h.text (made ++ kept) rest)
@@ -75,8 +75,8 @@ module _ (parts : List SpelledPart) (count place : ℕ) (part : SpelledPart) (be
 
 -- what is left of parts, counted
 pub next_size : (parts : List SpelledPart) (count : ℕ) (part : SpelledPart) → count < length parts → part ≡ get_or parts count part
-    → length (joined (drop count parts)) ≡ (length part.made.items + length part.kept.now) + length (joined (drop (count + 1) parts))
+    → length (joined_parts (drop count parts)) ≡ (length part.made.items + length part.kept.now) + length (joined_parts (drop (count + 1) parts))
 next_size parts count part within is =
     ap (λ (bs : Bytes). length bs) (next_part parts count part within is)
-    ∙ length-append (part.made.items ++ part.kept.now) (joined (drop (count + 1) parts))
-    ∙ ap (λ n. n + length (joined (drop (count + 1) parts))) (length-append part.made.items part.kept.now)
+    ∙ length-append (part.made.items ++ part.kept.now) (joined_parts (drop (count + 1) parts))
+    ∙ ap (λ n. n + length (joined_parts (drop (count + 1) parts))) (length-append part.made.items part.kept.now)

@@ -15,12 +15,12 @@ use Rattle.ged_c.specs.declared.answering.Ended.{Ended}
 use Rattle.ged_c.specs.declared.answering.Ended.TheVariants.{Answered, NoRoom, Refused, BadSettings, NotFound}
 
 -- the status by which C is told how a call ended: 0, or the number of a fault, or one above all of them
-abbrev pub status_of : Ended → ℕ
-status_of (Answered length) = 0
-status_of (NoRoom length) = 64
-status_of (Refused fault) = fault_number fault
-status_of BadSettings = 65
-status_of NotFound = 66
+abbrev pub call_status : Ended → ℕ
+call_status (Answered length) = 0
+call_status (NoRoom length) = 64
+call_status (Refused fault) = fault_number fault
+call_status BadSettings = 65
+call_status NotFound = 66
 
 -- the length of the answer, where there is one
 abbrev pub length_of : Ended → ℕ
@@ -73,16 +73,16 @@ MeansAs profile edition command file before after BadSettings = ⊥
 MeansAs profile edition command file before after NotFound = ⊥
 
 -- What one end of a call means: for the number of its settings, the file's bytes, and those of the room before it and after it.
-abbrev pub Means : Command → ℕ → Bytes → Bytes → Bytes → Ended → Type 0
-Means command settings file before after BadSettings = (last_settings < settings) × (after ≡ before)
-Means command settings file before after ended =
+abbrev pub EndMeans : Command → ℕ → Bytes → Bytes → Bytes → Ended → Type 0
+EndMeans command settings file before after BadSettings = (last_settings < settings) × (after ≡ before)
+EndMeans command settings file before after ended =
     (profile : Profile) × (edition : Edition) × (settings ≡ settings_number profile edition)
     × MeansAs profile edition command file before after ended
 
 -- A call on one file: it ended so, and the status, the length and the line are what tells it.
 pub record IsCall (command : Command) (settings : ℕ) (file before after : Bytes) (status answer_length line : ℕ) : Type 0 where
   pub ended : Ended
-  pub means : Means command settings file before after ended
-  pub status_tells : status ≡ status_of ended
+  pub means : EndMeans command settings file before after ended
+  pub status_tells : status ≡ call_status ended
   pub length_tells : answer_length ≡ length_of ended
   pub line_tells : line ≡ line_of ended

@@ -52,17 +52,17 @@ TellsOfTwo profile first second Second TooLong = (length first ≤ greatest_limi
 TellsOfTwo profile first second which fault = AreWithin first second × IsSameRefusal profile first second which fault
 
 -- What one end of a comparison means, for the number of its settings and the bytes of both files.
-abbrev pub SameMeans : ℕ → Bytes → Bytes → Compared → Type 0
-SameMeans settings first second (Known same) = AreWithin first second
+abbrev pub ComparisonMeans : ℕ → Bytes → Bytes → Compared → Type 0
+ComparisonMeans settings first second (Known same) = AreWithin first second
     × ((profile : Profile) × (edition : Edition) × (settings ≡ settings_number profile edition) × AreCompared profile edition first second same)
-SameMeans settings first second (Refused which fault) =
+ComparisonMeans settings first second (Refused which fault) =
     (profile : Profile) × (edition : Edition) × (settings ≡ settings_number profile edition) × TellsOfTwo profile first second which fault
-SameMeans settings first second BadSettings = last_settings < settings
+ComparisonMeans settings first second BadSettings = last_settings < settings
 
 -- A call on two files: it ended so, and the status and the three numbers are what tells it.
 pub record IsComparison (settings : ℕ) (first second : Bytes) (status same which line : ℕ) : Type 0 where
   pub compared : Compared
-  pub means : SameMeans settings first second compared
+  pub means : ComparisonMeans settings first second compared
   pub status_tells : status ≡ same_status compared
   pub same_tells : same ≡ same_flag compared
   pub which_tells : which ≡ which_number compared

@@ -7,7 +7,7 @@ use Rattle.ged_tool.specs.Digest.{IsDigest}
 use Rattle.ged_tool.specs.declared.runs.answer.Command.TheVariants.{Canon}
 use Rattle.ged_tool.specs.Limits.{greatest_limit}
 use Rattle.ged_c.specs.Settings.{settings_number, last_settings}
-use Rattle.ged_c.specs.Calls.{IsPut, TellsOf, status_of, line_of}
+use Rattle.ged_c.specs.Calls.{IsPut, TellsOf, call_status, line_of}
 use Rattle.ged_c.specs.declared.answering.Ended.{Ended}
 use Rattle.ged_c.specs.declared.answering.Ended.TheVariants.{Answered, NoRoom, Refused, BadSettings, NotFound}
 
@@ -31,5 +31,5 @@ DigestMeans settings file before after ended =
 pub record IsDigestCall (settings : ℕ) (file before after : Bytes) (status line : ℕ) : Type 0 where
   pub ended : Ended
   pub means : DigestMeans settings file before after ended
-  pub status_tells : status ≡ status_of ended
+  pub status_tells : status ≡ call_status ended
   pub line_tells : line ≡ line_of ended

@@ -2,7 +2,7 @@
 ghost use Rattle.std.specs.Prelude.{◌≡◌, ◌≤◌, length};
 ghost use Rattle.ged_tool.specs.Settings.{profile_of, edition_of};
 ghost use Rattle.ged_tool.specs.Limits.{greatest_limit};
-ghost use Rattle.ged_c.specs.Calls.{IsPut, Means, MeansAs, IsCall, status_of, length_of, line_of, line_of_fault as line_told};
+ghost use Rattle.ged_c.specs.Calls.{IsPut, EndMeans, MeansAs, IsCall, call_status, length_of, line_of, line_of_fault as line_told};
 
 use crate::respelling::respell_into;
 use crate::settings::{is_too_long, settings_of};
@@ -36,7 +36,7 @@ pub enum Ended {
 impl Ended {
     /// The status by which C is told.
     pub fn status(&self) -> u32
-        ensures { result ≡ status_of self.now }
+        ensures { result ≡ call_status self.now }
     {
         match self {
             Ended::Answered(_) => 0,
@@ -104,7 +104,7 @@ fn answer_into(
     file: &[u8],
     room: &mut [u8],
 ) -> Ended
-    ensures { Means command settings file.now room.old room.new result }
+    ensures { EndMeans command settings file.now room.old room.new result }
 {
     let Some(settings) = settings_of(settings) else {
         return Ended::BadSettings;

@@ -1,6 +1,6 @@
 // Whether two files say the same, told by numbers.
 ghost use Rattle.std.specs.Prelude.{◌≡◌};
-ghost use Rattle.ged_c.specs.Comparisons.{SameMeans, same_status, same_flag, which_number, same_line_of};
+ghost use Rattle.ged_c.specs.Comparisons.{ComparisonMeans, same_status, same_flag, which_number, same_line_of};
 
 use crate::answering::{BAD_SETTINGS, line_of_fault};
 use crate::settings::{is_too_long, settings_of};
@@ -64,7 +64,7 @@ impl Compared {
 
 /// Compares two files. Grows.
 pub(crate) fn compare(alloc: Global, settings: u32, first: &[u8], second: &[u8]) -> Compared
-    ensures { SameMeans settings first.now second.now result }
+    ensures { ComparisonMeans settings first.now second.now result }
 {
     let Some(settings) = settings_of(settings) else {
         return Compared::BadSettings;

@@ -1,7 +1,7 @@
 // The name of a fault, and what it means, by its number: in a room that the caller hands.
 ghost use Rattle.std.specs.Prelude.{◌≡◌, ◌<◌, None, IfSome, option_map};
 ghost use Rattle.std.specs.Option.{option_copied};
-ghost use Rattle.ged_explain.specs.Names.{as_named, named_faults, numbered};
+ghost use Rattle.ged_explain.specs.Names.{as_named, named_faults, with_number};
 ghost use Rattle.ged_c.specs.Texts.{NameMeans, PartMeans, last_part, part_number, part_text};
 
 use crate::answering::{Ended, put};
@@ -44,7 +44,7 @@ fn text_of(part: Part, meaning: &Meaning) -> &'static str
 
 /// What the fault with a number means, or `None` where no fault has it. C may hand any number. Takes no memory.
 fn meaning_of(fault: u32) -> Option<&'static Meaning>
-    ensures { option_map as_named (option_copied result) ≡ numbered fault named_faults }
+    ensures { option_map as_named (option_copied result) ≡ with_number fault named_faults }
 {
     let Ok(number) = u8::try_from(fault) else {
         return None;

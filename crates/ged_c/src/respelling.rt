@@ -1,6 +1,6 @@
 // The lines of a file, put into the room part by part: the answer stands nowhere else as a whole.
 ghost use Rattle.std.specs.Prelude.{◌≡◌, ◌≤◌, ◌+◌, ◌++◌, length, take, drop};
-ghost use Rattle.ged_line.specs.Files.{joined};
+ghost use Rattle.ged_line.specs.Files.{joined_parts};
 ghost use Rattle.ged_schema.specs.declared.profile.Profile.{Profile};
 ghost use Rattle.ged_canon.specs.declared.edition.Edition.{Edition};
 ghost use Rattle.ged_tool.specs.declared.runs.answer.Command.{Command};
@@ -33,8 +33,8 @@ pub(crate) fn respell_into(alloc: Global, file: &[u8], room: &mut [u8]) -> Ended
 
 /// Puts parts at the front of the room, one after the other, if it has room for all of them. Takes no memory.
 fn put_parts(parts: &[SpelledPart<'_>], room: &mut [u8]) -> Ended
-    requires { length (joined parts.now) ≤ greatest_limit + 4 }
-    ensures { IsPut (joined parts.now) room.old room.new result }
+    requires { length (joined_parts parts.now) ≤ greatest_limit + 4 }
+    ensures { IsPut (joined_parts parts.now) room.old room.new result }
 {
     let length = length_of(parts);
     if length > room.len() {
@@ -50,8 +50,8 @@ fn put_parts(parts: &[SpelledPart<'_>], room: &mut [u8]) -> Ended
 
 /// The bytes of parts, counted. Takes no memory.
 fn length_of(parts: &[SpelledPart<'_>]) -> usize
-    requires { length (joined parts.now) ≤ greatest_limit + 4 }
-    ensures { result ≡ length (joined parts.now) }
+    requires { length (joined_parts parts.now) ≤ greatest_limit + 4 }
+    ensures { result ≡ length (joined_parts parts.now) }
 {
     let mut length = 0usize;
     for part in parts {

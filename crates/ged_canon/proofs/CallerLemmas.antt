@@ -5,7 +5,7 @@ use Rattle.ged_tree.specs.Documents.{is_document}
 use Rattle.ged_link.specs.Links.{Resolved}
 use Rattle.ged_schema.specs.Checked.{Checked}
 use Rattle.ged_schema.specs.Profiles.{NoNotice}
-use Rattle.ged_canon.specs.Laws.{NormalFormIsUnique, IsKept, EquivalentIsSymmetric, EquivalentIsTransitive, EditionsAgree, SecondIsNormalInFirst}
+use Rattle.ged_canon.specs.Laws.{NormalFormIsUnique, IsKeptBySteps, EquivalentIsSymmetric, EquivalentIsTransitive, EditionsAgree, SecondIsNormalInFirst}
 use Rattle.ged_canon.specs.TidyLaws.{TidyFormIsUnique, InPlaceIsSymmetric, InPlaceIsTransitive, InPlaceIsEquivalent, NormalFormOfTidy}
 use Rattle.ged_canon.proofs.theory.Chains.{both, back, kept}
 use Rattle.ged_canon.proofs.theory.Editions as editions
@@ -26,16 +26,16 @@ transitive edition d e f h k = both h k
 pub normal_form_is_unique : NormalFormIsUnique
 normal_form_is_unique = normal.unique
 
-pub document_kept : IsKept (λ d. is_document d ≡ true)
+pub document_kept : IsKeptBySteps (λ d. is_document d ≡ true)
 document_kept edition d e h p = ends_in_document d e p h
 
-pub resolved_kept : IsKept Resolved
+pub resolved_kept : IsKeptBySteps Resolved
 resolved_kept edition d e h = kept Resolved (step_resolved edition) h
 
-pub checked_kept : IsKept Checked
+pub checked_kept : IsKeptBySteps Checked
 checked_kept edition d e h = kept Checked (step_checked edition) h
 
-pub no_notice_kept : IsKept NoNotice
+pub no_notice_kept : IsKeptBySteps NoNotice
 no_notice_kept edition d e h = kept NoNotice (step_no_notice edition) h
 
 pub one_second : EditionsAgree

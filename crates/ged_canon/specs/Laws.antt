@@ -22,8 +22,8 @@ abbrev pub EqualNormalForms : Type 0
 EqualNormalForms = (edition : Edition) (d e m n : Trees) → IsNormalForm edition d m → IsNormalForm edition e n → (m ≡ n) ↔ Equivalent edition d e
 
 -- what holds of a document holds of each that it becomes by steps
-abbrev pub IsKept : (Trees → Type 0) → Type 0
-IsKept P = (edition : Edition) (d e : Trees) → Equivalent edition d e → P d → P e
+abbrev pub IsKeptBySteps : (Trees → Type 0) → Type 0
+IsKeptBySteps P = (edition : Edition) (d e : Trees) → Equivalent edition d e → P d → P e
 
 -- what a document becomes by steps becomes that document by steps
 abbrev pub EquivalentIsSymmetric : Type 0

@@ -19,7 +19,7 @@ use Rattle.ged_schema.specs.declared.context.Context.{Context}
 use Rattle.ged_schema.specs.declared.context.Context.TheVariants.{File}
 use Rattle.ged_schema.specs.Rows.{Row}
 use Rattle.ged_schema.specs.Tables.{row, context_below}
-use Rattle.ged_schema.specs.Payloads.{Fits}
+use Rattle.ged_schema.specs.Payloads.{FitsRow}
 use Rattle.ged_canon.specs.declared.edition.Edition.{Edition}
 use Rattle.ged_canon.specs.declared.edition.Edition.TheVariants.{Second}
 
@@ -44,7 +44,7 @@ pub data Shortened (edition : Edition) (r : Option Row) (longer shorter : Bytes)
 
 -- a payload of one line is shortened, and both lines are of the row's kind
 pub data Respelt (edition : Edition) (r : Option Row) : Payload → Payload → Type 0 where
-  respelt : (longer shorter : Bytes) → Shortened edition r longer shorter → Fits r (Text (longer ∷ [])) → Fits r (Text (shorter ∷ []))
+  respelt : (longer shorter : Bytes) → Shortened edition r longer shorter → FitsRow r (Text (longer ∷ [])) → FitsRow r (Text (shorter ∷ []))
       → Respelt edition r (Text (longer ∷ [])) (Text (shorter ∷ []))
 
 -- Changes at one place.

@@ -5,7 +5,7 @@ ghost use Rattle.ged_tree.specs.Documents.{is_document};
 ghost use Rattle.ged_link.specs.Links.{IsAmong, xrefs, IsNamed, Resolved};
 ghost use Rattle.ged_schema.specs.Checked.{Checked};
 ghost use Rattle.ged_schema.specs.Profiles.{NoNotice};
-ghost use Rattle.ged_canon.specs.Laws.{NormalFormIsUnique, NormalFormExists, EqualNormalForms, IsKept, EquivalentIsSymmetric, EquivalentIsTransitive, StepIsUndone, StepKeeps, EditionsAgree, SecondIsNormalInFirst};
+ghost use Rattle.ged_canon.specs.Laws.{NormalFormIsUnique, NormalFormExists, EqualNormalForms, IsKeptBySteps, EquivalentIsSymmetric, EquivalentIsTransitive, StepIsUndone, StepKeeps, EditionsAgree, SecondIsNormalInFirst};
 ghost use Rattle.ged_canon.specs.TidyLaws.{TidyFormIsUnique, TidyFormExists, EqualTidyForms, PlaceStepIsUndone, InPlaceIsSymmetric, InPlaceIsTransitive, InPlaceIsEquivalent, IsKeptInPlace, NormalFormOfTidy, NormalIsTidy, TidyEditionsAgree, SecondIsTidyInFirst};
 
 /// Two normal documents of which one becomes the other by steps are equal.
@@ -20,10 +20,10 @@ pub fn normal_form_exists()
 
 /// What a document becomes by steps is a document, resolved, checked and without notices where it was.
 pub fn normal_form_is_accepted()
-    ensures document { IsKept (λ d. is_document d ≡ true) }
-    ensures resolved { IsKept Resolved }
-    ensures checked { IsKept Checked }
-    ensures no_notice { IsKept NoNotice }
+    ensures document { IsKeptBySteps (λ d. is_document d ≡ true) }
+    ensures resolved { IsKeptBySteps Resolved }
+    ensures checked { IsKeptBySteps Checked }
+    ensures no_notice { IsKeptBySteps NoNotice }
 {}
 
 /// The normal forms of two documents are equal exactly when one document becomes the other by steps.

@@ -1,6 +1,6 @@
 // Whether a document is normal.
 ghost use Rattle.std.specs.Prelude.{◌<◌, ◌↔◌, Some, IsTrue, ◌≡◌};
-ghost use Rattle.ged_tree.specs.Runs.{IsRun, trees_between};
+ghost use Rattle.ged_tree.specs.Runs.{IsRunOfTrees, trees_between};
 ghost use Rattle.ged_link.specs.Indexes.{IsIndexOf};
 ghost use Rattle.ged_canon.specs.declared.edition.Edition.TheVariants.{First};
 ghost use Rattle.ged_canon.specs.Normal.{AreNormal, Normal, numbered};
@@ -23,7 +23,7 @@ fn are_normal<F: Forest>(
     start: usize,
     end: usize,
 ) -> bool
-    requires { IsRun (F.trees forest.now) start end }
+    requires { IsRunOfTrees (F.trees forest.now) start end }
     ensures { IsTrue result ↔ AreNormal edition context (trees_between (F.trees forest.now) start end) }
 {
     let mut place = start;
@@ -88,7 +88,7 @@ pub(crate) fn have_own_numbers<F: Forest>(
     start: usize,
     end: usize,
 ) -> bool
-    requires run { IsRun (F.trees forest.now) start end }
+    requires run { IsRunOfTrees (F.trees forest.now) start end }
     requires index { IsIndexOf (F.trees forest.now) index.now }
     ensures { IsTrue result ↔ HaveOwnNumbers (F.trees forest.now) 1 0 (trees_between (F.trees forest.now) start end) }
 {

@@ -2,7 +2,7 @@
 ghost use Rattle.std.specs.Prelude.{◌≡◌, None, IfOk, IfErr};
 ghost use Rattle.ged_line.specs.Files.{FileText};
 ghost use Rattle.ged_tree.specs.Documents.{HasLines};
-ghost use Rattle.ged_tree.specs.TreeFaults.{FirstFault};
+ghost use Rattle.ged_tree.specs.TreeFaults.{FirstTreeFault};
 ghost use Rattle.ged_tree.specs.declared.fault.TreeFault.TheVariants.{Line};
 ghost use Rattle.ged_tree.specs.Building.{IsBuildFault};
 ghost use Rattle.ged_document.specs.Building.{TellsBuild};
@@ -25,7 +25,7 @@ fn fault_of_stop(stop: LineAt) -> TreeAt
 
 /// The first fault of lines and of where reading them stopped, by the first of the lines alone.
 fn first_fault(at: TreeAt, lines: &Lines) -> TreeAt
-    requires { FirstFault lines.now.lines.items at.line at.fault }
+    requires { FirstTreeFault lines.now.lines.items at.line at.fault }
     ensures { IsBuildFault lines.now.lines.items lines.now.stop result.line result.fault }
 {
     match lines.stop {

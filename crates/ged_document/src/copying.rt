@@ -7,7 +7,7 @@ ghost use Rattle.ged_tree.specs.Trees.{trees_of, trees_count, further_lines};
 ghost use Rattle.ged_tree.specs.Documents.{are_at, is_payload_at};
 ghost use Rattle.ged_tree.specs.Places.{structure_at};
 ghost use Rattle.ged_document.specs.Records.{record_trees};
-ghost use Rattle.ged_tree.specs.Runs.{trees_between, IsRun, IsStep};
+ghost use Rattle.ged_tree.specs.Runs.{trees_between, IsRunOfTrees, IsStep};
 ghost use Rattle.ged_document.specs.inner.Copies.{StandBelow};
 
 use crate::document::Document;
@@ -101,7 +101,7 @@ fn copy_between<F: Forest>(
     start: usize,
     end: usize,
 ) -> Result<Vec<Node>, AllocError>
-    requires run { IsRun (F.trees forest.now) start end }
+    requires run { IsRunOfTrees (F.trees forest.now) start end }
     requires below { StandBelow (trees_between (F.trees forest.now) start end) }
     ensures { IfOk result (λ nodes. trees_of nodes.items ≡ trees_between (F.trees forest.now) start end) }
 {
@@ -152,7 +152,7 @@ fn copy_records<F: Forest>(
     start: usize,
     end: usize,
 ) -> Result<Vec<RecordNode>, AllocError>
-    requires run { IsRun (F.trees forest.now) start end }
+    requires run { IsRunOfTrees (F.trees forest.now) start end }
     requires fits { are_at 0 (trees_between (F.trees forest.now) start end) ≡ true }
     ensures { IfOk result (λ records. record_trees records.items ≡ trees_between (F.trees forest.now) start end) }
 {

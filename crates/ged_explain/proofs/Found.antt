@@ -5,9 +5,9 @@ use Rattle.ged_faults.specs.declared.faults.FileFault.TheVariants.{NotUtf8, Bann
 use Rattle.ged_faults.specs.declared.faults.Fault.{Fault}
 use Rattle.ged_faults.specs.declared.faults.Fault.TheVariants.{InFile, TooLong, ReadFailed, WriteFailed, Memory}
 use Rattle.ged_faults.specs.Faults.{fault_number}
-use Rattle.ged_explain.specs.Names.{named_fault, named_faults, numbered}
+use Rattle.ged_explain.specs.Names.{named_fault, named_faults, with_number}
 
-pub numbered_in_file : (line : ℕ) (kind : FileFault) → numbered (fault_number (InFile line kind)) named_faults ≡ Some (named_fault (InFile line kind))
+pub numbered_in_file : (line : ℕ) (kind : FileFault) → with_number (fault_number (InFile line kind)) named_faults ≡ Some (named_fault (InFile line kind))
 unfolding named_faults
 numbered_in_file line NotUtf8 = refl
 numbered_in_file line BannedCharacter = refl
@@ -35,7 +35,7 @@ numbered_in_file line Missing = refl
 numbered_in_file line OneWayLink = refl
 numbered_in_file line UnlistedTag = refl
 
-pub numbered_fault : (fault : Fault) → numbered (fault_number fault) named_faults ≡ Some (named_fault fault)
+pub numbered_fault : (fault : Fault) → with_number (fault_number fault) named_faults ≡ Some (named_fault fault)
 unfolding named_faults
 numbered_fault (InFile line kind) = numbered_in_file line kind
 numbered_fault TooLong = refl

@@ -73,9 +73,9 @@ named_faults =
     ∷ in_file OneWayLink ∷ in_file UnlistedTag ∷ []
 
 -- the first of some that has a number
-abbrev pub numbered : ℕ → List Named → Option Named
-numbered number [] = None
-numbered number (named ∷ others) = if named.number == number then Some named else numbered number others
+abbrev pub with_number : ℕ → List Named → Option Named
+with_number number [] = None
+with_number number (named ∷ others) = if named.number == number then Some named else with_number number others
 
 -- the first of some that has a name
 abbrev pub with_name : Bytes → List Named → Option Named

@@ -1,7 +1,7 @@
 // What each fault means, found by its number, by its name, or by a fault.
 ghost use Rattle.std.specs.Prelude.{◌≡◌, map, option_map};
 ghost use Rattle.std.specs.Option.{option_copied};
-ghost use Rattle.ged_explain.specs.Names.{as_named, named_fault, named_faults, numbered, with_name};
+ghost use Rattle.ged_explain.specs.Names.{as_named, named_fault, named_faults, with_number, with_name};
 
 use crate::table::MEANINGS;
 use ged_faults::Fault;
@@ -32,13 +32,13 @@ pub fn meanings() -> &'static [Meaning]
 
 /// What the fault with a number means, or `None` where no fault has it. Takes no memory.
 pub fn meaning_numbered(number: u8) -> Option<&'static Meaning>
-    ensures { option_map as_named (option_copied result) ≡ numbered number named_faults }
+    ensures { option_map as_named (option_copied result) ≡ with_number number named_faults }
 {
     find_numbered(meanings(), number)
 }
 
 fn find_numbered(among: &'static [Meaning], number: u8) -> Option<&'static Meaning>
-    ensures { option_map as_named (option_copied result) ≡ numbered number (map as_named among.now) }
+    ensures { option_map as_named (option_copied result) ≡ with_number number (map as_named among.now) }
 {
     for meaning in among {
         if meaning.number == number {

@@ -11,7 +11,7 @@ use Rattle.ged_line.specs.Faults.{StandsAt, word}
 use Rattle.ged_line.specs.Pieces.{HasNoEnd, IsFirstPiece, AreCutInto, ArePiecesOf, IsBehindMark, pieces_of}
 use Rattle.ged_line.specs.WholeLines.{EndsLine, OneWholeFront, WholePiecesStay}
 use Rattle.ged_line.specs.Files.{FileText, AreTexts, StopsAt}
-use Rattle.ged_line.specs.Laws.{OneLine, OneCut, OneReading, WrittenIsRead}
+use Rattle.ged_line.specs.Laws.{OneLine, OneCut, OneListOfLines, WrittenIsRead}
 use Rattle.ged_line.specs.declared.fault.LineFault.{LineFault}
 use Rattle.ged_line.proofs.bytes.Banned as banned
 use Rattle.ged_line.proofs.bytes.Cutting as cutting
@@ -89,7 +89,7 @@ pub texts_of_file : (file : Bytes) (lines : List LineParts) → FileText lines f
 texts_of_file = files.FileText-texts
 
 -- a file spells one list of lines at most
-pub one_reading : OneReading
+pub one_reading : OneListOfLines
 one_reading = files.one_reading
 
 -- a file at which reading stops spells no lines

@@ -41,14 +41,14 @@ abbrev pub StopsAt : Bytes → List LineParts → ℕ → LineFault → Type 0
 StopsAt file lines line fault = (bytes : Bytes) × IsBehindMark file bytes × StopsIn bytes lines line fault
 
 -- the first piece of a file that is no line stands at this line and has this fault
-abbrev pub IsFirstFault : Bytes → ℕ → LineFault → Type 0
-IsFirstFault file line fault = (lines : List LineParts) × StopsAt file lines line fault
+abbrev pub IsFirstLineFault : Bytes → ℕ → LineFault → Type 0
+IsFirstLineFault file line fault = (lines : List LineParts) × StopsAt file lines line fault
 
 -- the text is the canonical spelling of the lines that the file spells
 abbrev pub IsRespelling : Bytes → Bytes → Type 0
 IsRespelling file text = (lines : List LineParts) × FileText lines file × (text ≡ file_of lines)
 
 -- the bytes of parts, one behind the other: of each what was made, then what was kept
-abbrev pub joined : List SpelledPart → Bytes
-joined [] = []
-joined (part ∷ parts) = part.made.items ++ (part.kept.now ++ joined parts)
+abbrev pub joined_parts : List SpelledPart → Bytes
+joined_parts [] = []
+joined_parts (part ∷ parts) = part.made.items ++ (part.kept.now ++ joined_parts parts)

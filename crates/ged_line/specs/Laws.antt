@@ -23,8 +23,8 @@ abbrev pub OneCut : Type 0
 OneCut = (file : Bytes) (pieces others : List Bytes) → ArePiecesOf file pieces → ArePiecesOf file others → pieces ≡ others
 
 -- a file spells one list of lines at most
-abbrev pub OneReading : Type 0
-OneReading = (file : Bytes) (lines others : List LineParts) → FileText lines file → FileText others file → lines ≡ others
+abbrev pub OneListOfLines : Type 0
+OneListOfLines = (file : Bytes) (lines others : List LineParts) → FileText lines file → FileText others file → lines ≡ others
 
 -- the canonical spelling of a line spells it
 abbrev pub SpellingSpells : Type 0

@@ -4,7 +4,7 @@ use Rattle.ged_line.specs.Bytes.{Bytes}
 use Rattle.ged_line.specs.Lines.{LineParts}
 use Rattle.ged_line.specs.Spelling.{LineText}
 use Rattle.ged_line.specs.Faults.{IsFaultOf}
-use Rattle.ged_line.specs.Files.{FileText, StopsAt, IsFirstFault}
+use Rattle.ged_line.specs.Files.{FileText, StopsAt, IsFirstLineFault}
 use Rattle.ged_line.specs.declared.fault.LineFault.{LineFault}
 use Rattle.ged_line.specs.declared.file.spelled_line.SpelledLine.{SpelledLine}
 use Rattle.ged_line.specs.declared.owned.lines.Lines.{Lines}
@@ -35,5 +35,5 @@ TellsLines file read = MatchOption read.stop (FileText read.lines.items file) (�
 
 -- the file's first fault; of want of memory nothing is said
 abbrev pub TellsRespell : RespellFault → Bytes → Type 0
-TellsRespell (respelling.At at) file = IsFirstFault file at.line at.fault
+TellsRespell (respelling.At at) file = IsFirstLineFault file at.line at.fault
 TellsRespell (respelling.Memory error) file = ⊤

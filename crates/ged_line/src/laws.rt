@@ -1,5 +1,5 @@
 // Laws of the definitions that the contracts of this crate cite. The functions do nothing: their contracts are proved.
-ghost use Rattle.ged_line.specs.Laws.{OneLine, IsLineOrFaulty, OneCut, OneReading, SpellingSpells, WrittenIsRead};
+ghost use Rattle.ged_line.specs.Laws.{OneLine, IsLineOrFaulty, OneCut, OneListOfLines, SpellingSpells, WrittenIsRead};
 
 use crate::line::read::view_line;
 
@@ -22,7 +22,7 @@ pub fn one_cut()
 
 /// A file spells one list of lines at most.
 pub fn one_reading()
-    ensures { OneReading }
+    ensures { OneListOfLines }
 {}
 
 /// The canonical spelling of a line spells it.

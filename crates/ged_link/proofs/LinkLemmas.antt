@@ -10,7 +10,7 @@ use Rattle.ged_tree.specs.Trees.{Structure, Trees, none, tree, trees_count}
 use Rattle.ged_tree.specs.Documents.{is_document, are_at, is_structure_at}
 use Rattle.ged_tree.specs.inner.DocumentParts.{is_xref_at}
 use Rattle.ged_tree.specs.Places.{structure_at}
-use Rattle.ged_tree.specs.Runs.{trees_between, IsRun}
+use Rattle.ged_tree.specs.Runs.{trees_between, IsRunOfTrees}
 use Rattle.ged_link.specs.Links.{SomeTree, IsAmong, AreDistinct, xrefs, IsNamed}
 use Rattle.ged_link.specs.inner.Identifiers.{with_xref}
 use Rattle.ged_link.specs.LinkFaults.{HasXref, HasPointer, IsRepeated}
@@ -56,7 +56,7 @@ unnamed l (tree s b n) i e h =
     ]
 
 -- nor does one in a run of trees there
-pub unnamed_run : (d : Trees) (l p q r : ℕ) → IsRun d p q → are_at (l + 1) (trees_between d p q) ≡ true → (i : ℕ) → r ≡ p + i → r < q → (structure_at d r).xref ≡ None
+pub unnamed_run : (d : Trees) (l p q r : ℕ) → IsRunOfTrees d p q → are_at (l + 1) (trees_between d p q) ≡ true → (i : ℕ) → r ≡ p + i → r < q → (structure_at d r).xref ≡ None
 unnamed_run d l p q r run e i h k =
     let t = trees_between d p q in
     let within : i < trees_count t = omega (arith, run.fills, h, k) in

@@ -3,7 +3,7 @@ use Rattle.std.proofs.Common.{◌≡◌, ℕ, ◌+◌, ◌-◌, ◌<◌, ◌⊎�
 use Rattle.std.proofs.lemmas.Bool.{cases_lt}
 use Rattle.ged_tree.specs.Trees.{Structure, Trees, none, tree, trees_count}
 use Rattle.ged_tree.specs.Places.{structure_at, place_after}
-use Rattle.ged_tree.specs.Runs.{trees_between, IsRun}
+use Rattle.ged_tree.specs.Runs.{trees_between, IsRunOfTrees}
 use Rattle.ged_tree.proofs.CallerLemmas.{from_below, from_next, run_unfolds, run_below, run_next, run_within}
 
 pub place_cases : (s : Structure) (b n : Trees) (p : ℕ) → p < trees_count (tree s b n)
@@ -29,7 +29,7 @@ unfolding structure_at
 at_next s b n i = let e : 1 + trees_count b + i - 1 - trees_count b ≡ i = omega arith in rw (from_next s b n (1 + trees_count b + i) (omega arith), e) refl
 
 -- the structures of a run of trees are those of the trees
-pub in_run : (t d : Trees) (p q i : ℕ) → trees_between d p q ≡ t → IsRun d p q → i < trees_count t → structure_at d (p + i) ≡ structure_at t i
+pub in_run : (t d : Trees) (p q i : ℕ) → trees_between d p q ≡ t → IsRunOfTrees d p q → i < trees_count t → structure_at d (p + i) ≡ structure_at t i
 in_run none d p q i e run h = absurd (omega arith)
 in_run (tree s b n) d p q i e run h =
     let size : p + trees_count (tree s b n) ≡ q = rw e at run.fills in
@@ -37,8 +37,8 @@ in_run (tree s b n) d p q i e run h =
     let a = place_after d p in
     let u = run_unfolds d p q run before in
     let within = run_within d p q run before in
-    let below_run : IsRun d (p + 1) a = run_below d p within in
-    let next_run : IsRun d a q = run_next d p q run before in
+    let below_run : IsRunOfTrees d (p + 1) a = run_below d p within in
+    let next_run : IsRunOfTrees d a q = run_next d p q run before in
     let is_first : structure_at d p ≡ s = cc in
     let is_below : trees_between d (p + 1) a ≡ b = cc in
     let is_next : trees_between d a q ≡ n = cc in

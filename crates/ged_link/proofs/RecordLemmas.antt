@@ -10,7 +10,7 @@ use Rattle.ged_line.specs.Bytes.{Bytes}
 use Rattle.ged_tree.specs.Trees.{Trees, none, tree, trees_count, records_of}
 use Rattle.ged_tree.specs.Documents.{is_document, are_at}
 use Rattle.ged_tree.specs.Places.{structure_at}
-use Rattle.ged_tree.specs.Runs.{trees_between, IsRun, IsStep}
+use Rattle.ged_tree.specs.Runs.{trees_between, IsRunOfTrees, IsStep}
 use Rattle.ged_tree.proofs.CallerLemmas.{whole_is, run_whole, run_ends}
 use Rattle.ged_link.specs.declared.index.RecordPlace.{RecordPlace}
 use Rattle.ged_link.specs.Links.{identifiers, IsRecordNumber}
@@ -23,7 +23,7 @@ use Rattle.ged_link.specs.inner.Resolving.{AddsName, AddsRecord, AreRecordsBefor
 use Rattle.ged_link.proofs.LinkLemmas.{both, document_level, level_parts, never_empty, unnamed, unnamed_run}
 use Rattle.ged_link.proofs.PlaceCases.{place_cases, at_first, at_below}
 
-pub whole_run : (d : Trees) (e : ℕ) → e ≡ trees_count d → IsRun d 0 e
+pub whole_run : (d : Trees) (e : ℕ) → e ≡ trees_count d → IsRunOfTrees d 0 e
 whole_run d e h = rw h (run_whole d)
 
 module _ (d : Trees) (e : ℕ) (h : e ≡ trees_count d) where
@@ -36,14 +36,14 @@ module _ (d : Trees) (e : ℕ) (h : e ≡ trees_count d) where
   pub records_none : trees_between d 0 e ≡ none → trees_between d e e ≡ records_of d
   records_none k = run_ends d e e (omega arith) ∙ sym (ap records_of (sym all ∙ k))
 
-  pub empty_run : IsRun d e e
+  pub empty_run : IsRunOfTrees d e e
   empty_run = record { fills = rw (run_ends d e e (omega arith)) (omega arith) }
 
-pub whole_end : (d : Trees) (e : ℕ) → IsRun d 0 e → trees_between d 0 e ≡ d → e ≡ trees_count d
+pub whole_end : (d : Trees) (e : ℕ) → IsRunOfTrees d 0 e → trees_between d 0 e ≡ d → e ≡ trees_count d
 whole_end d e run is = let f : 0 + trees_count d ≡ e = rw is at run.fills in omega arith
 
 -- a run without a tree is over
-pub run_over : (d : Trees) (p e : ℕ) → IsRun d p e → trees_between d p e ≡ none → p ≡ e
+pub run_over : (d : Trees) (p e : ℕ) → IsRunOfTrees d p e → trees_between d p e ≡ none → p ≡ e
 run_over d p e run ends = let f : p + 0 ≡ e = rw ends at run.fills in omega arith
 
 -- ---- the identifiers of the records that are left
@@ -219,7 +219,7 @@ head_unnamed (tree s b n) doc first other name sum before h =
       | inr (inr w) ↦ absurd (omega (arith, w.2, sum, before))
     ]
 
-pub records_start : (d : Trees) → is_document d ≡ true → (first e : ℕ) → e ≡ trees_count d → IsRun d first e → trees_between d first e ≡ records_of d → (records : Names)
+pub records_start : (d : Trees) → is_document d ≡ true → (first e : ℕ) → e ≡ trees_count d → IsRunOfTrees d first e → trees_between d first e ≡ records_of d → (records : Names)
     → ((name : Bytes) → found_in records name ≡ None) → AreRecordsBefore d first 0 records
 records_start d doc first e whole run is records empty =
     let sum : first + trees_count (records_of d) ≡ trees_count d = rw (is, whole) at run.fills in
@@ -242,7 +242,7 @@ records_level none doc = cc
 records_level (tree s b n) doc = (level_parts 0 s b n (document_level (tree s b n) doc)).2
 
 -- all records are found
-pub records_all : (d : Trees) (p k e : ℕ) (records : Names) → e ≡ trees_count d → IsRun d p e → trees_between d p e ≡ none
+pub records_all : (d : Trees) (p k e : ℕ) (records : Names) → e ≡ trees_count d → IsRunOfTrees d p e → trees_between d p e ≡ none
     → drop k (identifiers (records_of d)) ≡ identifiers (trees_between d p e) → AreRecordsBefore d p k records → AreRecords d records
 records_all d p k e records whole run ends left are =
     let at_end : p ≡ trees_count d = let f : p + 0 ≡ e = rw ends at run.fills in omega arith in
@@ -286,7 +286,7 @@ repeated_here d p k old new found adds within are = go (structure_at d p).xref r
     go None here h = let e : false ≡ true = h.0 in absurd (cc)
     go (Some name) here h = first_repeated d p k old name are (some_of_old (found_in old name) (sym h.0)) (within, here)
 
-pub none_repeated_all : (d : Trees) (p k e : ℕ) (records : Names) → e ≡ trees_count d → IsRun d p e → trees_between d p e ≡ none → AreRecordsBefore d p k records → (place : ℕ) → IsRepeated d place → ⊥
+pub none_repeated_all : (d : Trees) (p k e : ℕ) (records : Names) → e ≡ trees_count d → IsRunOfTrees d p e → trees_between d p e ≡ none → AreRecordsBefore d p k records → (place : ℕ) → IsRepeated d place → ⊥
 none_repeated_all d p k e records whole run ends are place h =
     let at_end : p ≡ trees_count d = let f : p + 0 ≡ e = rw ends at run.fills in omega arith in
     none_repeated d p k records are place (omega (arith, at_end, h.2.0)) h

@@ -1,6 +1,6 @@
 // The keys of the maps of an index, and the hashers that begin with them.
 ghost use Rattle.std.specs.Prelude.{◌≡◌, Some, fold};
-ghost use Rattle.ged_tree.specs.Runs.{trees_between, IsRun};
+ghost use Rattle.ged_tree.specs.Runs.{trees_between, IsRunOfTrees};
 ghost use Rattle.ged_link.specs.Links.{identifiers};
 ghost use Rattle.ged_link.specs.inner.Keys.{fed_name, names_key as key_of_names};
 
@@ -74,7 +74,7 @@ fn feed_name(hasher: &mut DefaultHasher, name: &str)
 
 /// The key for the identifiers of the records from a place up to an end.
 pub(crate) fn names_key<F: Forest>(forest: &F, start: usize, end: usize) -> u64
-    requires { IsRun (F.trees forest.now) start end }
+    requires { IsRunOfTrees (F.trees forest.now) start end }
     ensures { result ≡ key_of_names (identifiers (trees_between (F.trees forest.now) start end)) }
 {
     let mut hasher = DefaultHasher::new();

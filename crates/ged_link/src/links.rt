@@ -2,7 +2,7 @@
 ghost use Rattle.std.specs.Prelude.{◌≡◌, ◌<◌, ◌+◌, IfOk, OnOk, ◌++◌, option_map};
 ghost use Rattle.ged_tree.specs.Trees.{trees_count};
 ghost use Rattle.ged_tree.specs.Places.{structure_at};
-ghost use Rattle.ged_tree.specs.Runs.{trees_between, IsRun};
+ghost use Rattle.ged_tree.specs.Runs.{trees_between, IsRunOfTrees};
 ghost use Rattle.ged_link.specs.Indexes.{AreRecords, place_in};
 ghost use Rattle.ged_link.specs.inner.LinkWalks.{role_under, target, one_way_below, one_way_places};
 ghost use Rattle.ged_link.specs.inner.LinkWalks.{is_one_way as one_way_under, other_tag as tag_of_other};
@@ -98,7 +98,7 @@ fn push_one_way<F: Forest>(
     places: &mut Vec<usize>,
 ) -> Result<(), AllocError>
     requires within { from < trees_count (F.trees forest.now) }
-    requires run { IsRun (F.trees forest.now) (from + 1) end }
+    requires run { IsRunOfTrees (F.trees forest.now) (from + 1) end }
     requires records { AreRecords (F.trees forest.now) records.now }
     requires links { AreLinks (place_in records.now) (F.trees forest.now) lists.now }
     requires ordered { AreInOrder lists.now }

@@ -2,7 +2,7 @@
 ghost use Rattle.std.specs.Prelude.{◌≡◌, ◌+◌, ◌*◌, ◌/◌, ◌%◌, ◌++◌, ◌∷◌, [], IfOk, OnOk, fold, map, replicate};
 ghost use Rattle.std.specs.Option.{option_copied};
 ghost use Rattle.ged_tree.specs.Trees.{records_of, trees_count};
-ghost use Rattle.ged_tree.specs.Runs.{trees_between, IsRun};
+ghost use Rattle.ged_tree.specs.Runs.{trees_between, IsRunOfTrees};
 ghost use Rattle.ged_link.specs.Links.{identifiers};
 ghost use Rattle.ged_link.specs.inner.Layout.{counted, no_names};
 ghost use Rattle.ged_link.specs.inner.Listing.{listed_name, listed_halves, listed_digits, AreTypesOf, IsRecordList};
@@ -128,7 +128,7 @@ impl RecordList {
 /// The place of the first record. The run of records goes on to the end of all.
 pub(crate) fn first_record<F: Forest>(forest: &F, end: usize) -> usize
     requires end { end ≡ trees_count (F.trees forest.now) }
-    ensures run { IsRun (F.trees forest.now) result end }
+    ensures run { IsRunOfTrees (F.trees forest.now) result end }
     ensures records { trees_between (F.trees forest.now) result end ≡ records_of (F.trees forest.now) }
 {
     match next_in_run(forest, 0, end) {
@@ -144,7 +144,7 @@ fn list_between<F: Forest>(
     start: usize,
     end: usize,
 ) -> Result<RecordList, AllocError>
-    requires run { IsRun (F.trees forest.now) start end }
+    requires run { IsRunOfTrees (F.trees forest.now) start end }
     requires records { trees_between (F.trees forest.now) start end ≡ records_of (F.trees forest.now) }
     ensures tallies { IfOk result (λ list. list.tallies.items ≡ fold counted (replicate 256 no_names) (identifiers (records_of (F.trees forest.now)))) }
     ensures names { IfOk result (λ list. list.names.items ≡ map listed_halves (identifiers (records_of (F.trees forest.now)))) }

@@ -2,7 +2,7 @@
 ghost use Rattle.std.specs.Prelude.{◌≡◌, ◌<◌, ◌≤◌, ◌+◌, ◌⊎◌, ℕ, false, IsTrue, ◌↔◌, IfOk, IfErr, IfSome, OnOk, length, nat_eq, ◌&&◌, ◌||◌, option_map, alloc_error};
 ghost use Rattle.ged_tree.specs.Trees.{records_of, trees_count};
 ghost use Rattle.ged_tree.specs.Places.{structure_at};
-ghost use Rattle.ged_tree.specs.Runs.{trees_between, IsRun};
+ghost use Rattle.ged_tree.specs.Runs.{trees_between, IsRunOfTrees};
 ghost use Rattle.ged_link.specs.Links.{identifiers};
 ghost use Rattle.ged_link.specs.LinkFaults.{HasLinkFault, IsRepeated, IsDangling};
 ghost use Rattle.ged_link.specs.Indexes.{place_in};
@@ -160,7 +160,7 @@ fn follow_record<F: Forest>(
 ) -> Result<(), LinkFault>
     requires from { from < trees_count (F.trees forest.now) }
     requires end { end ≤ trees_count (F.trees forest.now) }
-    requires run { IsRun (F.trees forest.now) (from + 1) end }
+    requires run { IsRunOfTrees (F.trees forest.now) (from + 1) end }
     requires records { AreKnown (F.trees forest.now) records.now }
     requires distinct { (place : ℕ) → IsRepeated (F.trees forest.now) place → ⊥ }
     requires used { AreFollowed (F.trees forest.now) from followed.old }

@@ -4,7 +4,7 @@ ghost use Rattle.ged_tree.specs.Trees.{records_of, trees_count};
 ghost use Rattle.ged_tree.specs.Documents.{is_document};
 ghost use Rattle.ged_tree.specs.DocumentLines.{document_lines};
 ghost use Rattle.ged_tree.specs.Places.{structure_at};
-ghost use Rattle.ged_tree.specs.Runs.{trees_between, IsRun};
+ghost use Rattle.ged_tree.specs.Runs.{trees_between, IsRunOfTrees};
 ghost use Rattle.ged_link.specs.Links.{Resolved, identifiers};
 ghost use Rattle.ged_link.specs.LinkFaults.{HasLinkFault, IsRepeated};
 ghost use Rattle.ged_link.specs.Places.{ArePlaces};
@@ -97,7 +97,7 @@ fn resolve_listed<F: Forest>(
 
 /// Gives the maps, where they are empty, their key: that of all names from a record's own on.
 fn begin_others<F: Forest>(alloc: Global, forest: &F, end: usize, records: &mut Names, place: usize)
-    requires { IsRun (F.trees forest.now) place end }
+    requires { IsRunOfTrees (F.trees forest.now) place end }
     ensures same { (name : _) → found_in records.new name ≡ found_in records.old name }
     ensures slots { records.new.slots ≡ records.old.slots }
     ensures keyed { IsKeyed (F.trees forest.now) end records.old → (first : ℕ) × HasKey records.new (key_of_names (identifiers (trees_between (F.trees forest.now) first end))) }
@@ -120,7 +120,7 @@ fn add_other<F: Forest>(
     found: RecordPlace,
 ) -> Result<bool, AllocError>
     requires within { found.place < trees_count (F.trees forest.now) }
-    requires run { IsRun (F.trees forest.now) found.place end }
+    requires run { IsRunOfTrees (F.trees forest.now) found.place end }
     requires missed { IsMissed records.old number (structure_at (F.trees forest.now) found.place).xref }
     ensures added { IfOk result (AddsRecord records.old records.new (structure_at (F.trees forest.now) found.place).xref found) }
     ensures keyed { IsKeyed (F.trees forest.now) end records.old → OnOk result (IsKeyed (F.trees forest.now) end records.new) }
@@ -147,7 +147,7 @@ fn add_record<F: Forest>(
     found: RecordPlace,
 ) -> Result<bool, AllocError>
     requires within { found.place < trees_count (F.trees forest.now) }
-    requires run { IsRun (F.trees forest.now) found.place end }
+    requires run { IsRunOfTrees (F.trees forest.now) found.place end }
     requires listed { listed ≡ listed_name (structure_at (F.trees forest.now) found.place).xref }
     requires named { (structure_at (F.trees forest.now) found.place).xref ≡ Some [] → ⊥ }
     ensures added { IfOk result (AddsRecord records.old records.new (structure_at (F.trees forest.now) found.place).xref found) }
@@ -170,7 +170,7 @@ fn add_records<F: Forest>(
     list: &RecordList,
     records: &mut Names,
 ) -> Result<Vec<u32>, LinkFault>
-    requires run { IsRun (F.trees forest.now) start end }
+    requires run { IsRunOfTrees (F.trees forest.now) start end }
     requires all { trees_between (F.trees forest.now) start end ≡ records_of (F.trees forest.now) }
     requires end { end ≡ trees_count (F.trees forest.now) }
     requires document { is_document (F.trees forest.now) ≡ true }

@@ -11,7 +11,7 @@ use Rattle.ged_schema.specs.declared.context.Context.{Context}
 use Rattle.ged_schema.specs.declared.context.Context.TheVariants.{File}
 use Rattle.ged_schema.specs.Rows.{Row}
 use Rattle.ged_schema.specs.Tables.{rows, row, context_below}
-use Rattle.ged_schema.specs.Payloads.{Fits}
+use Rattle.ged_schema.specs.Payloads.{FitsRow}
 use Rattle.ged_value.specs.Kinds.{target}
 
 -- where a tag is named, a pointer leads to a record of the document with that tag
@@ -31,7 +31,7 @@ CountsRight below r = (r.least ≤ count_of r.tag below) × IfSome r.most (λ mo
 -- a structure with this payload, and these trees below it, is as its row asks; where there is no row nothing is asked
 abbrev pub MeetsRow : Trees → Option Row → Payload → Trees → Type 0
 MeetsRow d None payload below = ⊤
-MeetsRow d (Some r) payload below = Fits (Some r) payload × PointsRight d (target r.kind) payload × AllByRecursion (CountsRight below) (rows r.below)
+MeetsRow d (Some r) payload below = FitsRow (Some r) payload × PointsRight d (target r.kind) payload × AllByRecursion (CountsRight below) (rows r.below)
 
 -- each structure of the trees, which stand in the context, is as its row asks
 abbrev pub AreChecked : Trees → Context → Trees → Type 0

@@ -18,7 +18,7 @@ use Rattle.ged_schema.specs.declared.fault.FaultPlace.{FaultPlace}
 use Rattle.ged_schema.specs.declared.fault.SchemaAt.{SchemaAt}
 use Rattle.ged_schema.specs.Rows.{Row}
 use Rattle.ged_schema.specs.Tables.{rows, row, context_below}
-use Rattle.ged_schema.specs.Payloads.{Fits}
+use Rattle.ged_schema.specs.Payloads.{FitsRow}
 use Rattle.ged_value.specs.Kinds.{target}
 use Rattle.ged_schema.specs.Checked.{PointsRight, count_of, CountsRight, MeetsRow, AreChecked}
 use Rattle.ged_tree.specs.Places.{line_at}
@@ -63,8 +63,8 @@ FirstCountFault place below (r ∷ rs) f = CountFault place below r f ⊎ (Count
 abbrev pub OwnFault : Trees → ℕ → Option Row → Payload → Trees → FaultPlace → Type 0
 OwnFault d place None payload below f = ⊥
 OwnFault d place (Some r) payload below f =
-    (¬ (Fits (Some r) payload) × (f ≡ fault_at place (payload_fault r.kind)))
-    ⊎ (Fits (Some r) payload
+    (¬ (FitsRow (Some r) payload) × (f ≡ fault_at place (payload_fault r.kind)))
+    ⊎ (FitsRow (Some r) payload
     × ((¬ (PointsRight d (target r.kind) payload) × (f ≡ fault_at place WrongTarget))
     ⊎ (PointsRight d (target r.kind) payload × FirstCountFault place below (rows r.below) f)))
 

@@ -13,5 +13,5 @@ IsOfKind kind (Text lines) = takes_lines kind ≡ true
 IsOfKind kind link = takes_links kind ≡ true
 
 -- the payload is of the row's kind; where there is no row any payload will do
-abbrev pub Fits : Option Row → Payload → Type 0
-Fits row payload = IfSome row (λ r. IsOfKind r.kind payload)
+abbrev pub FitsRow : Option Row → Payload → Type 0
+FitsRow row payload = IfSome row (λ r. IsOfKind r.kind payload)

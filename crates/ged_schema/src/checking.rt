@@ -4,7 +4,7 @@ ghost use Rattle.std.specs.List.{AllByRecursion};
 ghost use Rattle.ged_tree.specs.Trees.{trees_count};
 ghost use Rattle.ged_tree.specs.Documents.{is_document};
 ghost use Rattle.ged_tree.specs.Places.{structure_at};
-ghost use Rattle.ged_tree.specs.Runs.{IsRun, trees_between};
+ghost use Rattle.ged_tree.specs.Runs.{IsRunOfTrees, trees_between};
 ghost use Rattle.ged_link.specs.Indexes.{IsIndexOf};
 ghost use Rattle.ged_schema.specs.Rows.{Row, as_row};
 ghost use Rattle.ged_schema.specs.Tables.{rows as rows_of};
@@ -42,7 +42,7 @@ fn place_of_nth<F: Forest>(
     start: usize,
     end: usize,
 ) -> Option<usize>
-    requires run { IsRun (F.trees forest.now) start end }
+    requires run { IsRunOfTrees (F.trees forest.now) start end }
     ensures { MatchOption result (count_of tag.now (trees_between (F.trees forest.now) start end) ≤ before)
         (λ at. StandsAfter tag.now before start (trees_between (F.trees forest.now) start end) at) }
 {
@@ -62,7 +62,7 @@ fn place_of_nth<F: Forest>(
 
 /// For each row of a context, by its number, how many structures of a run have its tag.
 fn count_rows<F: Forest>(forest: &F, context: Context, start: usize, end: usize) -> [usize; 64]
-    requires run { IsRun (F.trees forest.now) start end }
+    requires run { IsRunOfTrees (F.trees forest.now) start end }
     ensures { (number : ℕ) (r : Row) → slice_get (rows_of context) number ≡ Some r →
         get_or result number 0 ≡ count_of r.tag (trees_between (F.trees forest.now) start end) }
 {
@@ -85,7 +85,7 @@ fn row_fault<F: Forest>(
     place: usize,
     after: usize,
 ) -> Option<FaultPlace>
-    requires run { IsRun (F.trees forest.now) (place + 1) after }
+    requires run { IsRunOfTrees (F.trees forest.now) (place + 1) after }
     requires forth { place < after }
     requires counted { count ≡ count_of rule.now.tag.now (trees_between (F.trees forest.now) (place + 1) after) }
     ensures { MatchOption result (CountsRight (trees_between (F.trees forest.now) (place + 1) after) (as_row rule.now))
@@ -115,7 +115,7 @@ fn count_fault<F: Forest>(
     place: usize,
     after: usize,
 ) -> Option<FaultPlace>
-    requires run { IsRun (F.trees forest.now) (place + 1) after }
+    requires run { IsRunOfTrees (F.trees forest.now) (place + 1) after }
     requires forth { place < after }
     ensures { MatchOption result (AllByRecursion (CountsRight (trees_between (F.trees forest.now) (place + 1) after)) (rows_of context))
         (λ f. FirstCountFault place (trees_between (F.trees forest.now) (place + 1) after) (rows_of context) f) }
@@ -140,7 +140,7 @@ fn own_fault<F: Forest>(
     after: usize,
 ) -> Option<FaultPlace>
     requires within { place < trees_count (F.trees forest.now) }
-    requires run { IsRun (F.trees forest.now) (place + 1) after }
+    requires run { IsRunOfTrees (F.trees forest.now) (place + 1) after }
     requires forth { place < after }
     requires index { IsIndexOf (F.trees forest.now) index.now }
     requires document { is_document (F.trees forest.now) ≡ true }
@@ -173,7 +173,7 @@ fn check_between<F: Forest>(
     start: usize,
     end: usize,
 ) -> Option<FaultPlace>
-    requires run { IsRun (F.trees forest.now) start end }
+    requires run { IsRunOfTrees (F.trees forest.now) start end }
     requires index { IsIndexOf (F.trees forest.now) index.now }
     requires document { is_document (F.trees forest.now) ≡ true }
     ensures { MatchOption result

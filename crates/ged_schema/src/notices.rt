@@ -2,7 +2,7 @@
 ghost use Rattle.std.specs.Prelude.{◌≡◌, ◌≢◌, ◌<◌, ◌++◌, true, List, ℕ, map, OnOk, IfOk, IsTrue, ◌↔◌, MatchOption};
 ghost use Rattle.ged_line.specs.Names.{is_standard_tag, is_tag};
 ghost use Rattle.ged_tree.specs.Documents.{is_document};
-ghost use Rattle.ged_tree.specs.Runs.{IsRun, trees_between};
+ghost use Rattle.ged_tree.specs.Runs.{IsRunOfTrees, trees_between};
 ghost use Rattle.ged_tree.specs.Places.{line_at};
 ghost use Rattle.ged_link.specs.LinkFaults.{IsLowest};
 ghost use Rattle.ged_schema.specs.declared.context.Context.TheVariants.{File, Unchecked};
@@ -42,7 +42,7 @@ fn push_unlisted<F: Forest>(
     end: usize,
     notices: &mut Vec<Notice>,
 ) -> Result<(), AllocError>
-    requires run { IsRun (F.trees forest.now) start end }
+    requires run { IsRunOfTrees (F.trees forest.now) start end }
     requires document { is_document (F.trees forest.now) ≡ true }
     ensures { OnOk result ((places : List ℕ) × ListsUnlisted context start (trees_between (F.trees forest.now) start end) places
         × (notices.new.items ≡ notices.old.items ++ map (unlisted_notice (F.trees forest.now)) places)) }
@@ -80,7 +80,7 @@ pub fn unlisted<F: Forest>(alloc: Global, forest: &F) -> Result<Vec<Notice>, All
 
 /// The place of the first structure with an unlisted tag, among those of a run and those below them.
 fn first_between<F: Forest>(forest: &F, context: Context, start: usize, end: usize) -> Option<usize>
-    requires run { IsRun (F.trees forest.now) start end }
+    requires run { IsRunOfTrees (F.trees forest.now) start end }
     requires document { is_document (F.trees forest.now) ≡ true }
     ensures { MatchOption result
         ((place : ℕ) → ¬ (UnlistedFrom context start (trees_between (F.trees forest.now) start end) place))

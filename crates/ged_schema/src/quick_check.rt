@@ -7,7 +7,7 @@ ghost use Rattle.ged_tree.specs.Trees.{Trees, trees_count, further_lines};
 ghost use Rattle.ged_tree.specs.declared.payload.Payload.TheVariants.{Pointer, Text};
 ghost use Rattle.ged_tree.specs.Documents.{is_document};
 ghost use Rattle.ged_tree.specs.Places.{structure_at};
-ghost use Rattle.ged_tree.specs.Runs.{IsRun, trees_between};
+ghost use Rattle.ged_tree.specs.Runs.{IsRunOfTrees, trees_between};
 ghost use Rattle.ged_tree.specs.Views.{payload_of};
 ghost use Rattle.ged_value.specs.Kinds.{Fits as FitsGiven, FitsLine};
 ghost use Rattle.ged_value.specs.declared.kind.Given.TheVariants.{Pointer as GivenPointer, Void as GivenVoid};
@@ -184,7 +184,7 @@ pub(crate) fn all_pass<F: Forest>(
     end: usize,
     pass: &mut Pass,
 ) -> bool
-    requires run { IsRun (F.trees forest.now) start end }
+    requires run { IsRunOfTrees (F.trees forest.now) start end }
     requires index { IsIndexOf (F.trees forest.now) index.now }
     requires document { is_document (F.trees forest.now) ≡ true }
     ensures { OnTrue result (AllByRecursion (CountsRight (trees_between (F.trees forest.now) start end)) (rows_of context)

@@ -1,7 +1,7 @@
 -- What a command answers to the bytes of a file.
 use Rattle.std.specs.Prelude.{◌≡◌, ℕ}
 use Rattle.ged_line.specs.Bytes.{Bytes}
-use Rattle.ged_line.specs.Files.{IsRespelling, IsFirstFault}
+use Rattle.ged_line.specs.Files.{IsRespelling, IsFirstLineFault}
 use Rattle.ged_line.specs.declared.fault.LineFault.{LineFault}
 use Rattle.ged_tree.specs.Trees.{Trees}
 use Rattle.ged_schema.specs.declared.profile.Profile.{Profile}
@@ -27,7 +27,7 @@ Answers profile edition Tidy bytes text = IsTidied profile edition bytes text
 
 -- the command has no answer to these bytes, but this fault at this line to tell
 abbrev pub FaultAt : Profile → Command → Bytes → ℕ → FileFault → Type 0
-FaultAt profile Lines bytes line kind = (fault : LineFault) × IsFirstFault bytes line fault × (kind ≡ file_fault_of_line fault)
+FaultAt profile Lines bytes line kind = (fault : LineFault) × IsFirstLineFault bytes line fault × (kind ≡ file_fault_of_line fault)
 FaultAt profile Check bytes line kind = FileFaultAt profile bytes line kind
 FaultAt profile Show bytes line kind = FileFaultAt profile bytes line kind
 FaultAt profile Canon bytes line kind = FileFaultAt profile bytes line kind

@@ -6,7 +6,7 @@ use Rattle.ged_line.specs.Files.{FileText}
 use Rattle.ged_line.specs.WholeLines.{EndsLine}
 use Rattle.ged_tree.specs.Trees.{Structure, Trees, none, tree, trees_count, line_count, lines_count}
 use Rattle.ged_tree.specs.Places.{trees_from, structure_at, below_at, place_after, line_at}
-use Rattle.ged_tree.specs.Runs.{trees_between, IsRun}
+use Rattle.ged_tree.specs.Runs.{trees_between, IsRunOfTrees}
 use Rattle.ged_tree.specs.Documents.{is_document, are_at, HasLines}
 use Rattle.ged_tree.specs.DocumentLines.{document_lines}
 use Rattle.ged_tree.specs.TreeLaws.{NoneShared, OneFaultInFile, AreLines}
@@ -55,19 +55,19 @@ from_next = places.from_next
 pub below_run : (d : Trees) (place : ℕ) → place < trees_count d → trees_between d (place + 1) (place_after d place) ≡ below_at d place
 below_run = places.below_run
 
-pub run_below : (d : Trees) (place : ℕ) → place < trees_count d → IsRun d (place + 1) (place_after d place)
+pub run_below : (d : Trees) (place : ℕ) → place < trees_count d → IsRunOfTrees d (place + 1) (place_after d place)
 run_below = places.run_below
 
 -- a run lies within the document
-pub run_within : (d : Trees) (start end : ℕ) → IsRun d start end → start < end → start < trees_count d
+pub run_within : (d : Trees) (start end : ℕ) → IsRunOfTrees d start end → start < end → start < trees_count d
 run_within = places.run_within
 
 -- it is its first structure, the run below it, and the run of the others
-pub run_unfolds : (d : Trees) (start end : ℕ) → IsRun d start end → start < end
+pub run_unfolds : (d : Trees) (start end : ℕ) → IsRunOfTrees d start end → start < end
     → trees_between d start end ≡ tree (structure_at d start) (trees_between d (start + 1) (place_after d start)) (trees_between d (place_after d start) end)
 run_unfolds = places.run_unfolds
 
-pub run_next : (d : Trees) (start end : ℕ) → IsRun d start end → start < end → IsRun d (place_after d start) end
+pub run_next : (d : Trees) (start end : ℕ) → IsRunOfTrees d start end → start < end → IsRunOfTrees d (place_after d start) end
 run_next = places.run_next
 
 -- at its end it has no tree
@@ -78,7 +78,7 @@ run_ends = places.run_ends
 pub whole_is : (d : Trees) → trees_between d 0 (trees_count d) ≡ d
 whole_is = places.whole_is
 
-pub run_whole : (d : Trees) → IsRun d 0 (trees_count d)
+pub run_whole : (d : Trees) → IsRunOfTrees d 0 (trees_count d)
 run_whole = places.run_whole
 
 -- ---- documents and files

@@ -8,7 +8,7 @@ use Rattle.ged_line.specs.declared.fault.LineAt.{LineAt}
 use Rattle.ged_tree.specs.Trees.{Trees}
 use Rattle.ged_tree.specs.DocumentLines.{document_lines}
 use Rattle.ged_tree.specs.Documents.{is_document}
-use Rattle.ged_tree.specs.TreeFaults.{Pass, FirstFault}
+use Rattle.ged_tree.specs.TreeFaults.{Pass, FirstTreeFault}
 use Rattle.ged_tree.specs.FileFaults.{FirstFaultIn}
 use Rattle.ged_tree.specs.declared.fault.TreeFault.{TreeFault}
 use Rattle.ged_tree.specs.declared.fault.TreeFault.TheVariants.{Line}
@@ -18,8 +18,8 @@ use Rattle.ged_tree.specs.declared.fault.BuildFault.TheVariants.{At, Memory}
 -- The first fault of lines and of where reading stopped behind them. Without a stop it is the lines' own; with one, it is
 -- theirs where it stands at one of them, and where all of them pass, the stop's.
 abbrev pub IsBuildFault : List LineParts → Option LineAt → ℕ → TreeFault → Type 0
-IsBuildFault lines None line fault = FirstFault lines line fault
-IsBuildFault lines (Some stop) line fault = (FirstFault lines line fault × (line ≤ length lines))
+IsBuildFault lines None line fault = FirstTreeFault lines line fault
+IsBuildFault lines (Some stop) line fault = (FirstTreeFault lines line fault × (line ≤ length lines))
     ⊎ (Pass lines × (line ≡ stop.line) × (fault ≡ Line stop.fault))
 
 -- the document is that of the lines that the file spells

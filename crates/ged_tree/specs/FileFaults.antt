@@ -7,7 +7,7 @@ use Rattle.ged_line.specs.Faults.{IsFaultOf}
 use Rattle.ged_line.specs.Pieces.{ArePiecesOf}
 use Rattle.ged_line.specs.Files.{AreTexts, FileText}
 use Rattle.ged_line.specs.declared.fault.LineFault.{LineFault}
-use Rattle.ged_tree.specs.TreeFaults.{fault_after, Pass, has_trailer, FirstFault}
+use Rattle.ged_tree.specs.TreeFaults.{fault_after, Pass, has_trailer, FirstTreeFault}
 use Rattle.ged_tree.specs.declared.fault.TreeFault.{TreeFault}
 use Rattle.ged_tree.specs.declared.fault.TreeFault.TheVariants.{Line}
 
@@ -26,7 +26,7 @@ pub data FirstFaultIn : Bytes → ℕ → TreeFault → Type 0 where
       → FirstFaultIn file (length lines + 1) (Line fault)
   at_text : (file : Bytes) (lines : List LineParts) (piece : Bytes) (line : LineParts) (fault : TreeFault) → ComesAfter file lines piece
       → LineText line piece → fault_after lines line ≡ Some fault → FirstFaultIn file (length lines + 1) fault
-  at_end : (file : Bytes) (lines : List LineParts) (fault : TreeFault) → FileText lines file → FirstFault lines (length lines + 1) fault
+  at_end : (file : Bytes) (lines : List LineParts) (fault : TreeFault) → FileText lines file → FirstTreeFault lines (length lines + 1) fault
       → FirstFaultIn file (length lines + 1) fault
 
 -- the file spells lines, no fault stands at any of them, and TRLR is among them

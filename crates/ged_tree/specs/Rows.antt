@@ -20,7 +20,7 @@ use Rattle.ged_tree.specs.declared.table.packed.TextApart.{TextApart}
 
 -- a structure, its level, the first place past all below it, its line, how many further lines its payload has, and
 -- whether it has some
-pub record Row : Type 0 where
+pub record TableRow : Type 0 where
   pub level : ℕ
   pub after : ℕ
   pub line : ℕ
@@ -29,7 +29,7 @@ pub record Row : Type 0 where
   pub structure : Structure
 
 -- the rows of trees whose first structure stands at this level, place and line
-abbrev pub rows_of : ℕ → ℕ → ℕ → Trees → List Row
+abbrev pub rows_of : ℕ → ℕ → ℕ → Trees → List TableRow
 rows_of level place line none = []
 rows_of level place line (tree s below next) =
     record {
@@ -51,7 +51,7 @@ trailing (tree s below next) count =
     else trailing next (count - 1 - trees_count below)
 
 -- the trees of rows, the first of which stands at this place
-abbrev pub trees_of_rows : ℕ → List Row → Trees
+abbrev pub trees_of_rows : ℕ → List TableRow → Trees
 trees_of_rows place [] = none
 trees_of_rows place (r ∷ rs) =
     tree r.structure
@@ -185,7 +185,7 @@ pub record AreSizes (structures : List KeptStructure) (sizes : Sizes) (from : �
   pub large : AllByRecursion (λ large. large.size ≡ size_of_first (drop large.place structures)) sizes.large.items
 
 -- the row that a structure of a table stands for, at this place and before these others
-abbrev pub row_of : List Bytes → List ℕ → ℕ → Shown → List Shown → Row
+abbrev pub row_of : List Bytes → List ℕ → ℕ → Shown → List Shown → TableRow
 row_of texts afters place s rest = record {
   level = s.level;
   after = place + (1 + deeper s.level (levels_of rest));
@@ -200,11 +200,11 @@ row_of texts afters place s rest = record {
 }
 
 -- the rows of structures, the first of which stands at this place
-abbrev pub rows_from : List Bytes → List ℕ → ℕ → List Shown → List Row
+abbrev pub rows_from : List Bytes → List ℕ → ℕ → List Shown → List TableRow
 rows_from texts afters place [] = []
 rows_from texts afters place (s ∷ rest) = row_of texts afters place s rest ∷ rows_from texts afters (place + 1) rest
 
-abbrev pub flat_rows : List Shown → List Further → List Row
+abbrev pub flat_rows : List Shown → List Further → List TableRow
 flat_rows structures further = rows_from (texts_of further) (places_of further) 0 structures
 
 -- the trees that a table lists

@@ -15,15 +15,15 @@ unfoldable pub trees_between : Trees → ℕ → ℕ → Trees
 trees_between trees start end = leading (trees_from trees start) (end - start)
 
 -- whole trees that stand side by side fill the places from start up to end
-pub record IsRun (trees : Trees) (start end : ℕ) : Type 0 where
+pub record IsRunOfTrees (trees : Trees) (start end : ℕ) : Type 0 where
   pub fills : start + trees_count (trees_between trees start end) ≡ end
 
 -- a run of trees from place up to end is its first structure, the run below it, and the run from the place after on
 pub record IsStep (trees : Trees) (place end after : ℕ) : Type 0 where
   pub first : trees_between trees place end
       ≡ tree (structure_at trees place) (trees_between trees (place + 1) after) (trees_between trees after end)
-  pub below : IsRun trees (place + 1) after
-  pub rest : IsRun trees after end
+  pub below : IsRunOfTrees trees (place + 1) after
+  pub rest : IsRunOfTrees trees after end
   pub forth : place < after
   pub room : after ≤ end
   pub within : place < trees_count trees

@@ -90,8 +90,8 @@ pub data Pass : List LineParts → Type 0 where
 
 -- the lines' first fault and where it stands, lines being counted from 1: the lowest at the first line that has one; with
 -- no lines, that HEAD is missing; where all pass and none is TRLR, that it is missing past the last
-pub data FirstFault : List LineParts → ℕ → TreeFault → Type 0 where
+pub data FirstTreeFault : List LineParts → ℕ → TreeFault → Type 0 where
   at_line : (before after : List LineParts) (line : LineParts) (fault : TreeFault) → Pass before → fault_after before line ≡ Some fault
-      → FirstFault (before ++ line ∷ after) (length before + 1) fault
-  no_lines : FirstFault [] 1 NoHeader
-  past_last : (lines : List LineParts) → Pass lines → lines ≢ [] → has_trailer lines ≡ false → FirstFault lines (length lines + 1) NoTrailer
+      → FirstTreeFault (before ++ line ∷ after) (length before + 1) fault
+  no_lines : FirstTreeFault [] 1 NoHeader
+  past_last : (lines : List LineParts) → Pass lines → lines ≢ [] → has_trailer lines ≡ false → FirstTreeFault lines (length lines + 1) NoTrailer

@@ -5,7 +5,7 @@ use Rattle.ged_line.specs.Bytes.{Bytes}
 use Rattle.ged_line.specs.Lines.{LineParts, is_line}
 use Rattle.ged_tree.specs.Trees.{Trees}
 use Rattle.ged_tree.specs.Documents.{is_document, HasLines}
-use Rattle.ged_tree.specs.TreeFaults.{Pass, has_trailer, FirstFault}
+use Rattle.ged_tree.specs.TreeFaults.{Pass, has_trailer, FirstTreeFault}
 use Rattle.ged_tree.specs.FileFaults.{FirstFaultIn, FilePasses}
 use Rattle.ged_tree.specs.declared.fault.TreeFault.{TreeFault}
 
@@ -15,7 +15,7 @@ HasOneDocument lines = (document : Trees) × HasLines document lines × ((other 
 
 -- the lines have a first fault
 abbrev pub HasFirstFault : List LineParts → Type 0
-HasFirstFault lines = (line : ℕ) × (fault : TreeFault) × FirstFault lines line fault
+HasFirstFault lines = (line : ℕ) × (fault : TreeFault) × FirstTreeFault lines line fault
 
 -- no fault stands at any of the lines and TRLR is among them exactly where one document, and no other, has these lines
 abbrev pub PassIsDocument : Type 0
@@ -31,9 +31,9 @@ abbrev pub FaultyHasNone : Type 0
 FaultyHasNone = (lines : List LineParts) → HasFirstFault lines → (document : Trees) → ¬ (HasLines document lines)
 
 -- lines have one first fault at most, at one line
-abbrev pub OneFirstFault : Type 0
-OneFirstFault = (lines : List LineParts) (line other_line : ℕ) (fault other : TreeFault) → FirstFault lines line fault
-    → FirstFault lines other_line other → (line ≡ other_line) × (fault ≡ other)
+abbrev pub OneFirstTreeFault : Type 0
+OneFirstTreeFault = (lines : List LineParts) (line other_line : ℕ) (fault other : TreeFault) → FirstTreeFault lines line fault
+    → FirstTreeFault lines other_line other → (line ≡ other_line) × (fault ≡ other)
 
 -- a file has one first fault at most, at one line
 abbrev pub OneFaultInFile : Type 0

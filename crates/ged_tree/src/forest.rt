@@ -8,7 +8,7 @@ ghost use Rattle.ged_tree.specs.Trees.{Trees, none, trees_count, further_lines};
 ghost use Rattle.ged_tree.specs.Documents.{is_document};
 ghost use Rattle.ged_tree.specs.DocumentLines.{rest_of_line};
 ghost use Rattle.ged_tree.specs.Places.{structure_at, place_after, level_at, line_at};
-ghost use Rattle.ged_tree.specs.Runs.{trees_between, IsRun, IsStep};
+ghost use Rattle.ged_tree.specs.Runs.{trees_between, IsRunOfTrees, IsStep};
 ghost use Rattle.ged_tree.specs.Views.{payload_of, is_pointer};
 
 use crate::forest::continuations::FurtherLines;
@@ -117,7 +117,7 @@ pub trait Forest {
 /// The place after the first tree of the run of places from `place` up to `end`, or `None` where the run has no tree.
 /// What stands below the tree's structure is the run from `place + 1` up to the place that is answered. Takes no memory.
 pub fn next_in_run<F: Forest>(forest: &F, place: usize, end: usize) -> Option<usize>
-    requires run { IsRun (F.trees forest.now) place end }
+    requires run { IsRunOfTrees (F.trees forest.now) place end }
     ensures { MatchOption result
         (trees_between (F.trees forest.now) place end ≡ none)
         (λ after. IsStep (F.trees forest.now) place end after) }
@@ -130,7 +130,7 @@ pub fn next_in_run<F: Forest>(forest: &F, place: usize, end: usize) -> Option<us
 
 /// The end of the run of all trees, which begins at place 0. Takes no memory.
 pub fn end_of_all<F: Forest>(forest: &F) -> usize
-    ensures run { IsRun (F.trees forest.now) 0 result }
+    ensures run { IsRunOfTrees (F.trees forest.now) 0 result }
     ensures all { trees_between (F.trees forest.now) 0 result ≡ F.trees forest.now }
     ensures document { is_document (F.trees forest.now) ≡ true }
 {

@@ -19,7 +19,7 @@ use Rattle.ged_value.specs.Zeros.{begins_with_digit, has_leading_zero, trim_zero
 use Rattle.ged_value.specs.Kinds.{FitsLine}
 use Rattle.ged_value.proofs.CallerLemmas.{value_leaving_out, period_leaving_out, fitting_without_zeros}
 use Rattle.ged_schema.specs.Rows.{Row}
-use Rattle.ged_schema.specs.Payloads.{Fits}
+use Rattle.ged_schema.specs.Payloads.{FitsRow}
 use Rattle.ged_canon.specs.declared.edition.Edition.{Edition}
 use Rattle.ged_canon.specs.declared.edition.Edition.TheVariants.{First, Second}
 use Rattle.ged_canon.specs.Steps.{has_calendar, Shortened, calendar, leading_zero, Respelt, respelt, Chain, done, then}
@@ -140,8 +140,8 @@ without_word _ line front back h fits e = absurd (false≢true h)
 
 pub record Shorter (edition : Edition) (r : Option Row) (longer shorter : Bytes) : Type 0 where
   pub out : Shortened edition r longer shorter
-  pub longer_fits : Fits r (Text (longer ∷ []))
-  pub shorter_fits : Fits r (Text (shorter ∷ []))
+  pub longer_fits : FitsRow r (Text (longer ∷ []))
+  pub shorter_fits : FitsRow r (Text (shorter ∷ []))
 
 -- from a line one comes to a line of the kind whose words are these
 abbrev Reaches : Edition → Row → Bytes → List Bytes → Type 0
@@ -267,7 +267,7 @@ pub brief_anyway : (edition : Edition) (line : Bytes) → IsBrief edition None l
 brief_anyway edition line = record { no_calendar = λ e. absurd (false≢true e); no_leading_zero = λ s e. absurd (false≢true e) }
 
 module _ (edition : Edition) where
-  pub payload_chain : (r : Option Row) (p : Payload) → Fits r p → Chain (Respelt edition r) p (brief edition r p)
+  pub payload_chain : (r : Option Row) (p : Payload) → FitsRow r p → Chain (Respelt edition r) p (brief edition r p)
   payload_chain r Void fits = done
   payload_chain r (Pointer name) fits = done
   payload_chain r (Text []) fits = done
@@ -275,7 +275,7 @@ module _ (edition : Edition) where
   payload_chain (Some r) (Text (line ∷ [])) fits = under (λ l. Text (l ∷ [])) (λ a b s. respelt a b s.out s.longer_fits s.shorter_fits) (reaches_brief edition r line fits).0
   payload_chain r (Text (line ∷ next ∷ lines)) fits = done
 
-  pub brief_is_brief : (r : Option Row) (p : Payload) → Fits r p → IsBriefPayload edition r (brief edition r p)
+  pub brief_is_brief : (r : Option Row) (p : Payload) → FitsRow r p → IsBriefPayload edition r (brief edition r p)
   brief_is_brief r Void fits = tt
   brief_is_brief r (Pointer name) fits = tt
   brief_is_brief r (Text []) fits = tt

@@ -7,7 +7,7 @@ use Rattle.ged_schema.specs.declared.context.Context.{Context}
 use Rattle.ged_schema.specs.declared.context.Context.TheVariants.{File}
 use Rattle.ged_schema.specs.Rows.{Row}
 use Rattle.ged_schema.specs.Tables.{row, context_below}
-use Rattle.ged_schema.specs.Payloads.{Fits}
+use Rattle.ged_schema.specs.Payloads.{FitsRow}
 use Rattle.ged_schema.specs.Checked.{MeetsRow, AreChecked}
 use Rattle.ged_canon.specs.declared.edition.Edition.{Edition}
 use Rattle.ged_canon.specs.Steps.{Respelt, Change, exchange, leave_out, Somewhere, here, under, later, Step, Chain, done, then}
@@ -21,7 +21,7 @@ use Rattle.ged_canon.proofs.theory.InPlace.{in_place}
 use Rattle.ged_canon.proofs.theory.Brief.{payload_chain}
 use Rattle.ged_canon.proofs.theory.Stays.{somewhere_alike, below_alike, later_alike, documents_alike}
 
-pub meets-fits : (d : Trees) (r : Option Row) (p : Payload) (below : Trees) → MeetsRow d r p below → Fits r p
+pub meets-fits : (d : Trees) (r : Option Row) (p : Payload) (below : Trees) → MeetsRow d r p below → FitsRow r p
 meets-fits d None p below h = tt
 meets-fits d (Some r) p below h = h.0
 

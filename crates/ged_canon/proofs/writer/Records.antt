@@ -11,7 +11,7 @@ use Rattle.ged_tree.specs.inner.DocumentParts.{is_xref_at}
 use Rattle.ged_tree.specs.DocumentLines.{structure_lines, lines_of}
 use Rattle.ged_tree.specs.inner.Trailers.{trailer_line}
 use Rattle.ged_tree.specs.Places.{structure_at, below_at}
-use Rattle.ged_tree.specs.Runs.{trees_between, IsRun, IsStep}
+use Rattle.ged_tree.specs.Runs.{trees_between, IsRunOfTrees, IsStep}
 use Rattle.ged_tree.specs.inner.Walks.{HasLinesAt}
 use Rattle.ged_tree.proofs.CallerLemmas.{at_of_document}
 use Rattle.ged_link.specs.Links.{IsAmong, xrefs, Resolved}
@@ -47,7 +47,7 @@ use Rattle.ged_canon.proofs.writer.OwnLines.{spelled_append, lines_with}
 -- The siblings of a document.
 
 -- HEAD and the records behind it, in order, are the document in order
-pub document_listed : (used : Bytes → Bool) (edition : Edition) (d : Trees) (end after : ℕ) (head : RankedSibling) (records : List RankedSibling) → trees_between d 0 end ≡ d → IsRun d 0 end → IsStep d 0 end after
+pub document_listed : (used : Bytes → Bool) (edition : Edition) (d : Trees) (end after : ℕ) (head : RankedSibling) (records : List RankedSibling) → trees_between d 0 end ≡ d → IsRunOfTrees d 0 end → IsStep d 0 end after
     → head.place ≡ 0 → head.tag.now ≡ (structure_at d 0).tag
     → sibling_trees used edition File d records ≡ sorted edition File (used_trees used (trees_between d after end))
     → sibling_trees used edition File d (head ∷ records) ≡ sorted_document edition (used_trees used d)

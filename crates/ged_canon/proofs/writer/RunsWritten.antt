@@ -13,7 +13,7 @@ use Rattle.ged_tree.specs.Documents.{is_structure_at, are_at}
 use Rattle.ged_tree.specs.inner.DocumentParts.{is_xref_at}
 use Rattle.ged_tree.specs.DocumentLines.{structure_lines, lines_of}
 use Rattle.ged_tree.specs.Places.{structure_at, below_at}
-use Rattle.ged_tree.specs.Runs.{trees_between, IsRun, IsStep}
+use Rattle.ged_tree.specs.Runs.{trees_between, IsRunOfTrees, IsStep}
 use Rattle.ged_tree.specs.inner.Walks.{HasLinesAt}
 use Rattle.ged_schema.specs.declared.context.Context.{Context}
 use Rattle.ged_schema.specs.Rows.{Row}
@@ -140,7 +140,7 @@ pub in_order_sorted : (edition : Edition) (context : Context) (xs : Trees) → I
 in_order_sorted edition context xs o = tags_in_order_sorted edition context xs (tags_of_order xs o)
 
 -- a run from a place on begins with the structure there
-pub run_first : (edition : Edition) (context : Context) (d : Trees) (place end after : ℕ) (sibling : Sibling) → IsRun d place end → IsStep d place end after → sibling.place ≡ place → sibling.tag.now ≡ (structure_at d place).tag
+pub run_first : (edition : Edition) (context : Context) (d : Trees) (place end after : ℕ) (sibling : Sibling) → IsRunOfTrees d place end → IsStep d place end after → sibling.place ≡ place → sibling.tag.now ≡ (structure_at d place).tag
     → each_sorted edition context (trees_between d place end)
     ≡ tree (brief_sibling edition (row context sibling.tag.now) (structure_at d place).xref d sibling) (sorted edition (context_below context sibling.tag.now) (below_at d sibling.place)) (each_sorted edition context (trees_between d after end))
 run_first edition context d place end after sibling run step at tag =

@@ -7,7 +7,7 @@ use Rattle.std.proofs.lemmas.List.Sorted.{All-permutation}
 use Rattle.ged_line.specs.Bytes.{Bytes}
 use Rattle.ged_tree.specs.Trees.{Structure, Trees, tree}
 use Rattle.ged_tree.specs.Places.{structure_at, below_at, place_after}
-use Rattle.ged_tree.specs.Runs.{trees_between, IsRun, IsStep}
+use Rattle.ged_tree.specs.Runs.{trees_between, IsRunOfTrees, IsStep}
 use Rattle.ged_tree.proofs.CallerLemmas.{run_unfolds, below_run}
 use Rattle.ged_schema.specs.declared.context.Context.{Context}
 use Rattle.ged_schema.specs.Tables.{context_below}
@@ -21,7 +21,7 @@ same_below : (s : Structure) (b n c m : Trees) → tree s b n ≡ tree s c m →
 same_below s b n c m e = cc
 
 -- what stands below the first structure of a run
-pub below_step : (d : Trees) (place end after : ℕ) → IsRun d place end → IsStep d place end after → trees_between d (place + 1) after ≡ below_at d place
+pub below_step : (d : Trees) (place end after : ℕ) → IsRunOfTrees d place end → IsStep d place end after → trees_between d (place + 1) after ≡ below_at d place
 below_step d place end after run step =
     same_below (structure_at d place) (trees_between d (place + 1) after) (trees_between d after end) (trees_between d (place + 1) (place_after d place)) (trees_between d (place_after d place) end)
     (sym step.first ∙ run_unfolds d place end run (omega (arith, step.forth, step.room)))
@@ -29,7 +29,7 @@ below_step d place end after run step =
 
 -- the trees of siblings, of which the first is the first of a run
 pub first_sibling : (used : Bytes → Bool) (edition : Edition) (context : Context) (d : Trees) (place end after : ℕ) (sibling : RankedSibling) (rest : List RankedSibling)
-    → IsRun d place end → IsStep d place end after → sibling.place ≡ place → sibling.tag.now ≡ (structure_at d place).tag
+    → IsRunOfTrees d place end → IsStep d place end after → sibling.place ≡ place → sibling.tag.now ≡ (structure_at d place).tag
     → sibling_trees used edition context d rest ≡ each_sorted edition context (used_trees used (trees_between d after end))
     → sibling_trees used edition context d (sibling ∷ rest) ≡ each_sorted edition context (used_trees used (trees_between d place end))
 first_sibling used edition context d place end after sibling rest run step at tag e =

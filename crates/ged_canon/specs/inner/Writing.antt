@@ -12,7 +12,7 @@ use Rattle.ged_tree.specs.Trees.{Structure, Trees, trees_count, further_lines}
 use Rattle.ged_tree.specs.Documents.{is_document, are_at}
 use Rattle.ged_tree.specs.DocumentLines.{structure_lines, lines_of}
 use Rattle.ged_tree.specs.Places.{structure_at, below_at}
-use Rattle.ged_tree.specs.Runs.{IsRun, trees_between}
+use Rattle.ged_tree.specs.Runs.{IsRunOfTrees, trees_between}
 use Rattle.ged_tree.specs.inner.DocumentParts.{continued}
 use Rattle.ged_tree.specs.inner.Walks.{HasLinesAt}
 use Rattle.ged_schema.specs.declared.context.Context.{Context}
@@ -53,7 +53,7 @@ run_lines new edition context level d start end = lines_of level (renamed new (s
 pub record CanWriteTree (edition : Edition) (r : Option Row) (level : ℕ) (xref : Option Bytes) (d : Trees) (sibling : Sibling) (end : ℕ) : Type 0 where
   pub document : is_document d ≡ true
   pub within : StandsIn d sibling
-  pub run : IsRun d (sibling.place + 1) end
+  pub run : IsRunOfTrees d (sibling.place + 1) end
   pub deeper : trees_between d (sibling.place + 1) end ≡ below_at d sibling.place
   pub stands : HasLinesAt level (brief_sibling edition r xref d sibling)
   pub below : are_at (level + 1) (sorted edition (below_row r) (below_at d sibling.place)) ≡ true
@@ -61,7 +61,7 @@ pub record CanWriteTree (edition : Edition) (r : Option Row) (level : ℕ) (xref
 -- the structures of a run that stand in a context can be written; they are no records
 pub record CanWriteRun (edition : Edition) (context : Context) (level : ℕ) (d : Trees) (start end : ℕ) : Type 0 where
   pub document : is_document d ≡ true
-  pub run : IsRun d start end
+  pub run : IsRunOfTrees d start end
   pub deep : 0 < level
   pub stand : are_at level (sorted edition context (trees_between d start end)) ≡ true
 

@@ -1,6 +1,6 @@
 // Whether structures stand in the order of their tags.
 ghost use Rattle.std.specs.Prelude.{◌<◌, ◌↔◌, Some, IsTrue};
-ghost use Rattle.ged_tree.specs.Runs.{IsRun, trees_between};
+ghost use Rattle.ged_tree.specs.Runs.{IsRunOfTrees, trees_between};
 ghost use Rattle.ged_canon.specs.Normal.{InOrder};
 
 use crate::writer::rank::{rank_of, ranked_order};
@@ -9,7 +9,7 @@ use std::cmp::Ordering;
 
 /// Whether the structures of a run stand in the order of their tags.
 pub(crate) fn are_in_order<F: Forest>(forest: &F, start: usize, end: usize) -> bool
-    requires { IsRun (F.trees forest.now) start end }
+    requires { IsRunOfTrees (F.trees forest.now) start end }
     ensures { IsTrue result ↔ InOrder (trees_between (F.trees forest.now) start end) }
 {
     let Some(mut place) = next_in_run(forest, start, end) else {

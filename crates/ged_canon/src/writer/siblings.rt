@@ -7,7 +7,7 @@ ghost use Rattle.ged_tree.specs.Trees.{Trees, trees_count, records_of};
 ghost use Rattle.ged_tree.specs.Documents.{is_document};
 ghost use Rattle.ged_tree.specs.Places.{structure_at};
 ghost use Rattle.ged_canon.specs.declared.writer.rank.RankedSibling.{RankedSibling as RankedSiblingData};
-ghost use Rattle.ged_tree.specs.Runs.{IsRun, trees_between};
+ghost use Rattle.ged_tree.specs.Runs.{IsRunOfTrees, trees_between};
 ghost use Rattle.ged_schema.specs.declared.context.Context.{Context as AnyContext};
 ghost use Rattle.ged_canon.specs.declared.edition.Edition.{Edition as AnyEdition};
 ghost use Rattle.ged_link.specs.Links.{identifiers, xrefs, IsAmong, AreDistinct};
@@ -49,7 +49,7 @@ fn push_siblings<'a, F: Forest>(
     end: usize,
     siblings: &mut Vec<RankedSibling<'a>>,
 ) -> Result<(), AllocError>
-    requires { IsRun (F.trees forest.now) start end }
+    requires { IsRunOfTrees (F.trees forest.now) start end }
     ensures kept { OnOk result (take (length siblings.old.items) siblings.new.items ≡ siblings.old.items) }
     ensures within { OnOk result (AllByRecursion (StandsRanked (F.trees forest.now)) (drop (length siblings.old.items) siblings.new.items)) }
     ensures count { OnOk result (length (drop (length siblings.old.items) siblings.new.items) ≡ length (identifiers (trees_between (F.trees forest.now) start end))) }
@@ -83,7 +83,7 @@ pub(crate) fn push_sorted<'a, F: Forest>(
     end: usize,
     siblings: &mut Vec<RankedSibling<'a>>,
 ) -> Result<(), AllocError>
-    requires { IsRun (F.trees forest.now) start end }
+    requires { IsRunOfTrees (F.trees forest.now) start end }
     ensures kept { OnOk result (take (length siblings.old.items) siblings.new.items ≡ siblings.old.items) }
     ensures within { OnOk result (AllByRecursion (StandsRanked (F.trees forest.now)) (drop (length siblings.old.items) siblings.new.items)) }
     ensures count { OnOk result (length (drop (length siblings.old.items) siblings.new.items) ≡ length (identifiers (trees_between (F.trees forest.now) start end))) }

@@ -1,7 +1,7 @@
 // The answer of respelling: slices of the file, and what was made between them.
 ghost use Rattle.std.specs.Prelude.{◌≡◌, ◌≤◌, ◌+◌, ◌-◌, ◌++◌, ◌∷◌, [], length, take, drop, IfOk, OnOk};
 ghost use Rattle.ged_line.specs.Bytes.{Bytes, line_feed};
-ghost use Rattle.ged_line.specs.Files.{joined};
+ghost use Rattle.ged_line.specs.Files.{joined_parts};
 ghost use Rattle.ged_line.specs.Pieces.{IsBehindMark};
 ghost use Rattle.ged_line.specs.inner.Respelling.{EndsWith, text_before};
 
@@ -26,12 +26,12 @@ pub(crate) struct Answer<'a> {
 
 impl<'a> Model for Answer<'a> {
     ghost use Rattle.std.specs.Prelude.{◌++◌};
-    ghost use Rattle.ged_line.specs.Files.{joined};
+    ghost use Rattle.ged_line.specs.Files.{joined_parts};
     ghost use Rattle.ged_line.specs.inner.Respelling.{Growing, growing};
 
     ghost Value = { Growing };
 
-    ghost view = { λ a. growing (joined a.parts.items ++ a.made.items) a.pending.now };
+    ghost view = { λ a. growing (joined_parts a.parts.items ++ a.made.items) a.pending.now };
 }
 
 impl<'a> Answer<'a> {
@@ -144,7 +144,7 @@ impl<'a> Answer<'a> {
 
     /// All that is spelled, and what is pending.
     pub(crate) fn into_parts(self) -> Result<Vec<SpelledPart<'a>>, AllocError>
-        ensures { IfOk result (λ parts. joined parts.items ≡ self.entry.text ++ self.entry.pending) }
+        ensures { IfOk result (λ parts. joined_parts parts.items ≡ self.entry.text ++ self.entry.pending) }
     {
         let Answer {
             mut parts,

@@ -3,7 +3,7 @@ ghost use Rattle.std.specs.Prelude.{◌≡◌, ◌-◌, ◌++◌, ◌∷◌, Lis
 ghost use Rattle.ged_line.specs.Bytes.{Bytes, line_feed};
 ghost use Rattle.ged_line.specs.Lines.{LineParts};
 ghost use Rattle.ged_line.specs.Spelling.{LineText, spelling, spelled_lines};
-ghost use Rattle.ged_line.specs.Files.{SpellLines, IsRespelling, joined};
+ghost use Rattle.ged_line.specs.Files.{SpellLines, IsRespelling, joined_parts};
 ghost use Rattle.ged_line.specs.Reading.{TellsRespell};
 ghost use Rattle.ged_line.specs.inner.Reading.{TellsRespellIn, IsRespelledBehind};
 ghost use Rattle.ged_line.specs.inner.Respelling.{EndsWith, IsSpelledOn, text_before};
@@ -38,7 +38,7 @@ pub fn respell_lines(alloc: Global, bytes: &[u8]) -> Result<Vec<u8>, RespellFaul
 /// as a slice of them where it has 16,384 bytes or more, or stands last; all else is made. There is a part for each of these slices, of
 /// which the last may be empty. Grows for the parts and for what is made.
 pub fn respell_parts(alloc: Global, bytes: &[u8]) -> Result<Vec<SpelledPart<'_>>, RespellFault>
-    ensures spelled { IfOk result (λ parts. IsRespelling bytes.now (joined parts.items)) }
+    ensures spelled { IfOk result (λ parts. IsRespelling bytes.now (joined_parts parts.items)) }
     ensures fault { IfErr result (λ fault. TellsRespell fault bytes.now) }
 {
     let (mut answer, rest) = match Answer::start(alloc, bytes) {
@@ -56,7 +56,7 @@ pub fn respell_parts(alloc: Global, bytes: &[u8]) -> Result<Vec<SpelledPart<'_>>
 
 /// The bytes of parts. What the first of them made is taken as it is.
 fn join_parts(alloc: Global, parts: Vec<SpelledPart<'_>>) -> Result<Vec<u8>, AllocError>
-    ensures { IfOk result (λ text. text.items ≡ joined parts.entry.items) }
+    ensures { IfOk result (λ text. text.items ≡ joined_parts parts.entry.items) }
 {
     let mut parts = parts.into_iter();
     let Some(first) = parts.next() else {

@@ -6,7 +6,7 @@ use Rattle.std.specs.Io.{StartsWith}
 use Rattle.std.specs.Io.KnownBytes.{Appends}
 use Rattle.std.proofs.KnownBytes.{Appends-nil, Appends-trans, starts_with_rest}
 use Rattle.ged_line.specs.Bytes.{Bytes}
-use Rattle.ged_line.specs.Files.{joined}
+use Rattle.ged_line.specs.Files.{joined_parts}
 use Rattle.ged_line.specs.declared.file.spelled_part.SpelledPart.{SpelledPart}
 
 -- a text that begins with what was written, and goes on as another
@@ -23,15 +23,15 @@ starts_before front rest written h =
 
 -- so many parts were written
 abbrev pub AreWritten : (taken holds : Option Bytes) → List SpelledPart → ℕ → Type 0
-AreWritten taken holds parts count = (front : Bytes) × Appends taken holds front × (joined parts ≡ front ++ joined (drop count parts))
+AreWritten taken holds parts count = (front : Bytes) × Appends taken holds front × (joined_parts parts ≡ front ++ joined_parts (drop count parts))
 
 pub AreWritten-start : (taken : Option Bytes) (parts : List SpelledPart) → AreWritten taken taken parts 0
 AreWritten-start taken parts = ([], Appends-nil taken, refl)
 
 next_part : (parts : List SpelledPart) (count : ℕ) (part : SpelledPart) → count < length parts → part ≡ get_or parts count part
-    → joined (drop count parts) ≡ (part.made.items ++ part.kept.now) ++ joined (drop (count + 1) parts)
+    → joined_parts (drop count parts) ≡ (part.made.items ++ part.kept.now) ++ joined_parts (drop (count + 1) parts)
 next_part parts count part within is =
-    ap joined (drop_more parts count part within ∙ ap (λ p. p ∷ drop (count + 1) parts) (sym is)) ∙ sym (append_assoc part.made.items part.kept.now (joined (drop (count + 1) parts)))
+    ap joined_parts (drop_more parts count part within ∙ ap (λ p. p ∷ drop (count + 1) parts) (sym is)) ∙ sym (append_assoc part.made.items part.kept.now (joined_parts (drop (count + 1) parts)))
 
 pub AreWritten-more : (taken before holds : Option Bytes) (parts : List SpelledPart) (count : ℕ) (part : SpelledPart) → count < length parts → part ≡ get_or parts count part
     → Appends before holds (part.made.items ++ part.kept.now) → AreWritten taken before parts count → AreWritten taken holds parts (count + 1)
@@ -39,21 +39,21 @@ AreWritten-more taken before holds parts count part within is more (front, took,
     let both = part.made.items ++ part.kept.now in (
       front ++ both,
       Appends-trans taken before holds front both took more,
-      split ∙ ap (λ x. front ++ x) (next_part parts count part within is) ∙ sym (append_assoc front both (joined (drop (count + 1) parts))),
+      split ∙ ap (λ x. front ++ x) (next_part parts count part within is) ∙ sym (append_assoc front both (joined_parts (drop (count + 1) parts))),
     )
 
-pub AreWritten-all : (taken holds : Option Bytes) (parts : List SpelledPart) (count : ℕ) → length parts ≤ count → AreWritten taken holds parts count → Appends taken holds (joined parts)
+pub AreWritten-all : (taken holds : Option Bytes) (parts : List SpelledPart) (count : ℕ) → length parts ≤ count → AreWritten taken holds parts count → Appends taken holds (joined_parts parts)
 AreWritten-all taken holds parts count past (front, took, split) =
-    let all : joined parts ≡ front = split ∙ ap (λ x. front ++ joined x) (drop_all count parts past) ∙ append-nil front in
+    let all : joined_parts parts ≡ front = split ∙ ap (λ x. front ++ joined_parts x) (drop_all count parts past) ∙ append-nil front in
     subst (Appends taken holds) (sym all) took
 
 -- a part of which a front was written
 pub AreWritten-stops : (taken before holds : Option Bytes) (parts : List SpelledPart) (count : ℕ) (part : SpelledPart) (written : Bytes) → count < length parts → part ≡ get_or parts count part
     → Appends before holds written → StartsWith (part.made.items ++ part.kept.now) written → AreWritten taken before parts count
-    → (all : Bytes) × Appends taken holds all × StartsWith (joined parts) all
+    → (all : Bytes) × Appends taken holds all × StartsWith (joined_parts parts) all
 AreWritten-stops taken before holds parts count part written within is more starts (front, took, split) =
     let both = part.made.items ++ part.kept.now in
-    let rest = joined (drop (count + 1) parts) in
+    let rest = joined_parts (drop (count + 1) parts) in
     let begins : StartsWith (front ++ (both ++ rest)) (front ++ written) = starts_behind front (both ++ rest) written (starts_before both rest written starts) in (
       front ++ written,
       Appends-trans taken before holds front written took more,

@@ -3,7 +3,7 @@ ghost use Rattle.std.specs.Prelude.{◌≡◌, ◌++◌, ◌<◌, ◌↔◌, fal
 ghost use Rattle.std.specs.Io.KnownBytes.{Appends};
 ghost use Rattle.std.specs.Io.{StartsWith};
 ghost use Rattle.ged_line.specs.Bytes.{Bytes};
-ghost use Rattle.ged_line.specs.Files.{joined};
+ghost use Rattle.ged_line.specs.Files.{joined_parts};
 ghost use Rattle.ged_tool.specs.Settings.{profile_of, edition_of};
 ghost use Rattle.ged_accept.specs.Accepted.{FileFaultAt};
 ghost use Rattle.ged_tool.specs.Answers.{Answers, FaultAt};
@@ -156,9 +156,9 @@ fn write_through<W: Sink>(
 fn write_parts<W: Sink>(writer: &mut W, parts: &[SpelledPart<'_>]) -> Result<(), Failed>
     requires { W.failed writer.old ≡ false }
     ensures ok { OnOk result ((W.failed writer.new ≡ false)
-        × Appends (W.taken writer.old) (W.taken writer.new) (joined parts.now)) }
+        × Appends (W.taken writer.old) (W.taken writer.new) (joined_parts parts.now)) }
     ensures err { OnErr result (IsTrue (W.failed writer.new) × (written : Bytes)
-        × Appends (W.taken writer.old) (W.taken writer.new) written × StartsWith (joined parts.now) written) }
+        × Appends (W.taken writer.old) (W.taken writer.new) written × StartsWith (joined_parts parts.now) written) }
 {
     for part in parts {
         match write_both(writer, &part.made, part.kept) {

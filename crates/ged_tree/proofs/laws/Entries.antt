@@ -6,7 +6,7 @@ use Rattle.std.specs.Option.{option_map}
 use Rattle.ged_tree.specs.Trees.{Trees, none, tree, trees_count, line_count, lines_count}
 use Rattle.ged_tree.specs.Places.{level_at, structure_at}
 use Rattle.ged_tree.specs.Entries.{Entry, entries_of}
-use Rattle.ged_tree.specs.Rows.{Row, rows_of}
+use Rattle.ged_tree.specs.Rows.{TableRow, rows_of}
 use Rattle.ged_tree.proofs.theory.RowsAtPlaces.{length-rows_of, rows_at, row_at}
 
 -- a list that is empty, or begins above a level
@@ -51,7 +51,7 @@ same_trees l (tree s b n) (tree t c m) xs ys f g h =
 pub one_list : (l : ℕ) (w u : Trees) → entries_of l w ≡ entries_of l u → w ≡ u
 one_list l w u h = (same_trees l w u [] [] tt tt (rw (append-nil, append-nil) h)).0
 
-abbrev entry_of : Row → Entry
+abbrev entry_of : TableRow → Entry
 entry_of r = record { level = r.level; structure = r.structure }
 
 -- the list tells of each row what stands at no place and no line
@@ -69,7 +69,7 @@ pub entry_at_place : (w : Trees) (p : ℕ) → p < trees_count w → slice_get (
 unfolding structure_at
 entry_at_place w p h =
     let rows = rows_of 0 0 1 w in
-    let d : Row = row_at 0 0 1 w p in
+    let d : TableRow = row_at 0 0 1 w p in
     let inside : p < length rows = omega (arith, h, length-rows_of 0 0 1 w) in
     ap (λ (es : List Entry). slice_get es p) (entries_of_rows 0 0 1 w)
     ∙ slice_get-map entry_of rows p

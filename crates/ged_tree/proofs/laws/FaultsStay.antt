@@ -9,7 +9,7 @@ use Rattle.ged_line.specs.Files.{FileText}
 use Rattle.ged_line.specs.Pieces.{ArePiecesOf}
 use Rattle.ged_line.specs.WholeLines.{EndsLine}
 use Rattle.ged_line.proofs.CallerLemmas.{whole_stay, mark_no_line}
-use Rattle.ged_tree.specs.TreeFaults.{stands, line_faults, fault_after, Pass, has_trailer, FirstFault, at_line, no_lines, past_last}
+use Rattle.ged_tree.specs.TreeFaults.{stands, line_faults, fault_after, Pass, has_trailer, FirstTreeFault, at_line, no_lines, past_last}
 use Rattle.ged_tree.specs.FileFaults.{ComesAfter, FirstFaultIn, at_piece, at_text, at_end}
 use Rattle.ged_tree.specs.FaultsStay.{FirstFaultStays}
 use Rattle.ged_tree.specs.declared.fault.TreeFault.{TreeFault}
@@ -33,7 +33,7 @@ comes_after_more front more lines piece e c =
       pass = c.pass;
     }
 
-end_fault : (lines : List LineParts) (n : ℕ) (fault : TreeFault) → FirstFault lines n fault → n ≡ length lines + 1 → (lines ≡ []) ⊎ (fault ≡ NoTrailer)
+end_fault : (lines : List LineParts) (n : ℕ) (fault : TreeFault) → FirstTreeFault lines n fault → n ≡ length lines + 1 → (lines ≡ []) ⊎ (fault ≡ NoTrailer)
 end_fault _ _ _ (at_line before after line fault p e) k = absurd (omega (arith, k, length-append before (line ∷ after)))
 end_fault _ _ _ no_lines k = inl refl
 end_fault _ _ _ (past_last lines p s t) k = inr refl

@@ -11,7 +11,7 @@ use Rattle.ged_line.specs.Files.{AreTexts}
 use Rattle.ged_line.specs.declared.fault.LineFault.{LineFault}
 use Rattle.ged_line.specs.declared.fault.LineFault.TheVariants.{NotUtf8, BannedCharacter, EmptyLine, BadLevel, LevelTooLarge, BadXref, BadTag, BadValue}
 use Rattle.ged_line.proofs.CallerLemmas.{no_fault, one_line, one_cut, texts_of_file}
-use Rattle.ged_tree.specs.TreeFaults.{fault_after, Pass, start, more, has_trailer, FirstFault, at_line, no_lines, past_last}
+use Rattle.ged_tree.specs.TreeFaults.{fault_after, Pass, start, more, has_trailer, FirstTreeFault, at_line, no_lines, past_last}
 use Rattle.ged_tree.specs.FileFaults.{ComesAfter, FirstFaultIn, at_piece, at_text, at_end}
 use Rattle.ged_tree.specs.TreeLaws.{OneFaultInFile, FaultyFileFails}
 use Rattle.ged_tree.specs.declared.fault.TreeFault.{TreeFault}
@@ -48,7 +48,7 @@ abbrev TellsLine : List LineParts → LineParts → ℕ → TreeFault → Type 0
 TellsLine lines line number fault = (fault_after lines line ≡ Some fault) × (number ≡ length lines + 1)
 
 abbrev Tells : List LineParts → List Bytes → ℕ → TreeFault → Type 0
-Tells lines [] number fault = FirstFault lines number fault × (number ≡ length lines + 1)
+Tells lines [] number fault = FirstTreeFault lines number fault × (number ≡ length lines + 1)
 Tells lines (piece ∷ pieces) number fault = TellsPiece lines piece number fault
     ⊎ ((line : LineParts) × LineText line piece × (TellsLine lines line number fault
     ⊎ ((fault_after lines line ≡ None) × Tells (lines ++ line ∷ []) pieces number fault)))
@@ -88,7 +88,7 @@ tells_behind done (line ∷ lines) (piece ∷ before) rest n f a p q t =
     let later = subst (λ (ls : List LineParts). Tells ls rest n f) (sym moved) t in
     inr (line, a.0, inr (e, tells_behind (done ++ line ∷ []) lines before rest n f a.1 (more done line p e) pass later))
 
-end_passes : (lines : List LineParts) (n : ℕ) (f : TreeFault) → FirstFault lines n f → n ≡ length lines + 1 → Pass lines
+end_passes : (lines : List LineParts) (n : ℕ) (f : TreeFault) → FirstTreeFault lines n f → n ≡ length lines + 1 → Pass lines
 end_passes _ _ _ (at_line before after line fault p e) k = absurd (omega (arith, k, length-append before (line ∷ after)))
 end_passes _ _ _ no_lines k = start
 end_passes _ _ _ (past_last lines p s t) k = p

@@ -5,7 +5,7 @@ use Rattle.ged_line.specs.Lines.{LineParts}
 use Rattle.ged_line.specs.Files.{FileText, StopsAt}
 use Rattle.ged_line.specs.declared.fault.LineAt.{LineAt}
 use Rattle.ged_line.specs.declared.fault.LineFault.{LineFault}
-use Rattle.ged_tree.specs.TreeFaults.{fault_after, Pass, start, more, FirstFault, at_line}
+use Rattle.ged_tree.specs.TreeFaults.{fault_after, Pass, start, more, FirstTreeFault, at_line}
 use Rattle.ged_tree.specs.WholeFiles.{HasDocumentOrFault}
 use Rattle.ged_tree.specs.declared.fault.TreeFault.{TreeFault}
 use Rattle.ged_tree.specs.declared.fault.TreeFault.TheVariants.{Line}
@@ -15,7 +15,7 @@ use Rattle.ged_tree.proofs.theory.Building.{file_fault, file_of_lines}
 
 -- a first fault stands at one of the lines
 abbrev HasFaultAmong : List LineParts → Type 0
-HasFaultAmong lines = (line : ℕ) × (fault : TreeFault) × FirstFault lines line fault × (line ≤ length lines)
+HasFaultAmong lines = (line : ℕ) × (fault : TreeFault) × FirstTreeFault lines line fault × (line ≤ length lines)
 
 -- one of the lines left has a fault, or none has
 among : (before rest : List LineParts) → Pass before → Pass (before ++ rest) ⊎ HasFaultAmong (before ++ rest)

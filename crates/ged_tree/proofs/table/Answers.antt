@@ -19,7 +19,7 @@ use Rattle.ged_tree.specs.Views.{payload_of, is_pointer}
 use Rattle.ged_tree.specs.Spelled.{payload_from}
 use Rattle.ged_tree.specs.DocumentLines.{line_value, first_value, rest_of_line}
 use Rattle.ged_tree.specs.inner.Tables.{own_value}
-use Rattle.ged_tree.specs.Rows.{Row, row_of, rows_from, texts_of, places_of, further_before, further_at, flat_trees, Further, further_of, IsListed, IsFlat, IsSpelled, line_shown, Shown, shown_from, shown_with, text_at, kept_level, kept_levels, kept_further, kept_tag_length, kept_points, names_record, HasSlice, deeper}
+use Rattle.ged_tree.specs.Rows.{TableRow, row_of, rows_from, texts_of, places_of, further_before, further_at, flat_trees, Further, further_of, IsListed, IsFlat, IsSpelled, line_shown, Shown, shown_from, shown_with, text_at, kept_level, kept_levels, kept_further, kept_tag_length, kept_points, names_record, HasSlice, deeper}
 use Rattle.ged_tree.specs.inner.Rows.{rest_of}
 use Rattle.ged_tree.specs.declared.forest.payload.PayloadView.{PayloadView}
 use Rattle.ged_tree.specs.declared.forest.payload.PayloadView.TheVariants as views
@@ -75,7 +75,7 @@ length-rows_from : (texts : List Bytes) (afters : List ℕ) (place : ℕ) (items
 length-rows_from texts afters place [] = refl
 length-rows_from texts afters place (s ∷ rest) = ap suc (length-rows_from texts afters (place + 1) rest)
 
-rows_from_at : (texts : List Bytes) (afters : List ℕ) (place : ℕ) (items : List Shown) (i : ℕ) (s : Shown) (d : Row) → i < length items → s ≡ get_or items i s
+rows_from_at : (texts : List Bytes) (afters : List ℕ) (place : ℕ) (items : List Shown) (i : ℕ) (s : Shown) (d : TableRow) → i < length items → s ≡ get_or items i s
     → get_or (rows_from texts afters place items) i d ≡ row_of texts afters (place + i) s (drop (i + 1) items)
 rows_from_at texts afters place [] i s d h e = absurd (omega (arith, h))
 rows_from_at texts afters place (x ∷ rest) zero s d h e = (let z : place + 0 ≡ place = omega arith in rw (z, e) refl)
@@ -127,7 +127,7 @@ module _ (structures : List Shown) (further : List Further) (flat : IsListed str
   pub flat_count : length structures ≡ trees_count (flat_trees structures further)
   flat_count =
       sym (length-rows_from (texts_of further) (places_of further) 0 structures)
-      ∙ ap (λ (es : List Row). length es) flat.listed
+      ∙ ap (λ (es : List TableRow). length es) flat.listed
       ∙ length-rows_of 0 0 1 (flat_trees structures further)
 
   pub flat_at : (place : ℕ) (s : Shown) → place < length structures → s ≡ get_or structures place s
@@ -135,11 +135,11 @@ module _ (structures : List Shown) (further : List Further) (flat : IsListed str
   flat_at place s h e =
       let texts = texts_of further in
       let afters = places_of further in
-      let d : Row = row_of texts afters place s [] in
+      let d : TableRow = row_of texts afters place s [] in
       let z : 0 + place ≡ place = omega arith in
       ap (λ (p : ℕ). row_of texts afters p s (drop (place + 1) structures)) (sym z)
       ∙ sym (rows_from_at texts afters 0 structures place s d h e)
-      ∙ ap (λ (es : List Row). get_or es place d) flat.listed
+      ∙ ap (λ (es : List TableRow). get_or es place d) flat.listed
       ∙ rows_at 0 0 1 (flat_trees structures further) place d (omega (arith, flat_count))
 
   pub flat_spelled : (place : ℕ) (s : Shown) → place < length structures → s ≡ get_or structures place s → IsSpelled s
@@ -162,7 +162,7 @@ module _ (structures : List Shown) (further : List Further) (flat : IsListed str
       let s = get_or structures place no_structure in
       let is : s ≡ get_or structures place s = get_or_default structures place no_structure s h in
       let part = take count (drop start texts) in
-      let same : further_lines (payload_from (line_shown s).value part) ≡ further_lines (structure_at (flat_trees structures further) place).payload = ap (λ (x : Row). further_lines x.structure.payload) (flat_at place s h is) in
+      let same : further_lines (payload_from (line_shown s).value part) ≡ further_lines (structure_at (flat_trees structures further) place).payload = ap (λ (x : TableRow). further_lines x.structure.payload) (flat_at place s h is) in
       let inside : n < length (further_lines (payload_from (line_shown s).value part)) = rw (← same) at k in
       let kept : further_lines (payload_from (line_shown s).value part) ≡ part = further_kept (line_shown s).value part n inside in
       let at = part_at texts start count n (rw kept at inside) in
@@ -180,8 +180,8 @@ module _ (structures : List Shown) (further : List Further) (flat : IsListed str
       let s = get_or structures place no_structure in
       let part = take count (drop start texts) in
       let row = flat_at place s h (get_or_default structures place no_structure s h) in
-      let same : further_lines (payload_from (line_shown s).value part) ≡ further_lines (structure_at (flat_trees structures further) place).payload = ap (λ (x : Row). further_lines x.structure.payload) row in
-      let many : count ≡ length (further_lines (payload_from (line_shown s).value part)) = ap (λ (x : Row). x.further) row ∙ ap (λ (xs : List Bytes). length xs) (sym same) in
+      let same : further_lines (payload_from (line_shown s).value part) ≡ further_lines (structure_at (flat_trees structures further) place).payload = ap (λ (x : TableRow). further_lines x.structure.payload) row in
+      let many : count ≡ length (further_lines (payload_from (line_shown s).value part)) = ap (λ (x : TableRow). x.further) row ∙ ap (λ (xs : List Bytes). length xs) (sym same) in
       elim (cases_lt 0 count) [
         | inl some ↦ sym (further_kept (line_shown s).value part 0 (omega (arith, some, many))) ∙ same
         | inr few ↦ (let zero : count ≡ 0 = omega (arith, few) in rw zero (sym (nothing (further_lines (structure_at (flat_trees structures further) place).payload) (omega (arith, zero, many, ap (λ (xs : List Bytes). length xs) same)))))
@@ -191,19 +191,19 @@ module _ (structures : List Shown) (further : List Further) (flat : IsListed str
   unfolding structure_at
   flat_count_at place h =
       let s = get_or structures place no_structure in
-      ap (λ (x : Row). x.further) (flat_at place s h (get_or_default structures place no_structure s h))
+      ap (λ (x : TableRow). x.further) (flat_at place s h (get_or_default structures place no_structure s h))
 
   pub flat_alone : (place : ℕ) (s : Shown) → place < length structures → s ≡ get_or structures place s → s.has_further ≡ false → length (further_lines (structure_at (flat_trees structures further) place).payload) ≡ 0
   unfolding structure_at
   flat_alone place s h e alone =
-      let told : s.has_further ≡ nat_lt 0 (length (further_lines (structure_at (flat_trees structures further) place).payload)) = ap (λ (x : Row). x.goes_on) (flat_at place s h e) in
+      let told : s.has_further ≡ nat_lt 0 (length (further_lines (structure_at (flat_trees structures further) place).payload)) = ap (λ (x : TableRow). x.goes_on) (flat_at place s h e) in
       let few = ltb-false 0 (length (further_lines (structure_at (flat_trees structures further) place).payload)) (sym told ∙ alone) in
       omega (arith, few)
 
   pub flat_number : (place : ℕ) → place < length structures → place + further_before place (places_of further) + 1 ≡ line_at 1 (flat_trees structures further) place
   flat_number place h =
       let s = get_or structures place no_structure in
-      ap (λ (x : Row). x.line) (flat_at place s h (get_or_default structures place no_structure s h))
+      ap (λ (x : TableRow). x.line) (flat_at place s h (get_or_default structures place no_structure s h))
 
 -- a line has a text
 some_text : (line : LineParts) (text : Bytes) → LineText line text → ¬ (text ≡ [])
@@ -260,24 +260,24 @@ module _ (file : Bytes) (apart : List TextApart) (structures : List KeptStructur
     kept_alone alone = flat_alone all further flat.lists place here within stands alone
 
     pub kept_level_is : kept_level s ≡ level_at 0 (flat_trees all further) place
-    kept_level_is = ap (λ (x : Row). x.level) kept_row
+    kept_level_is = ap (λ (x : TableRow). x.level) kept_row
 
     pub kept_after : place + (1 + deeper (kept_level s) (kept_levels (drop (place + 1) structures))) ≡ place_after (flat_trees all further) place
     unfolding below_at place_after
     kept_after =
-        let told = ap (λ (x : Row). x.after) kept_row in
+        let told = ap (λ (x : TableRow). x.after) kept_row in
         let same = ap (λ (ls : List ℕ). deeper (kept_level s) ls) (levels_behind file apart (place + 1) 0 structures) in
         omega (arith, told, same)
 
     pub kept_shows : (text : Bytes) → text ≡ text_at file apart place s → ShowsAt (flat_trees all further) place (shown_with text s)
     unfolding structure_at
     kept_shows text e = subst (λ (bs : Bytes). ShowsAt (flat_trees all further) place (shown_with bs s)) (sym e) (record {
-      tag = ap (λ (x : Row). x.structure.tag) kept_row;
-      xref = ap (λ (x : Row). x.structure.xref) kept_row;
-      payload = λ v same. rw (← (ap (λ (x : Row). x.structure.payload) kept_row)) (view_again v (line_shown here).value _ same);
+      tag = ap (λ (x : TableRow). x.structure.tag) kept_row;
+      xref = ap (λ (x : TableRow). x.structure.xref) kept_row;
+      payload = λ v same. rw (← (ap (λ (x : TableRow). x.structure.payload) kept_row)) (view_again v (line_shown here).value _ same);
       rest =
           let first = first_from (line_shown here).value _ (line_is (line_shown here) kept_spelled.0.is_line).value in
-          ap (λ (v : Value). (line_shown here).tag ++ value_part v) (sym first) ∙ ap (λ (x : Row). rest_of_line x.structure) kept_row;
+          ap (λ (v : Value). (line_shown here).tag ++ value_part v) (sym first) ∙ ap (λ (x : TableRow). rest_of_line x.structure) kept_row;
       spelled = kept_spelled;
     })
 
@@ -285,4 +285,4 @@ module _ (file : Bytes) (apart : List TextApart) (structures : List KeptStructur
     pub kept_pointer : 0 < kept_tag_length s → kept_points s ≡ is_pointer (structure_at (flat_trees all further) place).payload
     unfolding structure_at
     kept_pointer some =
-        (kept_spelled.1 some).1 ∙ points_from (line_shown here).value _ ∙ ap (λ (x : Row). is_pointer x.structure.payload) kept_row
+        (kept_spelled.1 some).1 ∙ points_from (line_shown here).value _ ∙ ap (λ (x : TableRow). is_pointer x.structure.payload) kept_row

@@ -10,7 +10,7 @@ use Rattle.ged_tree.specs.Trees.{Structure, Trees, none, tree, trees_count, furt
 use Rattle.ged_tree.specs.Documents.{is_document, are_at}
 use Rattle.ged_tree.specs.DocumentLines.{line_value, first_value, lines_of}
 use Rattle.ged_tree.specs.inner.DocumentParts.{continued}
-use Rattle.ged_tree.specs.Rows.{Row, rows_of, rows_from, further_before, places_of, texts_of, trees_of_rows, flat_rows, flat_trees, IsListed, IsSpelled, Further, Shown, deeper, levels_of}
+use Rattle.ged_tree.specs.Rows.{TableRow, rows_of, rows_from, further_before, places_of, texts_of, trees_of_rows, flat_rows, flat_trees, IsListed, IsSpelled, Further, Shown, deeper, levels_of}
 use Rattle.ged_tree.specs.inner.Tables.{OwnLine, own_line, own_lines, begins_cont, further_places, further_texts, line_text}
 use Rattle.ged_tree.specs.Spelled.{payload_from}
 use Rattle.ged_tree.proofs.theory.LinesAgain.{tree_is, payload_again, laid, document_placed}
@@ -26,11 +26,11 @@ abbrev next_start : ℕ → List StartedLine → ℕ
 next_start end [] = end
 next_start end (r ∷ rs) = r.start
 
-abbrev row_from : List Bytes → ℕ → ℕ → ℕ → StartedLine → Row
+abbrev row_from : List Bytes → ℕ → ℕ → ℕ → StartedLine → TableRow
 row_from further place below count r = record { level = r.line.level; after = place + (1 + below); line = place + r.start + 1; further = count; goes_on = r.goes_on; structure = record { xref = r.line.xref; tag = r.line.tag; payload = payload_from r.line.value (take count (drop r.start further)) } }
 
 -- the rows of the own lines of a closed table
-abbrev closed_rows : List Bytes → ℕ → ℕ → List StartedLine → List Row
+abbrev closed_rows : List Bytes → ℕ → ℕ → List StartedLine → List TableRow
 closed_rows further end place [] = []
 closed_rows further end place (r ∷ rs) = row_from further place (deeper r.line.level (own_levels rs)) (next_start end rs - r.start) r ∷ closed_rows further end (place + 1) rs
 
@@ -97,7 +97,7 @@ lines_start end k count none rs h = (let z : count + 0 ≡ count = omega arith i
 lines_start end k count (tree s b n) rs h = refl
 
 -- a structure's row, where its own line's neighbours are known
-abbrev row_is : ℕ → ℕ → ℕ → Structure → Trees → Row
+abbrev row_is : ℕ → ℕ → ℕ → Structure → Trees → TableRow
 row_is k place number s b = record { level = k; after = place + (1 + trees_count b); line = number; further = length (further_lines s.payload); goes_on = nat_lt 0 (length (further_lines s.payload)); structure = s }
 
 lines_rows : (further : List Bytes) (end k place count number : ℕ) (w : Trees) (more_texts : List Bytes) (rs : List StartedLine)
@@ -132,7 +132,7 @@ lines_rows further end k place count number (tree s b n) more_texts rs f m d z e
     let after = lines_rows further end k (place + (1 + trees_count b)) c2 m2 n more_texts rs g.next_is (omega (arith, m, lines_are b)) d2 z e2 in
     let first : row_from further place (deeper k (own_levels (below ++ (next ++ rs)))) (next_start end (below ++ (next ++ rs)) - count) (record { line = line_parts k s.xref s.tag (first_value s.payload); goes_on = nat_lt 0 (length (further_lines s.payload)); start = count }) ≡ row_is k place number s b = rw (span, size, payload, m) refl in
     let joined : closed_rows further end (place + 1) (below ++ (next ++ rs)) ≡ (rows_of (k + 1) (place + 1) m1 b ++ rows_of k (place + (1 + trees_count b)) m2 n) ++ closed_rows further end (place + (1 + trees_count b + trees_count n)) rs =
-    inside ∙ ap (λ (j : ℕ). rows_of (k + 1) (place + 1) m1 b ++ closed_rows further end j (next ++ rs)) place_is ∙ ap (λ (xs : List Row). rows_of (k + 1) (place + 1) m1 b ++ xs) (after ∙ ap (λ (j : ℕ). rows_of k (place + (1 + trees_count b)) m2 n ++ closed_rows further end j rs) last) ∙ sym (append_assoc (rows_of (k + 1) (place + 1) m1 b) (rows_of k (place + (1 + trees_count b)) m2 n) (closed_rows further end (place + (1 + trees_count b + trees_count n)) rs)) in
+    inside ∙ ap (λ (j : ℕ). rows_of (k + 1) (place + 1) m1 b ++ closed_rows further end j (next ++ rs)) place_is ∙ ap (λ (xs : List TableRow). rows_of (k + 1) (place + 1) m1 b ++ xs) (after ∙ ap (λ (j : ℕ). rows_of k (place + (1 + trees_count b)) m2 n ++ closed_rows further end j rs) last) ∙ sym (append_assoc (rows_of (k + 1) (place + 1) m1 b) (rows_of k (place + (1 + trees_count b)) m2 n) (closed_rows further end (place + (1 + trees_count b + trees_count n)) rs)) in
     rw (append_assoc below next rs, first, joined) refl
 
 conts_own : (count m : ℕ) (texts : List Bytes) (rest : List LineParts) → started_lines count (continued m texts ++ rest) ≡ started_lines (count + length texts) rest

@@ -13,7 +13,7 @@ use Rattle.ged_line.proofs.CallerLemmas.{first_of_pieces, are_cut, line_plain}
 use Rattle.ged_tree.proofs.theory.ReadLines.{HaveRead, HaveRead-start, HaveRead-more, HaveReadFile, HaveReadFile-start, HaveReadFile-more, HaveReadFile-end, length-AreTexts}
 use Rattle.ged_line.specs.declared.fault.LineFault.{LineFault}
 use Rattle.ged_line.specs.Files.{FileText}
-use Rattle.ged_tree.specs.TreeFaults.{FirstFault, Pass, no_lines, past_last}
+use Rattle.ged_tree.specs.TreeFaults.{FirstTreeFault, Pass, no_lines, past_last}
 use Rattle.ged_tree.specs.TreeFaults.{at_line as at_line_of}
 use Rattle.ged_tree.specs.FileFaults.{ComesAfter, FirstFaultIn, at_piece, at_text, at_end}
 use Rattle.ged_tree.specs.Building.{TellsFile}
@@ -100,7 +100,7 @@ fault_told file table left rest piece line t e text (At at) (pass, stands, numbe
 fault_told file table left rest piece line t e text (Memory error) told = tt
 
 -- every line passes
-past_all : (lines : List LineParts) (line : ℕ) (fault : TreeFault) → FirstFault lines line fault → Pass lines → line ≡ length lines + 1
+past_all : (lines : List LineParts) (line : ℕ) (fault : TreeFault) → FirstTreeFault lines line fault → Pass lines → line ≡ length lines + 1
 past_all _ _ _ (at_line_of before after line fault p e) pass = absurd (no_pass before after line fault p e pass)
 past_all _ _ _ no_lines pass = refl
 past_all _ _ _ (past_last lines p n t) pass = refl
@@ -108,7 +108,7 @@ past_all _ _ _ (past_last lines p n t) pass = refl
 pub unended : (file : Bytes) (lines : List LineParts) (fault : BuildFault) → FileText lines file → TellsEnd fault lines → Pass lines → TellsFile fault file
 unended file lines (At at) text f pass =
     let e = past_all lines at.line at.fault f pass in
-    rw e (at_end file lines at.fault text (subst (λ (n : ℕ). FirstFault lines n at.fault) e f))
+    rw e (at_end file lines at.fault text (subst (λ (n : ℕ). FirstTreeFault lines n at.fault) e f))
 unended file lines (Memory error) text f pass = tt
 
 -- every piece is a line

@@ -11,7 +11,7 @@ use Rattle.ged_tree.specs.Trees.{Trees}
 use Rattle.ged_tree.specs.DocumentLines.{lines_of}
 use Rattle.ged_tree.specs.Documents.{HasLines}
 use Rattle.ged_tree.specs.inner.Trailers.{trailer_line}
-use Rattle.ged_tree.specs.TreeFaults.{is_cont, is_trailer, is_empty, has_trailer, fault_after, Pass, more, FirstFault, no_lines, past_last}
+use Rattle.ged_tree.specs.TreeFaults.{is_cont, is_trailer, is_empty, has_trailer, fault_after, Pass, more, FirstTreeFault, no_lines, past_last}
 use Rattle.ged_tree.specs.Judging.{StandsFor}
 use Rattle.ged_tree.specs.Rows.{AreSizes, IsFlat}
 use Rattle.ged_tree.specs.inner.Tables.{OwnLine, own_line, own_lines, begins_cont, go_on, with_line, further_places, further_texts, but_trailer, table_shown, table_further, IsKept, HoldsLines, IsPut}
@@ -155,10 +155,10 @@ taken old mid new lines line h none is stands counted file apart same also put =
     }
 
 -- what stands past the last line
-pub past : (lines : List LineParts) (count : ℕ) → count ≡ length lines → Pass lines → has_trailer lines ≡ false → 0 < count → FirstFault lines (count + 1) NoTrailer
-past lines count e p t some = subst (λ (n : ℕ). FirstFault lines (n + 1) NoTrailer) (sym e) (past_last lines p (λ z. let q = ap (λ (ls : List LineParts). length ls) z in absurd (omega (arith, e, some, q))) t)
+pub past : (lines : List LineParts) (count : ℕ) → count ≡ length lines → Pass lines → has_trailer lines ≡ false → 0 < count → FirstTreeFault lines (count + 1) NoTrailer
+past lines count e p t some = subst (λ (n : ℕ). FirstTreeFault lines (n + 1) NoTrailer) (sym e) (past_last lines p (λ z. let q = ap (λ (ls : List LineParts). length ls) z in absurd (omega (arith, e, some, q))) t)
 
-pub nothing : (lines : List LineParts) (count : ℕ) → count ≡ length lines → count ≡ 0 → FirstFault lines (count + 1) NoHeader
+pub nothing : (lines : List LineParts) (count : ℕ) → count ≡ length lines → count ≡ 0 → FirstTreeFault lines (count + 1) NoHeader
 nothing [] count e z = rw e no_lines
 nothing (x ∷ xs) count e z = absurd (omega (arith, e, z))
 

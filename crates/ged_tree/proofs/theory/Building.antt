@@ -14,7 +14,7 @@ use Rattle.ged_line.proofs.CallerLemmas.{one_line, no_fault, one_cut, one_readin
 use Rattle.ged_tree.proofs.theory.ReadLines.{AreTexts-more, length-AreTexts}
 use Rattle.ged_tree.specs.Documents.{HasLines}
 use Rattle.ged_tree.specs.DocumentLines.{document_lines}
-use Rattle.ged_tree.specs.TreeFaults.{Pass, start, FirstFault, no_lines, past_last}
+use Rattle.ged_tree.specs.TreeFaults.{Pass, start, FirstTreeFault, no_lines, past_last}
 use Rattle.ged_tree.specs.TreeFaults.{at_line as at_line_of}
 use Rattle.ged_tree.specs.Trees.{Trees}
 use Rattle.ged_tree.specs.FileFaults.{ComesAfter, FirstFaultIn, at_piece, at_text, at_end}
@@ -26,18 +26,18 @@ use Rattle.ged_tree.proofs.theory.LinesThatPass.{passes}
 use Rattle.ged_tree.proofs.theory.FirstFaults.{none_of_faulty}
 
 -- where the first fault stands past all lines, they pass
-past_pass : (lines : List LineParts) (line : ℕ) (fault : TreeFault) → FirstFault lines line fault → length lines < line → Pass lines
+past_pass : (lines : List LineParts) (line : ℕ) (fault : TreeFault) → FirstTreeFault lines line fault → length lines < line → Pass lines
 past_pass _ _ _ (at_line_of before after line fault p e) h = absurd (omega (arith, h, length-append before (line ∷ after)))
 past_pass _ _ _ no_lines h = start
 past_pass _ _ _ (past_last lines p n t) h = p
 
 -- there the fault of a stop is the first
-pub stop_first : (lines : List LineParts) (stop : LineAt) (line n : ℕ) (fault f : TreeFault) → FirstFault lines line fault → length lines < line → n ≡ stop.line → f ≡ Line stop.fault
+pub stop_first : (lines : List LineParts) (stop : LineAt) (line n : ℕ) (fault f : TreeFault) → FirstTreeFault lines line fault → length lines < line → n ≡ stop.line → f ≡ Line stop.fault
     → IsBuildFault lines (Some stop) n f
 stop_first lines stop line n fault f first h e g = inr (past_pass lines line fault first h, e, g)
 
 -- and before it, that of the lines
-pub line_first : (lines : List LineParts) (stop : Option LineAt) (line : ℕ) (fault : TreeFault) → FirstFault lines line fault → line ≤ length lines → IsBuildFault lines stop line fault
+pub line_first : (lines : List LineParts) (stop : Option LineAt) (line : ℕ) (fault : TreeFault) → FirstTreeFault lines line fault → line ≤ length lines → IsBuildFault lines stop line fault
 line_first lines None line fault f h = f
 line_first lines (Some stop) line fault f h = inl (f, h)
 
@@ -52,7 +52,7 @@ front_is (x ∷ front) (y ∷ lines) (p ∷ before) after f a =
     (more.0, (let e : lines ≡ front ++ more.0 = more.1 in cc), more.2)
 
 -- a first fault at one of the lines is the first of more lines
-first_of_more : (front rest : List LineParts) (line : ℕ) (fault : TreeFault) → FirstFault front line fault → line ≤ length front → FirstFault (front ++ rest) line fault
+first_of_more : (front rest : List LineParts) (line : ℕ) (fault : TreeFault) → FirstTreeFault front line fault → line ≤ length front → FirstTreeFault (front ++ rest) line fault
 first_of_more _ rest _ _ (at_line_of before after line fault p e) h = rw (append_assoc before (line ∷ after) rest) (at_line_of before (after ++ rest) line fault p e)
 first_of_more _ rest _ _ no_lines h = absurd (omega (arith, h))
 first_of_more _ rest _ _ (past_last lines p n t) h = absurd (omega (arith, h))
@@ -140,11 +140,11 @@ BeginsWithLines file lines = (before after : List Bytes) × ArePiecesOf file (be
 -- that is no line, and the lines before it pass; or every piece is a line, and it is the first fault of all these lines.
 data IsFileFault : Bytes → ℕ → TreeFault → Type 0 where
   at_line : (file : Bytes) (lines : List LineParts) (line : ℕ) (fault : TreeFault)
-      → BeginsWithLines file lines → FirstFault lines line fault → line ≤ length lines → IsFileFault file line fault
+      → BeginsWithLines file lines → FirstTreeFault lines line fault → line ≤ length lines → IsFileFault file line fault
   of_piece : (file : Bytes) (lines : List LineParts) (line : ℕ) (fault : LineFault)
       → StopsAt file lines line fault → Pass lines → IsFileFault file line (Line fault)
   of_lines : (file : Bytes) (lines : List LineParts) (line : ℕ) (fault : TreeFault)
-      → FileText lines file → FirstFault lines line fault → IsFileFault file line fault
+      → FileText lines file → FirstTreeFault lines line fault → IsFileFault file line fault
 
 -- lines and their pieces, parted at one line
 record Parted (before : List LineParts) (line : LineParts) (pieces : List Bytes) : Type 0 where
@@ -180,7 +180,7 @@ told_of _ _ _ (at_text file lines piece line fault c text stands) =
 told_of _ _ _ (at_end file lines fault text f) = of_lines file lines (length lines + 1) fault text f
 
 -- the first fault of lines, at one of them, is the file's
-line_told : (file : Bytes) (lines : List LineParts) (line : ℕ) (fault : TreeFault) → (before after : List Bytes) → ArePiecesOf file (before ++ after) → AreTexts lines before → FirstFault lines line fault → line ≤ length lines → FirstFaultIn file line fault
+line_told : (file : Bytes) (lines : List LineParts) (line : ℕ) (fault : TreeFault) → (before after : List Bytes) → ArePiecesOf file (before ++ after) → AreTexts lines before → FirstTreeFault lines line fault → line ≤ length lines → FirstFaultIn file line fault
 line_told file _ _ _ before after cut texts (at_line_of front behind line fault p e) h =
     let own = parted front line behind before texts in
     let whole : before ++ after ≡ own.own ++ own.piece ∷ (own.rest ++ after) = ap (λ (ps : List Bytes). ps ++ after) own.cut ∙ append_assoc own.own (own.piece ∷ own.rest) after in
@@ -207,11 +207,11 @@ none_of_file file line fault f document has = let own = lines_of_file document f
         let read = texts_of_file file all text in
         let whole : AreTexts all (before ++ after) = subst (λ (ps : List Bytes). AreTexts all ps) (one_cut file read.0 (before ++ after) read.1 cut) read.2 in
         let rest = front_is front all before after texts whole in
-        let first : FirstFault all line fault = subst (λ (ls : List LineParts). FirstFault ls line fault) (sym rest.1) (first_of_more front rest.0 line fault f h) in
+        let first : FirstTreeFault all line fault = subst (λ (ls : List LineParts). FirstTreeFault ls line fault) (sym rest.1) (first_of_more front rest.0 line fault f h) in
         none_of_faulty all (line, fault, first) document has
     go _ _ _ (of_piece file lines line fault stop pass) all text has = no_stop file lines all line fault stop text
     go _ _ _ (of_lines file lines line fault own f) all text has =
-        none_of_faulty all (line, fault, subst (λ (ls : List LineParts). FirstFault ls line fault) (one_reading file lines all own text) f) document has
+        none_of_faulty all (line, fault, subst (λ (ls : List LineParts). FirstTreeFault ls line fault) (one_reading file lines all own text) f) document has
 
 -- two stops of a file are the same
 record SameReading (lines others : List LineParts) (line number : ℕ) (fault told : LineFault) : Type 0 where
@@ -230,20 +230,20 @@ forth _ _ _ (at_line file front line fault (before, after, cut, texts) f h) line
     let read = texts_of_file file lines text in
     let whole : AreTexts lines (before ++ after) = subst (λ (ps : List Bytes). AreTexts lines ps) (one_cut file read.0 (before ++ after) read.1 cut) read.2 in
     let rest = front_is front lines before after texts whole in
-    subst (λ (ls : List LineParts). FirstFault ls line fault) (sym rest.1) (first_of_more front rest.0 line fault f h)
+    subst (λ (ls : List LineParts). FirstTreeFault ls line fault) (sym rest.1) (first_of_more front rest.0 line fault f h)
 forth _ _ _ (at_line file front line fault (before, after, cut, texts) f h) lines (Some stop) (bytes, m, s) =
     let same = one_cut file (before ++ after) (s.before ++ s.piece ∷ s.after) cut (bytes, m, s.cut) in
     let rest = front_of_stop front lines before after s.before s.piece s.after stop.fault texts s.texts same s.fault_is in
     let longer = ap (λ (ls : List LineParts). length ls) rest.1 in
-    inl (subst (λ (ls : List LineParts). FirstFault ls line fault) (sym rest.1) (first_of_more front rest.0 line fault f h), omega (arith, h, longer, length-append front rest.0))
+    inl (subst (λ (ls : List LineParts). FirstTreeFault ls line fault) (sym rest.1) (first_of_more front rest.0 line fault f h), omega (arith, h, longer, length-append front rest.0))
 forth _ _ _ (of_piece file front line fault stops pass) lines None text = absurd (no_stop file front lines line fault stops text)
 forth _ _ _ (of_piece file front line fault stops pass) lines (Some stop) read =
     let same = same_reading file front lines line stop.line fault stop.fault stops read in
     inr (subst (λ (ls : List LineParts). Pass ls) same.lines_are pass, same.line_is, ap Line same.fault_is)
-forth _ _ _ (of_lines file all line fault text f) lines None own = subst (λ (ls : List LineParts). FirstFault ls line fault) (one_reading file all lines text own) f
+forth _ _ _ (of_lines file all line fault text f) lines None own = subst (λ (ls : List LineParts). FirstTreeFault ls line fault) (one_reading file all lines text own) f
 forth _ _ _ (of_lines file all line fault text f) lines (Some stop) read = absurd (no_stop file lines all stop.line stop.fault read text)
 
-texts_of_lines : (file : Bytes) (lines : List LineParts) (line : ℕ) (fault : TreeFault) → FileText lines file → FirstFault lines line fault → FirstFaultIn file line fault
+texts_of_lines : (file : Bytes) (lines : List LineParts) (line : ℕ) (fault : TreeFault) → FileText lines file → FirstTreeFault lines line fault → FirstFaultIn file line fault
 texts_of_lines file lines _ _ text (at_line_of front behind line fault p e) =
     let read = texts_of_file file (front ++ line ∷ behind) text in
     line_told file (front ++ line ∷ behind) (length front + 1) fault read.0 [] (subst (λ (ps : List Bytes). ArePiecesOf file ps) (sym (append-nil read.0)) read.1) read.2 (at_line_of front behind line fault p e) (omega (arith, length-append front (line ∷ behind)))
@@ -263,7 +263,7 @@ file_fault file lines stop read line fault = (λ f. forth file line fault (told_
 
 -- what a table of the written lines answers is answered of the lines
 module _ (lines : List LineParts) (file : Bytes) (text : FileText lines file) where
-  pub written_fault : (at : TreeAt) → FirstFaultIn file at.line at.fault → FirstFault lines at.line at.fault
+  pub written_fault : (at : TreeAt) → FirstFaultIn file at.line at.fault → FirstTreeFault lines at.line at.fault
   written_fault at f = (file_fault file lines None text at.line at.fault).0 f
 
   pub written_has : (document : Trees) → HasFile document file → HasLines document lines

@@ -5,8 +5,8 @@ use Rattle.std.proofs.lemmas.Bool.{true≢false}
 use Rattle.ged_line.specs.Lines.{LineParts, is_line}
 use Rattle.ged_tree.specs.declared.fault.TreeFault.{TreeFault}
 use Rattle.ged_tree.specs.declared.fault.TreeFault.TheVariants.{NoHeader, NoTrailer}
-use Rattle.ged_tree.specs.TreeFaults.{has_trailer, fault_after, Pass, start, more, FirstFault, at_line, no_lines, past_last}
-use Rattle.ged_tree.specs.TreeLaws.{DocumentOrFault, FaultyHasNone, OneFirstFault, HasOneDocument, HasFirstFault}
+use Rattle.ged_tree.specs.TreeFaults.{has_trailer, fault_after, Pass, start, more, FirstTreeFault, at_line, no_lines, past_last}
+use Rattle.ged_tree.specs.TreeLaws.{DocumentOrFault, FaultyHasNone, OneFirstTreeFault, HasOneDocument, HasFirstFault}
 use Rattle.ged_tree.proofs.theory.LinesThatPass.{passes}
 use Rattle.ged_tree.proofs.theory.OneDocument.{law}
 
@@ -39,12 +39,12 @@ end_of_some : (lines : List LineParts) → lines ≢ [] → at_end lines ≡ (le
 end_of_some [] n = absurd (n refl)
 end_of_some (line ∷ lines) n = refl
 
-first_is : (lines : List LineParts) (line : ℕ) (fault : TreeFault) → FirstFault lines line fault → first_from [] lines ≡ (line, fault)
+first_is : (lines : List LineParts) (line : ℕ) (fault : TreeFault) → FirstTreeFault lines line fault → first_from [] lines ≡ (line, fault)
 first_is _ _ _ (at_line before after line fault p e) = passed_over before p (line ∷ after) ∙ ap (λ (o : Option TreeFault). told o (length before + 1) (first_from (before ++ line ∷ []) after)) e
 first_is _ _ _ no_lines = refl
 first_is _ _ _ (past_last lines p n t) = ap (λ (ls : List LineParts). first_from [] ls) (sym (append-nil lines)) ∙ passed_over lines p [] ∙ end_of_some lines n
 
-pub one_fault : OneFirstFault
+pub one_fault : OneFirstTreeFault
 one_fault lines line other_line fault other f g =
     let same : (line, fault) ≡ (other_line, other) = sym (first_is lines line fault f) ∙ first_is lines other_line other g in
     (ap (λ (p : LineAndFault). p.0) same, ap (λ (p : LineAndFault). p.1) same)
@@ -72,7 +72,7 @@ passing_first before line after p q = go (fault_after before line) refl
     go None e = refl
     go (Some fault) e = absurd (no_pass before after line fault p e q)
 
-pub no_first : (lines : List LineParts) (line : ℕ) (fault : TreeFault) → FirstFault lines line fault → Pass lines → has_trailer lines ≡ true → ⊥
+pub no_first : (lines : List LineParts) (line : ℕ) (fault : TreeFault) → FirstTreeFault lines line fault → Pass lines → has_trailer lines ≡ true → ⊥
 no_first _ _ _ (at_line before after line fault p e) q t = no_pass before after line fault p e q
 no_first _ _ _ no_lines q t = true≢false (sym t)
 no_first _ _ _ (past_last lines p n u) q t = true≢false (sym t ∙ u)

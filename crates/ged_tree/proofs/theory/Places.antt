@@ -4,7 +4,7 @@ use Rattle.std.proofs.lemmas.Bool.{cases_lt}
 use Rattle.std.proofs.lemmas.Bool.Decides.{nat_tests}
 use Rattle.ged_tree.specs.Trees.{Structure, Trees, none, tree, trees_count}
 use Rattle.ged_tree.specs.Places.{trees_from, below_first, structure_at, below_at, place_after}
-use Rattle.ged_tree.specs.Runs.{leading, trees_between, IsRun, IsStep}
+use Rattle.ged_tree.specs.Runs.{leading, trees_between, IsRunOfTrees, IsStep}
 
 pub from_first : (s : Structure) (b n : Trees) (p : ℕ) → p ≡ 0 → trees_from (tree s b n) p ≡ tree s b n
 from_first s b n p h = grind (arith, nat_tests)
@@ -108,7 +108,7 @@ module _ (w : Trees) (p : ℕ) (s : Structure) (b n : Trees) (e : trees_from w p
       empty none h = refl
       empty (tree s b n) h = absurd (omega arith)
 
-  module _ (q : ℕ) (run : IsRun w p q) (before : p < q) where
+  module _ (q : ℕ) (run : IsRunOfTrees w p q) (before : p < q) where
     unrolled : trees_between w p q ≡ tree s b (leading n (q - p - 1 - trees_count b))
     unfolding trees_between structure_at below_at place_after
     unrolled = rw (e, leading_tree s b n (q - p) (omega arith)) refl
@@ -131,7 +131,7 @@ module _ (w : Trees) (p : ℕ) (s : Structure) (b n : Trees) (e : trees_from w p
     unfolding trees_between structure_at below_at place_after
     run_is = unrolled ∙ ap (tree s b) tail_is
 
-    pub run_rest : IsRun w (p + 1 + trees_count b) q
+    pub run_rest : IsRunOfTrees w (p + 1 + trees_count b) q
     unfolding trees_between structure_at below_at place_after
     run_rest = record { fills = rw (← tail_is) (omega (arith, sized)) }
 
@@ -150,11 +150,11 @@ module _ (w : Trees) (p : ℕ) (stands : p < trees_count w) where
   unfolding trees_between structure_at below_at place_after
   below_run = let h = from_stands w p stands in below_is w p (structure_at w p) (below_at w p) h.0 h.1
 
-  pub run_below : IsRun w (p + 1) (place_after w p)
+  pub run_below : IsRunOfTrees w (p + 1) (place_after w p)
   unfolding trees_between structure_at below_at place_after
   run_below = record { fills = rw below_run refl }
 
-module _ (w : Trees) (p q : ℕ) (run : IsRun w p q) (before : p < q) where
+module _ (w : Trees) (p q : ℕ) (run : IsRunOfTrees w p q) (before : p < q) where
   pub run_within : p < trees_count w
   unfolding trees_between structure_at below_at place_after
   run_within = elim (cases_lt p (trees_count w)) [
@@ -168,7 +168,7 @@ module _ (w : Trees) (p q : ℕ) (run : IsRun w p q) (before : p < q) where
       let h = from_stands w p run_within in
       rw (below_run w p run_within) (run_is w p (structure_at w p) (below_at w p) h.0 h.1 q run before)
 
-  pub run_next : IsRun w (place_after w p) q
+  pub run_next : IsRunOfTrees w (place_after w p) q
   unfolding trees_between structure_at below_at place_after
   run_next = let h = from_stands w p run_within in run_rest w p (structure_at w p) (below_at w p) h.0 h.1 q run before
 
@@ -181,7 +181,7 @@ pub whole_is : (w : Trees) → trees_between w 0 (trees_count w) ≡ w
 unfolding trees_between structure_at below_at place_after
 whole_is w = rw (from_start w, leading_all w (trees_count w - 0) (omega arith)) refl
 
-pub run_whole : (w : Trees) → IsRun w 0 (trees_count w)
+pub run_whole : (w : Trees) → IsRunOfTrees w 0 (trees_count w)
 unfolding trees_between structure_at below_at place_after
 run_whole w = record { fills = rw (whole_is w) (omega arith) }
 
@@ -194,7 +194,7 @@ pub forth_is : (w : Trees) (p : ℕ) → p < place_after w p
 unfolding place_after
 forth_is w p = omega arith
 
-pub run_step : (w : Trees) (p q after : ℕ) → IsRun w p q → p < q → after ≡ place_after w p → IsStep w p q after
+pub run_step : (w : Trees) (p q after : ℕ) → IsRunOfTrees w p q → p < q → after ≡ place_after w p → IsStep w p q after
 run_step w p q after run before e = record {
   within = run_within w p q run before;
   forth = rw e (forth_is w p);

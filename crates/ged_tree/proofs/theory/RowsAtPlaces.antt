@@ -7,7 +7,7 @@ use Rattle.std.proofs.lemmas.List.{get_or_append_left, get_or-append_right}
 use Rattle.ged_tree.specs.Trees.{Structure, Trees, none, tree, trees_count, further_lines, line_count, lines_count}
 use Rattle.ged_tree.specs.Places.{trees_from, level_at, line_at, below_first, first_structure}
 use Rattle.ged_tree.specs.Runs.{leading}
-use Rattle.ged_tree.specs.Rows.{Row, rows_of, trees_of_rows, trailing}
+use Rattle.ged_tree.specs.Rows.{TableRow, rows_of, trees_of_rows, trailing}
 use Rattle.ged_tree.proofs.theory.Places.{from_below, from_next, leading_none, leading_tree}
 use Rattle.ged_tree.proofs.theory.Walks.{level_below, level_next, line_below, line_next}
 
@@ -23,7 +23,7 @@ tail_at x xs zero d h = absurd (omega arith)
 tail_at x xs (suc p) d h = rw sub-one refl
 
 -- the row at a place, where the first of the trees stands at level l, place k and line i
-abbrev pub row_at : ℕ → ℕ → ℕ → Trees → ℕ → Row
+abbrev pub row_at : ℕ → ℕ → ℕ → Trees → ℕ → TableRow
 row_at l k i w p = record {
   level = level_at l w p;
   after = k + (p + 1 + trees_count (below_first (trees_from w p)));
@@ -33,12 +33,12 @@ row_at l k i w p = record {
   structure = first_structure (trees_from w p);
 }
 
-pub rows_at : (l k i : ℕ) (w : Trees) (p : ℕ) (d : Row) → p < trees_count w → get_or (rows_of l k i w) p d ≡ row_at l k i w p
+pub rows_at : (l k i : ℕ) (w : Trees) (p : ℕ) (d : TableRow) → p < trees_count w → get_or (rows_of l k i w) p d ≡ row_at l k i w p
 rows_at l k i none p d h = absurd (omega arith)
 rows_at l k i (tree s b n) p d h =
     let below = rows_of (l + 1) (k + 1) (i + line_count s.payload) b in
     let next = rows_of l (k + (1 + trees_count b)) (i + (line_count s.payload + lines_count b)) n in
-    let here : Row = record { level = l; after = k + (1 + trees_count b); line = i; further = length (further_lines s.payload); goes_on = nat_lt 0 (length (further_lines s.payload)); structure = s } in
+    let here : TableRow = record { level = l; after = k + (1 + trees_count b); line = i; further = length (further_lines s.payload); goes_on = nat_lt 0 (length (further_lines s.payload)); structure = s } in
     let size : length below ≡ trees_count b = length-rows_of (l + 1) (k + 1) (i + line_count s.payload) b in
     elim (cases_lt 0 p) [
       | inr first ↦ (let e : p ≡ 0 = omega arith in rw e refl)
@@ -78,7 +78,7 @@ trailing_beside none u k h = trailing_zero u k (omega arith)
 trailing_beside (tree s b n) u k h = rw (trailing_tree s b (beside n u) k (omega arith)) (trailing_beside n u (k - 1 - trees_count b) (omega arith))
 
 -- the rows of trees and further rows are the rows of these trees beside others
-pub trees_of_more : (l k i : ℕ) (w : Trees) (rs : List Row) → trees_of_rows k (rows_of l k i w ++ rs) ≡ beside w (trees_of_rows (k + trees_count w) rs)
+pub trees_of_more : (l k i : ℕ) (w : Trees) (rs : List TableRow) → trees_of_rows k (rows_of l k i w ++ rs) ≡ beside w (trees_of_rows (k + trees_count w) rs)
 trees_of_more l k i none rs = ap (λ (m : ℕ). trees_of_rows m rs) (let e : k ≡ k + 0 = omega arith in e)
 trees_of_more l k i (tree s b n) rs =
     let j = i + line_count s.payload in

@@ -8,7 +8,7 @@ use Rattle.ged_line.specs.Bytes.{Bytes}
 use Rattle.ged_line.specs.Lines.{LineParts, is_line, Value}
 use Rattle.ged_line.specs.Lines as value
 use Rattle.ged_tree.specs.DocumentLines.{line_value}
-use Rattle.ged_tree.specs.TreeFaults.{is_cont, is_trailer, Pass, FirstFault, fault_after}
+use Rattle.ged_tree.specs.TreeFaults.{is_cont, is_trailer, Pass, FirstTreeFault, fault_after}
 use Rattle.ged_tree.specs.Judging.{StandsFor}
 use Rattle.ged_tree.specs.Rows.{Shown, shown_with, shown_from, kept_further, line_shown, IsSpelled, HasSlice, deeper, kept_levels, size_of_first, texts_of, places_of, Further, further_of, HasFurther}
 use Rattle.ged_tree.specs.declared.fault.BuildFault.{BuildFault}
@@ -167,5 +167,5 @@ TellsLine (Memory error) lines line = Unit {0}
 
 -- the fault stands past the last of the lines; of want of memory nothing is said
 abbrev pub TellsEnd : BuildFault → List LineParts → Type 0
-TellsEnd (At at) lines = FirstFault lines at.line at.fault
+TellsEnd (At at) lines = FirstTreeFault lines at.line at.fault
 TellsEnd (Memory error) lines = Unit {0}

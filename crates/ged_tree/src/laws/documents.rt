@@ -1,5 +1,5 @@
 // Laws of documents, their lines and the faults of lines. The functions do nothing: their contracts are proved.
-ghost use Rattle.ged_tree.specs.TreeLaws.{PassIsDocument, DocumentOrFault, FaultyHasNone, OneFirstFault};
+ghost use Rattle.ged_tree.specs.TreeLaws.{PassIsDocument, DocumentOrFault, FaultyHasNone, OneFirstTreeFault};
 ghost use Rattle.ged_tree.specs.TreeLaws.{OneFaultInFile, FaultyFileFails};
 ghost use Rattle.ged_tree.specs.TreeLaws.{OneList, NoneShared, AreLines};
 
@@ -21,7 +21,7 @@ pub fn faulty_has_none()
 
 /// Lines have one first fault at most, at one line.
 pub fn one_first_fault()
-    ensures { OneFirstFault }
+    ensures { OneFirstTreeFault }
 {}
 
 /// A file has one first fault at most, at one line.

@@ -1,5 +1,5 @@
 use Rattle.std.proofs.Common.{◌-◌, ◌≤◌, ◌≡◌, ◌++◌}
-use Rattle.ged_tree.specs.Runs.{trees_between, IsRun}
+use Rattle.ged_tree.specs.Runs.{trees_between, IsRunOfTrees}
 use Rattle.ged_accept.specs.Shown.{shown}
 use Rattle.ged_accept.proofs.show.+push_shown.Given as goal
 
@@ -10,7 +10,7 @@ abbrev pub invariant-loop-after : goal.invariant-loop-after
 invariant-loop-after g l =
     let trees = g.F.Forest.trees l.forest in
     record {
-      run : IsRun trees l.place l.end;
+      run : IsRunOfTrees trees l.place l.end;
       ahead : l.start ≤ l.place;
       told : l.out.items ++ shown l.level l.context (trees_between trees l.place l.end)
           ≡ l.fn.out.items ++ shown l.level l.context (trees_between trees l.start l.end);

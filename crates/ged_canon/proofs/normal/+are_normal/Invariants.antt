@@ -1,5 +1,5 @@
 use Rattle.std.proofs.Common.{◌-◌, ◌≤◌, ◌↔◌}
-use Rattle.ged_tree.specs.Runs.{trees_between, IsRun}
+use Rattle.ged_tree.specs.Runs.{trees_between, IsRunOfTrees}
 use Rattle.ged_canon.specs.Normal.{AreNormal}
 use Rattle.ged_canon.proofs.normal.+are_normal.Given as goal
 
@@ -11,7 +11,7 @@ abbrev pub invariant-loop-after : goal.invariant-loop-after
 invariant-loop-after g l =
     let trees = g.F.Forest.trees l.forest in
     record {
-      run : IsRun trees l.place l.end;
+      run : IsRunOfTrees trees l.place l.end;
       ahead : l.start ≤ l.place;
       same : AreNormal l.edition l.context (trees_between trees l.place l.end) ↔ AreNormal l.edition l.context (trees_between trees l.start l.end);
     }

@@ -1,6 +1,6 @@
 use Rattle.std.proofs.Common.{◌≡◌, ◌-◌, fold}
 use Rattle.std.specs.Hash.DefaultHasher.{initial}
-use Rattle.ged_tree.specs.Runs.{trees_between, IsRun}
+use Rattle.ged_tree.specs.Runs.{trees_between, IsRunOfTrees}
 use Rattle.ged_link.specs.Links.{identifiers}
 use Rattle.ged_link.specs.inner.Keys.{fed_name}
 use Rattle.ged_link.proofs.keys.names_key.Given as goal
@@ -9,7 +9,7 @@ abbrev pub invariant-loop-after : goal.invariant-loop-after
 invariant-loop-after g l =
     let trees = g.F.Forest.trees l.forest in
     record {
-      run : IsRun trees l.place l.end;
+      run : IsRunOfTrees trees l.place l.end;
       fed : fold fed_name l.hasher (identifiers (trees_between trees l.place l.end)) ≡ fold fed_name initial (identifiers (trees_between trees l.start l.end));
     }
 

@@ -1,6 +1,6 @@
 use Rattle.std.proofs.Common.{◌≡◌, ◌-◌, ◌++◌, List, Option, fold, map, replicate}
 use Rattle.ged_tree.specs.Trees.{records_of}
-use Rattle.ged_tree.specs.Runs.{trees_between, IsRun}
+use Rattle.ged_tree.specs.Runs.{trees_between, IsRunOfTrees}
 use Rattle.ged_link.specs.Links.{identifiers}
 use Rattle.ged_link.specs.declared.record_type.RecordType.{RecordType}
 use Rattle.ged_link.specs.inner.Layout.{counted, no_names}
@@ -11,7 +11,7 @@ abbrev pub invariant-loop-after : goal.invariant-loop-after
 invariant-loop-after g l =
     let trees = g.F.Forest.trees l.forest in
     record {
-      run : IsRun trees l.place l.end;
+      run : IsRunOfTrees trees l.place l.end;
       tallies : fold counted l.list.tallies.items (identifiers (trees_between trees l.place l.end)) ≡ fold counted (replicate 256 no_names) (identifiers (records_of trees));
       names : l.list.names.items ++ map listed_halves (identifiers (trees_between trees l.place l.end)) ≡ map listed_halves (identifiers (records_of trees));
       digits : l.list.digits.items ++ map listed_digits (identifiers (trees_between trees l.place l.end)) ≡ map listed_digits (identifiers (records_of trees));

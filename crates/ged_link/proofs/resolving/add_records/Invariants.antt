@@ -1,7 +1,7 @@
 use Rattle.std.proofs.Common.{◌-◌, ◌≡◌, ◌≤◌, true, drop, length, map, List, Option}
 use Rattle.ged_tree.specs.Trees.{records_of}
 use Rattle.ged_tree.specs.Documents.{are_at}
-use Rattle.ged_tree.specs.Runs.{trees_between, IsRun}
+use Rattle.ged_tree.specs.Runs.{trees_between, IsRunOfTrees}
 use Rattle.ged_link.specs.Links.{identifiers}
 use Rattle.ged_link.specs.Indexes.{AreTyped}
 use Rattle.ged_link.specs.Places.{ArePlaces}
@@ -15,7 +15,7 @@ abbrev pub invariant-loop-after : goal.invariant-loop-after
 invariant-loop-after g l =
     let trees = g.F.Forest.trees l.forest in
     record {
-      run : IsRun trees l.place l.end;
+      run : IsRunOfTrees trees l.place l.end;
       level : are_at 0 (trees_between trees l.place l.end) ≡ true;
       left : drop l.number (identifiers (records_of trees)) ≡ identifiers (trees_between trees l.place l.end);
       names : drop l.number l.list.names.items ≡ map listed_halves (identifiers (trees_between trees l.place l.end));

@@ -1,5 +1,5 @@
 use Rattle.std.proofs.Common.{ℕ, List, ◌-◌, ◌≤◌, ◌≡◌, ◌++◌, map}
-use Rattle.ged_tree.specs.Runs.{trees_between, IsRun}
+use Rattle.ged_tree.specs.Runs.{trees_between, IsRunOfTrees}
 use Rattle.ged_schema.specs.Unlisted.{unlisted_notice}
 use Rattle.ged_schema.specs.inner.Listings.{ListsUnlisted}
 use Rattle.ged_schema.proofs.notices.+push_unlisted.Given as goal
@@ -11,7 +11,7 @@ abbrev pub invariant-loop-after : goal.invariant-loop-after
 invariant-loop-after g l =
     let trees = g.F.Forest.trees l.forest in
     record {
-      run : IsRun trees l.place l.end;
+      run : IsRunOfTrees trees l.place l.end;
       ahead : l.start ≤ l.place;
       told : (left : List ℕ) → ListsUnlisted l.context l.place (trees_between trees l.place l.end) left →
           (places : List ℕ) × ListsUnlisted l.context l.start (trees_between trees l.start l.end) places

@@ -1,6 +1,6 @@
 use Rattle.std.proofs.Common.{◌≡◌, ◌+◌, ◌-◌, ◌≤◌}
 use Rattle.ged_tree.specs.Trees.{records_of}
-use Rattle.ged_tree.specs.Runs.{trees_between, IsRun}
+use Rattle.ged_tree.specs.Runs.{trees_between, IsRunOfTrees}
 use Rattle.ged_schema.specs.Checked.{count_of}
 use Rattle.ged_uses.proofs.trees.count_records.Given as goal
 
@@ -9,7 +9,7 @@ abbrev pub invariant-loop-after : goal.invariant-loop-after
 invariant-loop-after g l =
     let trees = g.F.Forest.trees l.forest in
     record {
-      run : IsRun trees l.place l.end;
+      run : IsRunOfTrees trees l.place l.end;
       few : l.count ≤ l.place;
       counted : l.count + count_of l.tag (trees_between trees l.place l.end) ≡ count_of l.tag (records_of trees);
     }

@@ -1,5 +1,5 @@
 use Rattle.std.proofs.Common.{◌≡◌, ◌-◌, ◌↔◌, ◌∷◌}
-use Rattle.ged_tree.specs.Runs.{trees_between, IsRun}
+use Rattle.ged_tree.specs.Runs.{trees_between, IsRunOfTrees}
 use Rattle.ged_canon.specs.Normal.{InOrder}
 use Rattle.ged_canon.specs.inner.Orders.{TagsInOrder, tags}
 use Rattle.ged_canon.specs.inner.Ranks.{tag_rank}
@@ -12,7 +12,7 @@ abbrev pub invariant-loop-after : goal.invariant-loop-after
 invariant-loop-after g l =
     let trees = g.F.Forest.trees l.forest in
     record {
-      run : IsRun trees l.place l.end;
+      run : IsRunOfTrees trees l.place l.end;
       utf8 : shadow (Utf8 l.before);
       rank : l.rank ≡ tag_rank l.before;
       same : TagsInOrder (l.before ∷ tags (trees_between trees l.place l.end)) ↔ InOrder (trees_between trees l.start l.end);

@@ -1,7 +1,7 @@
 use Rattle.std.proofs.Common.{◌≡◌, ◌+◌, ◌-◌, ◌≤◌, Bool, List, ◌++◌, length, take, drop}
 use Rattle.std.specs.List.{AllByRecursion}
 use Rattle.ged_line.specs.Bytes.{Bytes}
-use Rattle.ged_tree.specs.Runs.{IsRun, trees_between}
+use Rattle.ged_tree.specs.Runs.{IsRunOfTrees, trees_between}
 use Rattle.ged_link.specs.Links.{identifiers}
 use Rattle.ged_schema.specs.declared.context.Context.{Context}
 use Rattle.ged_canon.specs.declared.edition.Edition.{Edition}
@@ -16,7 +16,7 @@ invariant-loop-after g l =
     let trees = g.F.Forest.trees l.forest in
     let made = drop (length l.fn.siblings.items) l.siblings.items in
     record {
-      run : IsRun trees l.place l.end;
+      run : IsRunOfTrees trees l.place l.end;
       kept : take (length l.fn.siblings.items) l.siblings.items ≡ l.fn.siblings.items;
       long : length l.fn.siblings.items ≤ length l.siblings.items;
       within : AllByRecursion (StandsRanked trees) made;

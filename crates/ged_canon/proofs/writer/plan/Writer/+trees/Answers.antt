@@ -7,7 +7,7 @@ use Rattle.ged_tree.specs.Trees.{none}
 use Rattle.ged_tree.specs.Documents.{are_at}
 use Rattle.ged_tree.specs.DocumentLines.{structure_lines, lines_of}
 use Rattle.ged_tree.specs.Places.{structure_at, below_at}
-use Rattle.ged_tree.specs.Runs.{IsRun, trees_between}
+use Rattle.ged_tree.specs.Runs.{IsRunOfTrees, trees_between}
 use Rattle.ged_tree.specs.inner.Walks.{HasLinesAt}
 use Rattle.ged_tree.proofs.CallerLemmas.{below_run, run_below, run_ends}
 use Rattle.ged_schema.specs.Rows.{as_row}
@@ -179,7 +179,7 @@ write_sorted-write_tree-requires g t c κs within =
         record {
           document = c.requires.document;
           within = here;
-          run = subst (λ q. IsRun d (sibling.place + 1) q) (sym c.after-after.ensures) (run_below d sibling.place here.0);
+          run = subst (λ q. IsRunOfTrees d (sibling.place + 1) q) (sym c.after-after.ensures) (run_below d sibling.place here.0);
           deeper = ap (trees_between d (sibling.place + 1)) c.after-after.ensures ∙ below_run d sibling.place here.0;
           stands = subst (λ r. HasLinesAt c.args.level (brief_sibling edition r None d sibling)) (sym rule)
               (first_stands edition c.args.context d c.args.level sibling x all rest is c.requires.deep c.loop-number.invariant.stand);

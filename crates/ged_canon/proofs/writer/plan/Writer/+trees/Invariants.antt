@@ -4,7 +4,7 @@ use Rattle.ged_line.specs.Bytes.{Bytes}
 use Rattle.ged_line.specs.Spelling.{spelled_lines}
 use Rattle.ged_tree.specs.Documents.{are_at}
 use Rattle.ged_tree.specs.DocumentLines.{lines_of}
-use Rattle.ged_tree.specs.Runs.{IsRun, trees_between}
+use Rattle.ged_tree.specs.Runs.{IsRunOfTrees, trees_between}
 use Rattle.ged_canon.specs.Steps.{renamed}
 use Rattle.ged_canon.specs.inner.Working.{number_of, sorted, each_sorted, IsNumberingOf}
 use Rattle.ged_canon.specs.inner.Siblings.{StandsRanked, sibling_trees}
@@ -26,7 +26,7 @@ invariant-write_run-loop-after g l =
     let d = g.F.Forest.trees l.self.forest.now in
     let left = each_sorted l.self.plan.edition l.fn.context (trees_between d l.place l.end) in
     record {
-      run : IsRun d l.place l.end;
+      run : IsRunOfTrees d l.place l.end;
       kept : l.work.siblings.items ≡ l.fn.work.siblings.items;
       stand : are_at l.level left ≡ true;
       told : (names : List Bytes) → IsNumberingOf d names l.self.plan.index.now l.self.plan.numbers.now →

@@ -4,7 +4,7 @@ use Rattle.ged_line.specs.Bytes.{Bytes}
 use Rattle.ged_line.specs.Lines.{may_be_xref}
 use Rattle.ged_tree.specs.Documents.{are_at}
 use Rattle.ged_tree.specs.Places.{structure_at, below_at}
-use Rattle.ged_tree.specs.Runs.{IsRun, trees_between}
+use Rattle.ged_tree.specs.Runs.{IsRunOfTrees, trees_between}
 use Rattle.ged_tree.specs.inner.Walks.{HasLinesAt}
 use Rattle.ged_tree.proofs.CallerLemmas.{below_run, run_below}
 use Rattle.ged_schema.specs.declared.context.Context.TheVariants.{File}
@@ -28,7 +28,7 @@ write_tree-requires g c =
     record {
       document = c.requires.document;
       within = c.requires.within.0;
-      run = subst (λ q. IsRun d (at + 1) q) (sym c.after-end.ensures) (run_below d at c.requires.within.0.0);
+      run = subst (λ q. IsRunOfTrees d (at + 1) q) (sym c.after-end.ensures) (run_below d at c.requires.within.0.0);
       deeper = ap (trees_between d (at + 1)) c.after-end.ensures ∙ below_run d at c.requires.within.0.0;
       stands = subst (λ r. HasLinesAt 0 (brief_sibling edition r (option_copied c.xref-xref.result) d (unranked c.args.sibling))) (sym rule)
           (own_stands each_used edition d c.args.sibling [] c.requires.stand (option_copied c.xref-xref.result)
