@@ -41,4 +41,10 @@ impl LineReader for Readers {
         self.walk.substructure(line)?;
         self.records.substructure(line)
     }
+
+    #[inline(always)]
+    fn continuation(&mut self, line: &LineView<'_>) -> Result<(), AllocError> {
+        self.walk.continuation(line)?;
+        self.records.continuation(line)
+    }
 }

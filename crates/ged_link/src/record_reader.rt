@@ -65,4 +65,10 @@ impl LineReader for RecordReader {
     fn substructure(&mut self, _line: &LineView<'_>) -> Result<(), AllocError> {
         Ok(())
     }
+
+    /// Takes one more line, a CONT, on which no record begins either.
+    #[inline(always)]
+    fn continuation(&mut self, _line: &LineView<'_>) -> Result<(), AllocError> {
+        Ok(())
+    }
 }

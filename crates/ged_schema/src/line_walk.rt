@@ -243,6 +243,16 @@ impl LineWalk {
         }
     }
 
+    /// The same for a line that is known to be a CONT: all that is asked is whether a payload may go on.
+    #[inline(always)]
+    fn keep_continuation(&mut self)
+        ensures { (lines : List LineParts) (line : LineParts) → is_cont line ≡ true → HasWalked self.old lines → HasWalked self.new (lines ++ line ∷ []) }
+    {
+        if self.holds {
+            self.holds = self.goes_on;
+        }
+    }
+
     /// Whether each line was as the tables ask, and nothing is missing where the last line stands.
     fn is_complete(&self) -> bool
         ensures holds { OnTrue result (IsTrue self.now.holds) }
@@ -292,6 +302,13 @@ impl LineReader for LineWalk {
     #[inline(always)]
     fn substructure(&mut self, line: &LineView<'_>) -> Result<(), AllocError> {
         self.keep_substructure(line);
+        Ok(())
+    }
+
+    /// The same for a CONT.
+    #[inline(always)]
+    fn continuation(&mut self, _line: &LineView<'_>) -> Result<(), AllocError> {
+        self.keep_continuation();
         Ok(())
     }
 }

@@ -1,5 +1,5 @@
 // The faults of a document's lines, found line by line.
-ghost use Rattle.std.specs.Prelude.{◌≡◌, ◌<◌, ◌++◌, ◌∷◌, [], List, Some, None, false, IfOk, IfErr, option_map, Option};
+ghost use Rattle.std.specs.Prelude.{◌≡◌, ◌<◌, ◌++◌, ◌∷◌, [], List, Some, None, true, false, IfOk, IfErr, option_map, Option};
 ghost use Rattle.std.specs.Bool.{OnTrue};
 ghost use Rattle.std.specs.List.{find};
 ghost use Rattle.ged_line.specs.Lines.{LineParts};
@@ -9,11 +9,22 @@ ghost use Rattle.ged_tree.specs.TreeFaults.{is_misplaced_cont as tests_misplaced
 ghost use Rattle.ged_tree.specs.TreeFaults.{is_cont as tests_cont, is_header as tests_header, is_trailer as tests_trailer};
 ghost use Rattle.ged_tree.specs.TreeFaults.{is_reference as tests_reference, is_empty as tests_empty, has_forbidden_xref as tests_forbidden_xref};
 ghost use Rattle.ged_tree.specs.Judging.{StandsFor, seen};
-ghost use Rattle.ged_tree.specs.inner.Judging.{end_faults};
+ghost use Rattle.ged_tree.specs.inner.Judging.{HasRole, end_faults};
 
 use crate::fault::TreeFault;
 use ged_line::{LineView, ValueView, is_same_tag};
 use std::marker::Model;
+
+/// What a line is among the others, where it has no fault.
+#[derive(Clone, Copy)]
+pub(crate) enum LineRole {
+    /// It begins a structure below another one.
+    Substructure,
+    /// It goes on with a payload: it is a CONT.
+    Continuation,
+    /// It is no CONT. Some of these lines begin a structure below another one too.
+    Other,
+}
 
 /// What a judge keeps of a line.
 #[derive(Clone, Copy)]
@@ -55,7 +66,6 @@ impl Judge {
 
     /// Takes one more line. Where a fault stands at it, answers the lowest, from `LevelJump` to `AfterTrailer`, and is
     /// unchanged. Takes no memory (FamilySearch GEDCOM 7.0, "Lines" and "Structures").
-    #[tactic(auto, using(crate::proofs::theory::Judging::judging))]
     #[inline(always)]
     pub fn line(&mut self, line: &LineView<'_>) -> Result<(), TreeFault>
         ensures takes { IfOk result (λ _. (lines : List LineParts) → StandsFor self.old lines
@@ -63,16 +73,46 @@ impl Judge {
         ensures refuses { IfErr result (λ fault. (self.new ≡ self.old)
             × ((lines : List LineParts) → StandsFor self.old lines → fault_after lines line.now ≡ Some fault)) }
     {
-        if let Some(fault) = self.fault(line) {
-            return Err(fault);
+        match self.role(line) {
+            Ok(role) => {
+                self.keep(line, role);
+                Ok(())
+            }
+            Err(fault) => Err(fault),
         }
+    }
+
+    /// What the line is, or the lowest fault that stands at it, as [`Judge::line`] answers it.
+    #[inline(always)]
+    pub(crate) fn role(&self, line: &LineView<'_>) -> Result<LineRole, TreeFault>
+        ensures passes { IfOk result (λ role. (lines : List LineParts) → StandsFor self.now lines
+            → (fault_after lines line.now ≡ None) × HasRole role line.now) }
+        ensures refuses { IfErr result (λ fault. (lines : List LineParts) → StandsFor self.now lines → fault_after lines line.now ≡ Some fault) }
+    {
+        if self.is_plain(line) {
+            return Ok(LineRole::Substructure);
+        }
+        if self.is_plain_cont(line) {
+            return Ok(LineRole::Continuation);
+        }
+        match self.any_fault(line) {
+            None => Ok(LineRole::Other),
+            Some(fault) => Err(fault),
+        }
+    }
+
+    /// Takes one more line, which has no fault and this role. Where a call names the role, little is asked of the line. Takes no memory.
+    #[tactic(auto, using(crate::proofs::theory::Judging::judging))]
+    #[inline(always)]
+    pub(crate) fn keep(&mut self, line: &LineView<'_>, role: LineRole)
+        ensures { (lines : List LineParts) → StandsFor self.old lines → HasRole role line.now → StandsFor self.new (lines ++ line.now ∷ []) }
+    {
         self.previous = Some(Previous {
             level: line.level(),
-            is_cont: is_cont(line),
+            is_cont: is_continuation(role),
             is_reference: is_reference(line),
         });
         self.has_ended = self.has_ended || is_trailer(line);
-        Ok(())
     }
 
     /// Whether TRLR has come. Takes no memory.
@@ -82,24 +122,10 @@ impl Judge {
         self.has_ended
     }
 
-    // The lowest fault that stands at the line.
+    // Whether the line begins a structure below another one, and follows one that is no CONT, as nearly all do: then it has no
+    // fault, and is neither CONT nor TRLR.
     #[inline(always)]
-    fn fault(&self, line: &LineView<'_>) -> Option<TreeFault>
-        ensures { (lines : List LineParts) → StandsFor self.now lines → result ≡ fault_after lines line.now }
-    {
-        if self.is_plain(line) {
-            return None;
-        }
-        if self.is_plain_cont(line) {
-            return None;
-        }
-        self.any_fault(line)
-    }
-
-    /// Whether the line begins a structure below another one, and follows one that is no CONT, as nearly all do: then it has no
-    /// fault, and is neither CONT nor TRLR.
-    #[inline(always)]
-    pub(crate) fn is_plain(&self, line: &LineView<'_>) -> bool
+    fn is_plain(&self, line: &LineView<'_>) -> bool
         ensures faultless { (lines : List LineParts) → StandsFor self.now lines → OnTrue result (fault_after lines line.now ≡ None) }
         ensures begins { OnTrue result ((tests_cont line.now ≡ false) × (tests_trailer line.now ≡ false)) }
         ensures below { OnTrue result (0 < line.now.level) }
@@ -117,10 +143,12 @@ impl Judge {
         }
     }
 
-    // The same for a CONT: whether it is no pointer, and stands where the payload of the line before goes on, as nearly all do.
+    // Whether the line is a CONT without a fault: no pointer, and where the payload of the line before goes on.
     #[inline(always)]
     fn is_plain_cont(&self, line: &LineView<'_>) -> bool
-        ensures { (lines : List LineParts) → StandsFor self.now lines → OnTrue result (fault_after lines line.now ≡ None) }
+        ensures faultless { (lines : List LineParts) → StandsFor self.now lines → OnTrue result (fault_after lines line.now ≡ None) }
+        ensures goes_on { OnTrue result ((0 < line.now.level) × (tests_cont line.now ≡ true)) }
+        ensures others { (lines : List LineParts) → StandsFor self.now lines → result ≡ false → fault_after lines line.now ≡ None → tests_cont line.now ≡ false }
     {
         is_cont(line)
             && line.level() > 0
@@ -202,8 +230,16 @@ impl Judge {
     }
 }
 
+// Whether a line of this role is a CONT.
 #[inline(always)]
-pub(crate) fn is_cont(line: &LineView<'_>) -> bool
+fn is_continuation(role: LineRole) -> bool
+    ensures { (line : LineParts) → HasRole role line → result ≡ tests_cont line }
+{
+    matches!(role, LineRole::Continuation)
+}
+
+#[inline(always)]
+fn is_cont(line: &LineView<'_>) -> bool
     ensures { result ≡ tests_cont line.now }
 {
     is_same_tag(line.tag(), "CONT")

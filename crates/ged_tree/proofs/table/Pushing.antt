@@ -1,6 +1,7 @@
 -- One more structure in a table.
-use Rattle.std.proofs.Common.{◌≡◌, ℕ, ◌+◌, ◌<◌, true, false, List, [], ◌∷◌, ◌++◌, length, map, refl, sym, subst, ◌∙◌, ap, arith, ◌-◌, length-append}
+use Rattle.std.proofs.Common.{◌≡◌, ℕ, ◌+◌, ◌<◌, Bool, true, false, ◌&&◌, ◌==◌, eqb→eq, T, codes, List, [], ◌∷◌, ◌++◌, length, map, refl, sym, subst, ◌∙◌, ap, arith, ◌-◌, length-append}
 use Rattle.std.specs.List.{AllByRecursion}
+use Rattle.std.specs.Str.{bytes_eq}
 use Rattle.std.proofs.lemmas.List.{map-append}
 use Rattle.std.proofs.lemmas.List.Sorted.{IsNonDecreasingBy-push}
 use Rattle.ged_line.specs.Bytes.{Bytes}
@@ -102,6 +103,14 @@ module _ (old new : TableBuilder) (line : LineParts) (text : Bytes) (s : KeptStr
         further_slices = rw (file, further) k.further_slices;
       };
     }
+
+-- a line above level 0 is not TRLR
+pub above_is_no_trailer : (line : LineParts) → 0 < line.level → is_trailer line ≡ false
+above_is_no_trailer line above = at (line.level == 0) refl
+  where
+    at : (b : Bool) → (line.level == 0) ≡ b → is_trailer line ≡ false
+    at true is = (let top : line.level ≡ 0 = eqb→eq line.level 0 (subst T (sym is) tt) in absurd (omega (arith, top, above)))
+    at false is = ap (λ (b : Bool). b && bytes_eq line.tag (codes "TRLR")) is
 
 -- one more further line
 pub put_further : (old new : TableBuilder) (line : LineParts) (after : ℕ) (text : Bytes) → is_trailer line ≡ false → is_cont line ≡ true → new.judge ≡ old.judge → new.count ≡ old.count

@@ -160,6 +160,11 @@ pub record IsPut (line : LineParts) (old new : TableBuilder) : Type 0 where
   pub further : texts_of (table_further new) ≡ texts_of (table_further old) ++ further_texts (but_trailer (line ∷ []))
   pub kept : IsKept old → IsKept new
 
+-- a line more, for which the judge stands too
+pub record IsTaken (line : LineParts) (old new : TableBuilder) : Type 0 where
+  pub judged : (lines : List LineParts) → StandsFor old.judge lines → StandsFor new.judge (lines ++ line ∷ [])
+  pub put : IsPut line (record old { judge = new.judge }) new
+
 -- the fault is the lowest that stands at a line put after lines without a fault; of want of memory nothing is said
 abbrev pub TellsLine : BuildFault → List LineParts → LineParts → Type 0
 TellsLine (At at) lines line = Pass lines × (fault_after lines line ≡ Some at.fault) × (at.line ≡ length lines + 1)

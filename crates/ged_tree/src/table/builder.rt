@@ -1,16 +1,17 @@
 // The table of a document's structures, made line by line.
 ghost use Rattle.std.specs.Prelude.{◌≡◌, ◌<◌, false, ◌+◌, ◌%◌, ◌^◌, ◌++◌, ◌∷◌, [], List, MatchResult, IfOk, IfSome, None, Some, length, nat_lt};
-ghost use Rattle.std.specs.Bool.{OnTrue};
 ghost use Rattle.ged_line.specs.Lines.{LineParts};
 ghost use Rattle.ged_line.specs.Spelling.{LineText};
 ghost use Rattle.ged_tree.specs.Documents.{HasLines};
 ghost use Rattle.ged_tree.specs.Rows.{names_record};
-ghost use Rattle.ged_tree.specs.TreeFaults.{is_cont as tests_cont, is_trailer as tests_trailer};
-ghost use Rattle.ged_tree.specs.inner.Tables.{line_text, HoldsLines, HasStructure, IsPut, IsSliceAt, Shows, TellsEnd, TellsFurther, TellsLine};
+ghost use Rattle.ged_tree.specs.TreeFaults.{is_cont};
+ghost use Rattle.ged_tree.specs.inner.Judging.{HasRole};
+ghost use Rattle.ged_tree.specs.declared.judge.LineRole.TheVariants.{Substructure, Continuation, Other};
+ghost use Rattle.ged_tree.specs.inner.Tables.{line_text, HoldsLines, HasStructure, IsPut, IsSliceAt, IsTaken, Shows, TellsEnd, TellsFurther, TellsLine};
 
 use crate::fault::{BuildFault, TreeAt, TreeFault};
 use crate::forest::continuations::FurtherTable;
-use crate::judge::{Judge, is_cont, is_trailer};
+use crate::judge::{Judge, LineRole, is_trailer};
 use crate::table::closing::sizes_of;
 use crate::table::flat::Flat;
 use crate::table::packed::{
@@ -125,68 +126,137 @@ impl<'a> TableBuilder<'a> {
         }
     }
 
-    /// Takes one more line, or answers the lowest fault that stands at it. `start` tells where in the builder's file the
-    /// line begins, in bytes; without it the line's text is kept apart. The answer may tell that the line begins a substructure.
+    /// Takes one more line, and tells what it is, or answers the lowest fault that stands at it. `start` tells where in the builder's
+    /// file the line begins, in bytes; without it the line's text is kept apart.
     #[inline(always)]
     pub(crate) fn take(
         &mut self,
         spelled: &SpelledLine<'a>,
         start: Option<usize>,
-    ) -> Result<bool, BuildFault>
+    ) -> Result<LineRole, BuildFault>
         requires few { self.now.count < 2 ^ 63 }
         requires text { LineText spelled.now.line spelled.now.text.now }
         requires slice { IfSome start (λ at. IsSliceAt self.now.file.now at spelled.now.text.now) }
-        ensures lines { (lines : List LineParts) → HoldsLines self.old lines → MatchResult result
-            (λ _. HoldsLines self.new (lines ++ spelled.now.line ∷ []))
+        ensures { (lines : List LineParts) → HoldsLines self.old lines → MatchResult result
+            (λ role. HasRole role spelled.now.line × (self.new.file.now ≡ self.old.file.now) × HoldsLines self.new (lines ++ spelled.now.line ∷ []))
             (λ fault. TellsLine fault lines spelled.now.line) }
-        ensures file { IfOk result (λ _. self.new.file.now ≡ self.old.file.now) }
-        ensures begins { IfOk result (λ begins. OnTrue begins ((0 < spelled.now.line.level) × (tests_cont spelled.now.line ≡ false))) }
     {
         let line = &spelled.line;
         // That its parts are a line's is what `level` tells.
         let _level = line.level();
         self.count += 1;
-        let begins = self.judge.is_plain(line);
-        if let Err(fault) = self.judge.line(line) {
-            let line = self.count;
-            return Err(BuildFault::At(TreeAt { line, fault }));
-        }
-        match self.push(spelled, start, begins) {
-            Ok(()) => Ok(begins),
+        let role = match self.judge.role(line) {
+            Ok(role) => role,
+            Err(fault) => {
+                let line = self.count;
+                return Err(BuildFault::At(TreeAt { line, fault }));
+            }
+        };
+        match self.put(spelled, start, role) {
+            Ok(()) => Ok(role),
             Err(error) => Err(BuildFault::Memory(error)),
         }
     }
 
-    /// Adds the structure or the further line of the last line that was taken; TRLR adds none. `begins` may tell that the line begins a
-    /// structure, which then is not asked again.
+    /// Has the judge take a line of this role, and adds the structure or the further line of it. Each role has a branch of its own for all of
+    /// this, in which nothing of what the role tells is asked again.
     #[inline(always)]
-    fn push(
+    fn put(
         &mut self,
         spelled: &SpelledLine<'a>,
         start: Option<usize>,
-        begins: bool,
+        role: LineRole,
     ) -> Result<(), AllocError>
-        requires begins { OnTrue begins ((tests_cont spelled.now.line ≡ false) × (tests_trailer spelled.now.line ≡ false)) }
         requires text { LineText spelled.now.line spelled.now.text.now }
         requires slice { IfSome start (λ at. IsSliceAt self.now.file.now at spelled.now.text.now) }
-        ensures { IfOk result (λ _. IsPut spelled.now.line self.old self.new) }
+        ensures { HasRole role spelled.now.line → IfOk result (λ _. IsTaken spelled.now.line self.old self.new) }
     {
-        if begins {
-            return self.push_structure(spelled, start);
+        match role {
+            LineRole::Substructure => self.put_substructure(spelled, start),
+            LineRole::Continuation => self.put_continuation(spelled, start),
+            LineRole::Other => self.put_other(spelled, start),
         }
-        let line = &spelled.line;
-        if is_trailer(line) {
-            return Ok(());
-        }
-        if is_cont(line) {
-            let after = self.structures.len();
-            let text = text_of_line(line);
-            let start = start_behind(start, spelled.text.len() - text.len());
-            self.further.push(after, text, start)?;
-            tell_further(&mut self.structures);
+    }
+
+    /// The same of a line that begins a structure below another one.
+    #[inline(always)]
+    fn put_substructure(
+        &mut self,
+        spelled: &SpelledLine<'a>,
+        start: Option<usize>,
+    ) -> Result<(), AllocError>
+        requires text { LineText spelled.now.line spelled.now.text.now }
+        requires slice { IfSome start (λ at. IsSliceAt self.now.file.now at spelled.now.text.now) }
+        ensures { HasRole Substructure spelled.now.line → IfOk result (λ _. IsTaken spelled.now.line self.old self.new) }
+    {
+        self.judge.keep(&spelled.line, LineRole::Substructure);
+        self.push_structure(spelled, start)
+    }
+
+    /// The same of a CONT.
+    #[inline(always)]
+    fn put_continuation(
+        &mut self,
+        spelled: &SpelledLine<'a>,
+        start: Option<usize>,
+    ) -> Result<(), AllocError>
+        requires text { LineText spelled.now.line spelled.now.text.now }
+        requires slice { IfSome start (λ at. IsSliceAt self.now.file.now at spelled.now.text.now) }
+        ensures { HasRole Continuation spelled.now.line → IfOk result (λ _. IsTaken spelled.now.line self.old self.new) }
+    {
+        self.judge.keep(&spelled.line, LineRole::Continuation);
+        self.push_continuation(spelled, start)
+    }
+
+    /// The same of any other line.
+    #[inline(always)]
+    fn put_other(
+        &mut self,
+        spelled: &SpelledLine<'a>,
+        start: Option<usize>,
+    ) -> Result<(), AllocError>
+        requires text { LineText spelled.now.line spelled.now.text.now }
+        requires slice { IfSome start (λ at. IsSliceAt self.now.file.now at spelled.now.text.now) }
+        ensures { HasRole Other spelled.now.line → IfOk result (λ _. IsTaken spelled.now.line self.old self.new) }
+    {
+        self.judge.keep(&spelled.line, LineRole::Other);
+        self.push_other(spelled, start)
+    }
+
+    /// Adds the structure that begins on a line that is no CONT; TRLR adds none.
+    #[inline(always)]
+    fn push_other(
+        &mut self,
+        spelled: &SpelledLine<'a>,
+        start: Option<usize>,
+    ) -> Result<(), AllocError>
+        requires text { LineText spelled.now.line spelled.now.text.now }
+        requires slice { IfSome start (λ at. IsSliceAt self.now.file.now at spelled.now.text.now) }
+        ensures { is_cont spelled.now.line ≡ false → IfOk result (λ _. IsPut spelled.now.line self.old self.new) }
+    {
+        if is_trailer(&spelled.line) {
             return Ok(());
         }
         self.push_structure(spelled, start)
+    }
+
+    /// Adds the further line of a CONT.
+    #[inline(always)]
+    fn push_continuation(
+        &mut self,
+        spelled: &SpelledLine<'a>,
+        start: Option<usize>,
+    ) -> Result<(), AllocError>
+        requires text { LineText spelled.now.line spelled.now.text.now }
+        requires slice { IfSome start (λ at. IsSliceAt self.now.file.now at spelled.now.text.now) }
+        ensures { HasRole Continuation spelled.now.line → IfOk result (λ _. IsPut spelled.now.line self.old self.new) }
+    {
+        let after = self.structures.len();
+        let text = text_of_line(&spelled.line);
+        let start = start_behind(start, spelled.text.len() - text.len());
+        self.further.push(after, text, start)?;
+        tell_further(&mut self.structures);
+        Ok(())
     }
 
     /// Adds the structure that begins on a line.

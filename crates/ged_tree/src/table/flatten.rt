@@ -1,14 +1,14 @@
 // The flat table of a file.
-ghost use Rattle.std.specs.Prelude.{◌≡◌, ◌<◌, ◌++◌, ◌∷◌, IfOk, IfErr, OnOk, [], List, false};
-ghost use Rattle.std.specs.Bool.{OnTrue};
+ghost use Rattle.std.specs.Prelude.{◌++◌, ◌∷◌, IfOk, IfErr, OnOk, [], List};
 ghost use Rattle.ged_line.specs.Bytes.{Bytes};
 ghost use Rattle.ged_line.specs.Lines.{LineParts};
 ghost use Rattle.ged_line.specs.Pieces.{IsBehindMark};
 ghost use Rattle.ged_tree.specs.Building.{HasFile, TellsFile};
 ghost use Rattle.ged_tree.specs.DocumentLines.{document_lines};
-ghost use Rattle.ged_tree.specs.TreeFaults.{is_cont};
+ghost use Rattle.ged_tree.specs.inner.Judging.{HasRole};
 
 use crate::fault::{BuildFault, TreeAt, TreeFault};
+use crate::judge::LineRole;
 use crate::table::builder::TableBuilder;
 use crate::table::flat::Flat;
 use crate::table::line_reader::LineReader;
@@ -59,20 +59,20 @@ pub fn flatten_with<'a, R: LineReader>(
     }
 }
 
-/// Hands a line that passed to the reader. `begins` may tell that it begins a substructure.
+/// Hands a line that passed, and has this role, to the reader.
 #[inline(always)]
 fn hand_over<R: LineReader>(
     reader: &mut R,
     line: &LineView<'_>,
-    begins: bool,
+    role: LineRole,
 ) -> Result<(), AllocError>
-    requires { OnTrue begins ((0 < line.now.level) × (is_cont line.now ≡ false)) }
+    requires { HasRole role line.now }
     ensures { OnOk result ((lines : List LineParts) → R.has_read reader.old lines → R.has_read reader.new (lines ++ line.now ∷ [])) }
 {
-    if begins {
-        reader.substructure(line)
-    } else {
-        reader.line(line)
+    match role {
+        LineRole::Substructure => reader.substructure(line),
+        LineRole::Continuation => reader.continuation(line),
+        LineRole::Other => reader.line(line),
     }
 }
 
@@ -93,11 +93,11 @@ fn flatten_text<'a, R: LineReader>(
         rest = after;
         match line {
             Ok(line) => {
-                let begins = match table.take(&line, Some(start)) {
-                    Ok(begins) => begins,
+                let role = match table.take(&line, Some(start)) {
+                    Ok(role) => role,
                     Err(fault) => return Err(fault),
                 };
-                if let Err(error) = hand_over(reader, &line.line, begins) {
+                if let Err(error) = hand_over(reader, &line.line, role) {
                     return Err(BuildFault::Memory(error));
                 }
             }
@@ -130,11 +130,11 @@ fn flatten_lines<'a, R: LineReader>(
     for line in view_lines(bytes) {
         match line {
             Ok(line) => {
-                let begins = match table.take(&line, None) {
-                    Ok(begins) => begins,
+                let role = match table.take(&line, None) {
+                    Ok(role) => role,
                     Err(error) => return Err(error),
                 };
-                if let Err(error) = hand_over(reader, &line.line, begins) {
+                if let Err(error) = hand_over(reader, &line.line, role) {
                     return Err(BuildFault::Memory(error));
                 }
             }

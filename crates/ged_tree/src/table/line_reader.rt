@@ -1,5 +1,5 @@
 // What reads lines along while a table is made of them.
-ghost use Rattle.std.specs.Prelude.{◌≡◌, ◌<◌, ◌++◌, ◌∷◌, [], List, OnOk, false};
+ghost use Rattle.std.specs.Prelude.{◌≡◌, ◌<◌, ◌++◌, ◌∷◌, [], List, OnOk, true, false};
 ghost use Rattle.ged_line.specs.Lines.{LineParts};
 ghost use Rattle.ged_tree.specs.TreeFaults.{is_cont};
 
@@ -20,6 +20,15 @@ pub trait LineReader {
     fn substructure(&mut self, line: &LineView<'_>) -> Result<(), AllocError>
         requires below { 0 < line.now.level }
         requires no_cont { is_cont line.now ≡ false }
+        ensures { OnOk result ((lines : List LineParts) → has_read self.old lines → has_read self.new (lines ++ line.now ∷ [])) }
+    {
+        self.line(line)
+    }
+
+    /// The same of a line that goes on with a payload: its level is above 0, and it is a CONT. Each such line is handed over by this call.
+    fn continuation(&mut self, line: &LineView<'_>) -> Result<(), AllocError>
+        requires below { 0 < line.now.level }
+        requires cont { is_cont line.now ≡ true }
         ensures { OnOk result ((lines : List LineParts) → has_read self.old lines → has_read self.new (lines ++ line.now ∷ [])) }
     {
         self.line(line)

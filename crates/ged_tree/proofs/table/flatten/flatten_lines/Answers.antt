@@ -25,7 +25,10 @@ returns-in-Err-take-clause-fault g c =
     let taken = c.loop-line.invariant.taken in
     let step = c.in-Some.ensures.steps in
     let text = rw c.in-Ok.is at step.2 in
-    fault_told c.args.bytes.now c.loop-line.table c.loop-line.line-iterator c.next.new.self step.0 c.in-Ok.line.line taken step.1 text.0 c.in-Err-take.error (c.in-Err-take.ensures.lines taken.lines taken.holds)
+    fault_told c.args.bytes.now c.loop-line.table c.loop-line.line-iterator c.next.new.self step.0 c.in-Ok.line.line taken step.1 text.0 c.in-Err-take.error (c.in-Err-take.ensures taken.lines taken.holds)
+
+pub hand_over-requires : goal.hand_over-requires
+hand_over-requires g c = (let taken = c.loop-line.invariant.taken in (c.in-Ok-take.ensures taken.lines taken.holds).0)
 
 pub loop-line-preserved : goal.loop-line-preserved
 loop-line-preserved g c =
@@ -33,7 +36,7 @@ loop-line-preserved g c =
     let step = c.in-Some.ensures.steps in
     let text = rw c.in-Ok.is at step.2 in
     record {
-      taken = taken_more c.args.bytes.now c.loop-line.table c.take.new.self c.loop-line.line-iterator c.next.new.self step.0 c.in-Ok.line.line taken step.1 text.0 (c.in-Ok-take.ensures.lines taken.lines taken.holds);
+      taken = taken_more c.args.bytes.now c.loop-line.table c.take.new.self c.loop-line.line-iterator c.next.new.self step.0 c.in-Ok.line.line taken step.1 text.0 (c.in-Ok-take.ensures taken.lines taken.holds).2;
       read = λ h. c.in_default.ensures taken.lines (c.loop-line.invariant.read h);
     }
 

@@ -24,7 +24,7 @@ returns-in-Err-take-clause-fault g c = λ file mark.
     let taken = taken_in c.args.text.now c.loop-line.table c.loop-line.rest.now c.loop-line.invariant.taken file mark in
     let step = c.in-Some.ensures.line in
     let text = rw c.in-Ok.is at step.2 in
-    fault_told file c.loop-line.table (pieces_of c.loop-line.rest.now) (pieces_of c.in-Some.after.now) step.0 c.in-Ok.line.line taken (first_of_pieces c.loop-line.rest.now step.0 c.in-Some.after.now step.1) text.0 c.in-Err-take.fault (c.in-Err-take.ensures.lines taken.lines taken.holds)
+    fault_told file c.loop-line.table (pieces_of c.loop-line.rest.now) (pieces_of c.in-Some.after.now) step.0 c.in-Ok.line.line taken (first_of_pieces c.loop-line.rest.now step.0 c.in-Some.after.now step.1) text.0 c.in-Err-take.fault (c.in-Err-take.ensures taken.lines taken.holds)
 
 pub overflow_add-line : goal.overflow_add-line
 overflow_add-line g c =
@@ -38,6 +38,9 @@ returns-in-Err-clause-fault g c = λ file mark.
     let fault = rw c.in-Err.is at step.2 in
     stopped file c.loop-line.table (pieces_of c.loop-line.rest.now) (pieces_of c.in-Some.after.now) step.0 c.in-Err.fault (first_of_pieces c.loop-line.rest.now step.0 c.in-Some.after.now step.1) fault taken
 
+pub hand_over-requires : goal.hand_over-requires
+hand_over-requires g c = (let taken = c.loop-line.invariant.taken in (c.in-Ok-take.ensures taken.lines taken.holds).0)
+
 pub loop-line-preserved : goal.loop-line-preserved
 loop-line-preserved g c =
     let taken = c.loop-line.invariant.taken in
@@ -50,7 +53,7 @@ loop-line-preserved g c =
     let spelled : LineText line.line line.text.now = rw text.1 text.0 in
     record {
       utf8 = c.in-Some.ensures.utf8;
-      taken = taken_more_in c.args.text.now c.loop-line.table rest line.text.now after line.line taken first spelled c.take.new.self c.in-Ok-take.ensures.file (c.in-Ok-take.ensures.lines taken.lines taken.holds);
+      taken = taken_more_in c.args.text.now c.loop-line.table rest line.text.now after line.line taken first spelled c.take.new.self (c.in-Ok-take.ensures taken.lines taken.holds).1 (c.in-Ok-take.ensures taken.lines taken.holds).2;
       read = λ h. c.in_default-hand_over.ensures taken.lines (c.loop-line.invariant.read h);
     }
 

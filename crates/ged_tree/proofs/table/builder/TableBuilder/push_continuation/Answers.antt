@@ -1,14 +1,14 @@
-use Rattle.std.proofs.Common.{◌≡◌, ◌∙◌, refl, rules, sym}
+use Rattle.std.proofs.Common.{◌≡◌, ◌∙◌, refl, rules}
 use Rattle.std.specs.Prelude.{IfSome}
 use Rattle.std.specs.Str.{IsUtf8}
 use Rattle.ged_tree.specs.inner.Tables.{line_text, IsSliceAt}
 use Rattle.ged_tree.specs.declared.table.builder.TableBuilder.{TableBuilder}
 use Rattle.ged_tree.proofs.table.FurtherTexts.{text_told}
-use Rattle.ged_tree.proofs.table.Pushing.{put_further}
-use Rattle.ged_tree.proofs.table.builder.TableBuilder.push.Goals as goal
+use Rattle.ged_tree.proofs.table.Pushing.{above_is_no_trailer, put_further}
+use Rattle.ged_tree.proofs.table.builder.TableBuilder.push_continuation.Goals as goal
 
-pub returns-then-is_cont : goal.returns-then-is_cont
-returns-then-is_cont c =
+pub returns : goal.returns
+returns c = λ role.
     let old = c.args.self.now in
     let line = c.args.spelled.now.line in
     let bytes = c.args.spelled.now.text.now in
@@ -19,5 +19,5 @@ returns-then-is_cont c =
     let utf8 : IsUtf8 text = search rules in
     let there : IfSome c.start_behind-start.result (λ at. IsSliceAt file at text) = text_told line bytes text file c.args.start c.start_behind-start.result c.requires.text is utf8 c.requires.slice c.start_behind-start.ensures.told c.start_behind-start.ensures.untold in
     put_further old new line c.len-after.result text
-    (sym c.is_trailer.ensures ∙ c.if-is_trailer.false) (sym c.is_cont.ensures ∙ c.if-is_cont.true) refl refl refl refl
+    (above_is_no_trailer line role.0) role.1 refl refl refl refl
     c.tell_further.ensures (c.in_ok-push.ensures file there) (c.len-after.ensures ∙ old.structures.ok.0) is
