@@ -68,7 +68,8 @@ fn needs_nothing(context: Context) -> bool
     needed_rows(context) == 0
 }
 
-/// Marks a row by the bit of its number, and tells whether one more of its structures may stand.
+/// Marks a row by the bit of its number. Where the answer is true, one more of its structures may stand. Where it is false, the row has
+/// a greatest number and was marked before: then nothing is told.
 #[inline(always)]
 pub(crate) fn mark(marks: &mut u64, number: usize, most: Option<u32>) -> bool
     requires { number < 64 }

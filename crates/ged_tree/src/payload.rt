@@ -49,7 +49,7 @@ impl TextLines {
         lines
     }
 
-    /// Takes no memory.
+    /// The lines, of which there is at least one. Takes no memory.
     pub fn as_slice(&self) -> &[Text]
         ensures lines { result.now ≡ self.now }
         ensures some { 0 < length self.now }
@@ -57,7 +57,7 @@ impl TextLines {
         self.lines.as_slice()
     }
 
-    /// Grows.
+    /// A copy of the lines. Grows; an error where a growth was refused.
     pub fn copy(&self, alloc: Global) -> Result<TextLines, AllocError>
         ensures { IfOk result (λ copy. copy ≡ self.now) }
     {
@@ -112,7 +112,7 @@ impl Payload {
         }
     }
 
-    /// Grows.
+    /// A copy of the payload. Grows; an error where a growth was refused.
     pub fn copy(&self, alloc: Global) -> Result<Payload, AllocError>
         ensures { IfOk result (λ copy. copy ≡ self.now) }
     {

@@ -13,7 +13,7 @@ ghost use Rattle.ged_value.specs.ValueViews.{period_parts, value_parts};
 use crate::date::{Date, date_at};
 use crate::split::{around, words_of};
 
-/// How long something lasted (FamilySearch GEDCOM 7.0, "Date").
+/// The time over which something went on, by the dates at its ends (FamilySearch GEDCOM 7.0, "Date").
 #[derive(Clone, Copy, Debug, PartialEq, Eq)]
 pub enum Period<'a> {
     /// The empty text.
