@@ -23,7 +23,7 @@ use Rattle.ged_faults.specs.declared.faults.Fault.TheVariants.{ReadFailed, Write
 use Rattle.ged_faults.specs.declared.faults.Outcome.{Outcome}
 use Rattle.ged_faults.specs.declared.faults.Outcome.TheVariants.{Done, Failed}
 use Rattle.ged_devices.specs.declared.drafts.Fate.{Fate}
-use Rattle.ged_devices.specs.declared.drafts.Fate.TheVariants.{Placed, Dropped}
+use Rattle.ged_devices.specs.declared.drafts.Fate.TheVariants.{Pending, Placed, Dropped}
 use Rattle.ged_cmd.specs.CommandLine.{gedtool}
 use Rattle.ged_cmd.specs.Tasks.{Task, asked, digest, explain, input_same, is_input, run, same}
 use Rattle.ged_tool.specs.Limits.{greatest_limit}
@@ -79,13 +79,12 @@ pub record IsCompared (form : Form) (profile : Profile) (edition : Edition) (fir
   pub write_failed : IsTrue writer.failed ↔ (outcome ≡ Failed None WriteFailed)
 
 -- What is known of files by their names: which devices a name opens, and that it can't be opened; which new files may take
--- the place of the file of a name, and by which fault none can; and what has become of a new file.
+-- the place of the file of a name, and by which fault none can.
 pub record Files (D T : Type 0) : Type 1 where
   pub opens : Text → D → Type 0
   pub refuses : Text → Type 0
   pub drafts : Text → T → Type 0
   pub withholds : Text → Fault → Type 0
-  pub fate : T → Fate
 
 -- nothing is read, and the outcome says whether the writer has failed
 abbrev pub IsExplained : Reader → Writer → Outcome → Type 0
@@ -169,36 +168,37 @@ module _ {D T : Type 0} where
       IsUnread input × (IsNotOpened (files.refuses name) None writer outcome
       ⊎ SomeFile (files.opens name) to_come failed (λ file. IsAnswered profile edition command file writer outcome))
 
-  -- An answer that goes into a new file, which is empty at first, and what becomes of this.
-  abbrev pub IsPut : Files D T → (taken : T → Option (List ℕ)) → (write_failed : T → Bool) → (name : Text)
+  -- An answer that goes into a new file, which is empty at first and neither placed nor given up, and what becomes of this.
+  abbrev pub IsPut : Files D T → (taken : T → Option (List ℕ)) → (write_failed : T → Bool) → (fate : T → Fate) → (name : Text)
       → (Writer → Type 0) → Outcome → Type 0
-  IsPut files taken write_failed name done outcome =
-      (draft left : T) × files.drafts name draft × IsEmpty (taken draft) × done (writer taken write_failed draft left)
-      × (files.fate left ≡ fate_of outcome)
+  IsPut files taken write_failed fate name done outcome =
+      (draft left : T) × files.drafts name draft × IsEmpty (taken draft) × (fate draft ≡ Pending)
+      × done (writer taken write_failed draft left)
+      × (fate left ≡ fate_of outcome)
 
   -- What the program does for a task, over the files of which `files` tells, and standard input. Both files of a comparison
   -- are opened before one is read.
   abbrev pub IsDone : Files D T → (to_come : D → Option (List ℕ)) → (failed : D → Bool)
-      → (taken : T → Option (List ℕ)) → (write_failed : T → Bool) → Task → (input : Reader) → Writer → Outcome → Type 0
-  IsDone files to_come failed taken write_failed (run profile edition command file None) input output outcome =
+      → (taken : T → Option (List ℕ)) → (write_failed : T → Bool) → (fate : T → Fate) → Task → (input : Reader) → Writer → Outcome → Type 0
+  IsDone files to_come failed taken write_failed fate (run profile edition command file None) input output outcome =
       IsOver files to_come failed profile edition command file input output outcome
-  IsDone files to_come failed taken write_failed (run profile edition command file (Some name)) input output outcome =
+  IsDone files to_come failed taken write_failed fate (run profile edition command file (Some name)) input output outcome =
       IsUnwritten output × (IsWithheld (files.withholds name) input outcome
-      ⊎ IsPut files taken write_failed name (λ writer. IsOver files to_come failed profile edition command file input writer outcome)
+      ⊎ IsPut files taken write_failed fate name (λ writer. IsOver files to_come failed profile edition command file input writer outcome)
       outcome)
-  IsDone files to_come failed taken write_failed (same form profile edition first None) input output outcome =
+  IsDone files to_come failed taken write_failed fate (same form profile edition first None) input output outcome =
       (IsUnread input × IsNotOpened (files.refuses first) (Some First) output outcome)
       ⊎ SomeFile (files.opens first) to_come failed (λ file. IsCompared form profile edition file input output outcome)
-  IsDone files to_come failed taken write_failed (same form profile edition first (Some second)) input output outcome =
+  IsDone files to_come failed taken write_failed fate (same form profile edition first (Some second)) input output outcome =
       IsUnread input × (IsNotOpened (files.refuses first) (Some First) output outcome
-      ⊎ ((device : D) × files.opens first device × IsNotOpened (files.refuses second) (Some Second) output outcome)
+      ⊎ SomeFile (files.opens first) to_come failed (λ file. IsUnread file × IsNotOpened (files.refuses second) (Some Second) output outcome)
       ⊎ SomeFile (files.opens first) to_come failed (λ file. SomeFile (files.opens second) to_come failed (λ other.
       IsCompared form profile edition file other output outcome)))
-  IsDone files to_come failed taken write_failed (input_same form profile edition second) input output outcome =
+  IsDone files to_come failed taken write_failed fate (input_same form profile edition second) input output outcome =
       (IsUnread input × IsNotOpened (files.refuses second) (Some Second) output outcome)
       ⊎ SomeFile (files.opens second) to_come failed (λ file. IsCompared form profile edition input file output outcome)
-  IsDone files to_come failed taken write_failed (explain named) input output outcome = IsExplained input output outcome
-  IsDone files to_come failed taken write_failed (digest profile edition names) input output outcome =
+  IsDone files to_come failed taken write_failed fate (explain named) input output outcome = IsExplained input output outcome
+  IsDone files to_come failed taken write_failed fate (digest profile edition names) input output outcome =
       AreDigested files to_come failed profile edition names input output outcome
 
 -- The status for words that clap refuses: 3 for want of memory, and for help or the version that can't be written, which
@@ -210,7 +210,7 @@ refusal_status DisplayVersion failed = if failed then 3 else 0
 refusal_status kind failed = 2
 
 -- The words are refused: memory is wanting, or they have one of the faults that clap finds in them. Nothing is read, and
--- only help or the version is written.
+-- something is written only where help or the version is asked for.
 pub record IsRefused (words : List Text) (input : Reader) (writer : Writer) (status : ℕ) : Type 0 where
   pub kind : ErrorKind
   pub found : (kind ≡ OutOfMemory) ⊎ IsAmong kind (fault_of gedtool words)
@@ -220,20 +220,20 @@ pub record IsRefused (words : List Text) (input : Reader) (writer : Writer) (sta
 
 module _ {D T : Type 0} where
   -- what the words ask for is done, and the status is the outcome's
-  pub record IsObeyed (files : Files D T) (to_come : D → Option (List ℕ)) (failed : D → Bool) (taken : T → Option (List ℕ)) (write_failed : T → Bool) (words : List Text) (input : Reader) (writer : Writer) (status : ℕ) : Type 0 where
+  pub record IsObeyed (files : Files D T) (to_come : D → Option (List ℕ)) (failed : D → Bool) (taken : T → Option (List ℕ)) (write_failed : T → Bool) (fate : T → Fate) (words : List Text) (input : Reader) (writer : Writer) (status : ℕ) : Type 0 where
     pub task : Task
     pub outcome : Outcome
     pub faultless : fault_of gedtool words ≡ []
     pub task_asked : asked words ≡ Some task
-    pub done : IsDone files to_come failed taken write_failed task input writer outcome
+    pub done : IsDone files to_come failed taken write_failed fate task input writer outcome
     pub told : status ≡ status_of outcome
 
   -- What the program does for the words of its command line. Words without a fault that ask for nothing are a mistake:
   -- those under which both files of `same`, or two of `digest`, would be standard input, and a word of `explain` that is of no fault.
   abbrev pub Performs : Files D T → (to_come : D → Option (List ℕ)) → (failed : D → Bool)
-      → (taken : T → Option (List ℕ)) → (write_failed : T → Bool)
+      → (taken : T → Option (List ℕ)) → (write_failed : T → Bool) → (fate : T → Fate)
       → (words : List Text) → (input : Reader) → Writer → (status : ℕ) → Type 0
-  Performs files to_come failed taken write_failed words input writer status =
+  Performs files to_come failed taken write_failed fate words input writer status =
       IsRefused words input writer status
-      ⊎ IsObeyed files to_come failed taken write_failed words input writer status
+      ⊎ IsObeyed files to_come failed taken write_failed fate words input writer status
       ⊎ ((fault_of gedtool words ≡ []) × (asked words ≡ None) × IsUnread input × IsUnwritten writer × (status ≡ 2))

@@ -1,5 +1,5 @@
 // One command over one input, or over two.
-ghost use Rattle.std.specs.Prelude.{◌≡◌, ◌⊎◌, None, Some, false, option_map};
+ghost use Rattle.std.specs.Prelude.{◌≡◌, ◌⊎◌, [], None, Some, false, option_map};
 ghost use Rattle.ged_tool.specs.Settings.{profile_of, edition_of};
 ghost use Rattle.ged_cmd.specs.inner.Flushes.{IsFlushed};
 ghost use Rattle.ged_cmd.specs.Program.{IsAnswered, IsCompared, IsDone, IsOver, IsPut, IsWithheld, fate_of, reader as reader_of, writer as writer_of};
@@ -9,7 +9,7 @@ ghost use Rattle.ged_cmd.specs.inner.Tasks.{task_of};
 use crate::meanings::tell_meanings;
 use crate::shelf::Shelf;
 use crate::words::Request;
-use ged_devices::{Failed, Output, Sink, Source};
+use ged_devices::{Failed, Fate, Output, Sink, Source};
 use ged_tool::{
     Command, Comparison, Fault, GREATEST_LIMIT, Outcome, Settings, Told, Which, run_same_told,
     run_told,
@@ -24,27 +24,24 @@ pub(crate) fn failed(fault: Fault) -> Outcome
     Outcome::Failed { which: None, fault }
 }
 
-/// What is told where a file can't be opened.
-pub(crate) fn not_opened(alloc: Global, which: Option<Which>) -> Told
-    ensures { result.outcome ≡ Outcome.Failed which Fault.ReadFailed }
+/// What is told where no file came.
+fn without_bytes(alloc: Global, outcome: Outcome) -> Told
+    ensures outcome { result.outcome ≡ outcome }
+    ensures bytes { result.bytes.items ≡ [] }
 {
     Told {
-        outcome: Outcome::Failed {
-            which,
-            fault: Fault::ReadFailed,
-        },
+        outcome,
         bytes: Vec::new(alloc),
     }
 }
 
-/// What is told where a file can't be replaced.
-fn not_answered(alloc: Global, fault: Fault) -> Told
-    ensures { result.outcome ≡ Outcome.Failed None fault }
+/// What is told where a file can't be opened.
+pub(crate) fn not_opened(alloc: Global, which: Option<Which>) -> Told
+    ensures outcome { result.outcome ≡ Outcome.Failed which Fault.ReadFailed }
+    ensures bytes { result.bytes.items ≡ [] }
 {
-    Told {
-        outcome: failed(fault),
-        bytes: Vec::new(alloc),
-    }
+    let fault = Fault::ReadFailed;
+    without_bytes(alloc, Outcome::Failed { which, fault })
 }
 
 /// Does what a request asks for, and gives the outcome with the bytes of the file of which it tells.
@@ -57,7 +54,7 @@ pub(crate) fn answer_request<S: Shelf, R: Source, W: Write>(
 ) -> Told
     requires unread { R.reads input.old ≡ 0 }
     requires no_failure { (R.failed input.old ≡ false) × (⟦<Output<W> as Sink>⟧.failed output.old ≡ false) }
-    ensures { IsDone (S.files shelf.now) S.Device.to_come S.Device.failed S.Draft.taken S.Draft.failed (task_of request.entry)
+    ensures { IsDone (S.files shelf.now) S.Device.to_come S.Device.failed S.Draft.taken S.Draft.failed S.Draft.fate (task_of request.entry)
         (reader_of R.to_come R.failed input.old input.new)
         (writer_of ⟦<Output<W> as Sink>⟧.taken ⟦<Output<W> as Sink>⟧.failed output.old output.new) result.outcome }
 {
@@ -82,10 +79,7 @@ pub(crate) fn answer_request<S: Shelf, R: Source, W: Write>(
         Request::SameInput { comparison, second } => {
             compare_input(alloc, shelf, comparison, second, input, output)
         }
-        Request::Explain { meaning } => Told {
-            outcome: tell_meanings(meaning, output),
-            bytes: Vec::new(alloc),
-        },
+        Request::Explain { meaning } => without_bytes(alloc, tell_meanings(meaning, output)),
     }
 }
 
@@ -125,14 +119,14 @@ fn answer_into<S: Shelf, R: Source>(
     requires unread { R.reads input.old ≡ 0 }
     requires no_failure { R.failed input.old ≡ false }
     ensures { IsWithheld ((S.files shelf.now).withholds name.now) (reader_of R.to_come R.failed input.old input.new) result.outcome
-        ⊎ IsPut (S.files shelf.now) S.Draft.taken S.Draft.failed name.now (λ writer.
+        ⊎ IsPut (S.files shelf.now) S.Draft.taken S.Draft.failed S.Draft.fate name.now (λ writer.
         IsOver (S.files shelf.now) S.Device.to_come S.Device.failed (profile_of settings) (edition_of settings) command
         (option_map (λ name. name.now) file.entry) (reader_of R.to_come R.failed input.old input.new) writer result.outcome)
         result.outcome }
 {
     let mut draft = match shelf.draft(alloc, name) {
         Ok(draft) => draft,
-        Err(fault) => return not_answered(alloc, fault),
+        Err(fault) => return without_bytes(alloc, failed(fault)),
     };
     let told = answer_file(alloc, shelf, settings, command, file, input, &mut draft);
     Told {
@@ -154,9 +148,10 @@ fn answer_file<S: Shelf, R: Source, W: Sink>(
 ) -> Told
     requires unread { R.reads input.old ≡ 0 }
     requires no_failure { (R.failed input.old ≡ false) × (W.failed writer.old ≡ false) }
-    ensures { IsOver (S.files shelf.now) S.Device.to_come S.Device.failed (profile_of settings) (edition_of settings) command
+    ensures answered { IsOver (S.files shelf.now) S.Device.to_come S.Device.failed (profile_of settings) (edition_of settings) command
         (option_map (λ name. name.now) file.entry)
         (reader_of R.to_come R.failed input.old input.new) (writer_of W.taken W.failed writer.old writer.new) result.outcome }
+    ensures fate { W.fate writer.new ≡ W.fate writer.old }
 {
     match file {
         None => answer(alloc, settings, command, input, writer),
@@ -180,7 +175,7 @@ fn compare_files<S: Shelf, R: Source, W: Write>(
 ) -> Told
     requires unread { R.reads input.old ≡ 0 }
     requires no_failure { (R.failed input.old ≡ false) × (⟦<Output<W> as Sink>⟧.failed output.old ≡ false) }
-    ensures { IsDone (S.files shelf.now) S.Device.to_come S.Device.failed S.Draft.taken S.Draft.failed
+    ensures { IsDone (S.files shelf.now) S.Device.to_come S.Device.failed S.Draft.taken S.Draft.failed S.Draft.fate
         (same_task comparison.form (profile_of comparison.settings) (edition_of comparison.settings) first.now (option_map (λ name. name.now) second.entry))
         (reader_of R.to_come R.failed input.old input.new)
         (writer_of ⟦<Output<W> as Sink>⟧.taken ⟦<Output<W> as Sink>⟧.failed output.old output.new) result.outcome }
@@ -210,7 +205,7 @@ fn compare_input<S: Shelf, R: Source, W: Write>(
 ) -> Told
     requires unread { R.reads input.old ≡ 0 }
     requires no_failure { (R.failed input.old ≡ false) × (⟦<Output<W> as Sink>⟧.failed output.old ≡ false) }
-    ensures { IsDone (S.files shelf.now) S.Device.to_come S.Device.failed S.Draft.taken S.Draft.failed
+    ensures { IsDone (S.files shelf.now) S.Device.to_come S.Device.failed S.Draft.taken S.Draft.failed S.Draft.fate
         (input_same_task comparison.form (profile_of comparison.settings) (edition_of comparison.settings) second.now)
         (reader_of R.to_come R.failed input.old input.new)
         (writer_of ⟦<Output<W> as Sink>⟧.taken ⟦<Output<W> as Sink>⟧.failed output.old output.new) result.outcome }
@@ -231,8 +226,9 @@ fn answer<R: Source, W: Sink>(
 ) -> Told
     requires unread { R.reads reader.old ≡ 0 }
     requires no_failure { (R.failed reader.old ≡ false) × (W.failed writer.old ≡ false) }
-    ensures { IsAnswered (profile_of settings) (edition_of settings) command
+    ensures answered { IsAnswered (profile_of settings) (edition_of settings) command
         (reader_of R.to_come R.failed reader.old reader.new) (writer_of W.taken W.failed writer.old writer.new) result.outcome }
+    ensures fate { W.fate writer.new ≡ W.fate writer.old }
 {
     run_told(alloc, settings, GREATEST_LIMIT, command, reader, writer)
 }
@@ -285,9 +281,10 @@ fn flushed<W: Write>(outcome: Outcome, output: &mut Output<W>) -> Outcome
 /// The outcome once a new file has taken the other's place: WriteFailed where it can't. It does so where the outcome is Done,
 /// and else is given up.
 fn settled<S: Shelf>(shelf: &S, outcome: Outcome, draft: &mut S::Draft) -> Outcome
+    requires { S.Draft.fate draft.old ≡ Fate.Pending }
     ensures flushed { IsFlushed (writer_of S.Draft.taken S.Draft.failed draft.old draft.new)
         (S.Draft.failed draft.old) outcome result }
-    ensures fate { (S.files shelf.now).fate draft.new ≡ fate_of result }
+    ensures fate { S.Draft.fate draft.new ≡ fate_of result }
 {
     match outcome {
         Outcome::Done => match shelf.place(draft) {

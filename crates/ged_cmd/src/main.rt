@@ -2,15 +2,16 @@
 //! line on standard error.
 #![tactic(auto)]
 
-ghost use Rattle.std.specs.Prelude.{◌≡◌, ◌≤◌, List, codes, false, IfOk, IfSome, IsErr, MatchOption, map, option_and_then, option_map, string_bytes};
+ghost use Rattle.std.specs.Prelude.{◌≡◌, ◌≤◌, List, codes, false, IfOk, IsErr, MatchOption, map, option_and_then, option_map, string_bytes};
 ghost use Rattle.std.specs.Option.{option_map_or};
+ghost use Rattle.std.specs.Result.{result_ok};
 ghost use Rattle.std.specs.Io.KnownBytes.{Keeps};
 ghost use Rattle.clap.specs.Words.{Row, Text, subcommand_rows_of};
 ghost use Rattle.ged_cmd.specs.Tasks.{explains, is_set, task_of_match};
 ghost use Rattle.ged_faults.specs.Faults.{status_of};
 ghost use Rattle.ged_cmd.specs.inner.Obeying.{IsMistaken};
 ghost use Rattle.ged_cmd.specs.inner.Tasks.{IsReadOnce, wanted_task};
-ghost use Rattle.ged_cmd.specs.Program.{IsDone, IsUnread, Performs, reader as reader_of, writer as writer_of};
+ghost use Rattle.ged_cmd.specs.Program.{IsDone, IsUnread, IsUnwritten, Performs, reader as reader_of, writer as writer_of};
 
 mod arguments;
 mod commands;
@@ -86,13 +87,14 @@ fn perform<S: Shelf, R: Source, W: Write, E: Write>(
     requires no_failure { (R.failed streams.old.input ≡ false)
         × (⟦<Output<W> as Sink>⟧.failed streams.old.output ≡ false) }
     ensures performs { IfOk words (λ words. Performs (S.files shelf.now) S.Device.to_come S.Device.failed S.Draft.taken
-        S.Draft.failed (map string_bytes words.items)
+        S.Draft.failed S.Draft.fate (map string_bytes words.items)
         (reader_of R.to_come R.failed streams.old.input streams.new.input)
         (writer_of ⟦<Output<W> as Sink>⟧.taken ⟦<Output<W> as Sink>⟧.failed streams.old.output streams.new.output)
         result) }
     ensures range { result ≤ 3 }
     ensures unread { IsErr words → (result ≡ 2)
-        × IsUnread (reader_of R.to_come R.failed streams.old.input streams.new.input) }
+        × IsUnread (reader_of R.to_come R.failed streams.old.input streams.new.input)
+        × IsUnwritten (writer_of ⟦<Output<W> as Sink>⟧.taken ⟦<Output<W> as Sink>⟧.failed streams.old.output streams.new.output) }
     ensures quiet { result ≡ 0 → IfOk words (λ words. explains (map string_bytes words.items) ≡ false)
         → Keeps (E.contents streams.old.errors) (E.contents streams.new.errors) }
     ensures usage { result ≡ 2 → Keeps (⟦<Output<W> as Sink>⟧.taken streams.old.output)
@@ -114,7 +116,7 @@ fn perform_words<S: Shelf, R: Source, W: Write, E: Write>(
     requires unread { R.reads streams.old.input ≡ 0 }
     requires no_failure { (R.failed streams.old.input ≡ false)
         × (⟦<Output<W> as Sink>⟧.failed streams.old.output ≡ false) }
-    ensures performs { Performs (S.files shelf.now) S.Device.to_come S.Device.failed S.Draft.taken S.Draft.failed
+    ensures performs { Performs (S.files shelf.now) S.Device.to_come S.Device.failed S.Draft.taken S.Draft.failed S.Draft.fate
         (map string_bytes words.now)
         (reader_of R.to_come R.failed streams.old.input streams.new.input)
         (writer_of ⟦<Output<W> as Sink>⟧.taken ⟦<Output<W> as Sink>⟧.failed streams.old.output streams.new.output)
@@ -145,7 +147,7 @@ fn obey_matches<S: Shelf, R: Source, W: Write, E: Write>(
         (IsMistaken (reader_of R.to_come R.failed streams.old.input streams.new.input)
         (writer_of ⟦<Output<W> as Sink>⟧.taken ⟦<Output<W> as Sink>⟧.failed streams.old.output streams.new.output) result)
         (λ task. (outcome : Outcome) × (result ≡ status_of outcome)
-        × IsDone (S.files shelf.now) S.Device.to_come S.Device.failed S.Draft.taken S.Draft.failed task
+        × IsDone (S.files shelf.now) S.Device.to_come S.Device.failed S.Draft.taken S.Draft.failed S.Draft.fate task
         (reader_of R.to_come R.failed streams.old.input streams.new.input)
         (writer_of ⟦<Output<W> as Sink>⟧.taken ⟦<Output<W> as Sink>⟧.failed streams.old.output streams.new.output) outcome) }
     ensures range { result ≤ 3 }
@@ -166,15 +168,15 @@ fn obey<S: Shelf, R: Source, W: Write, E: Write>(
     asked: Asked<'_, '_>,
     streams: &mut Streams<R, W, E>,
 ) -> u8
-    requires once { IfSome asked.wanted IsReadOnce }
+    requires once { IfOk asked.wanted IsReadOnce }
     requires unread { R.reads streams.old.input ≡ 0 }
     requires no_failure { (R.failed streams.old.input ≡ false)
         × (⟦<Output<W> as Sink>⟧.failed streams.old.output ≡ false) }
-    ensures obeyed { MatchOption (option_map wanted_task asked.entry.wanted)
+    ensures obeyed { MatchOption (option_map wanted_task (result_ok asked.entry.wanted))
         (IsMistaken (reader_of R.to_come R.failed streams.old.input streams.new.input)
         (writer_of ⟦<Output<W> as Sink>⟧.taken ⟦<Output<W> as Sink>⟧.failed streams.old.output streams.new.output) result)
         (λ task. (outcome : Outcome) × (result ≡ status_of outcome)
-        × IsDone (S.files shelf.now) S.Device.to_come S.Device.failed S.Draft.taken S.Draft.failed task
+        × IsDone (S.files shelf.now) S.Device.to_come S.Device.failed S.Draft.taken S.Draft.failed S.Draft.fate task
         (reader_of R.to_come R.failed streams.old.input streams.new.input)
         (writer_of ⟦<Output<W> as Sink>⟧.taken ⟦<Output<W> as Sink>⟧.failed streams.old.output streams.new.output) outcome) }
     ensures range { result ≤ 3 }
@@ -184,15 +186,15 @@ fn obey<S: Shelf, R: Source, W: Write, E: Write>(
 {
     let (input, output, errors) = (&mut streams.input, &mut streams.output, &mut streams.errors);
     match asked.wanted {
-        Some(Wanted::Request(request)) => {
+        Ok(Wanted::Request(request)) => {
             let told = answer_request(alloc, shelf, request, input, output);
             let reason = shelf.reason();
             finish_told(alloc, request, asked.explains, &told, reason, errors)
         }
-        Some(Wanted::Digests(digests)) => {
+        Ok(Wanted::Digests(digests)) => {
             let explains = asked.explains;
             tell_digests(alloc, shelf, digests, explains, input, output, errors).status()
         }
-        None => refuse_words(asked.mistake, errors),
+        Err(mistake) => refuse_words(mistake, errors),
     }
 }

@@ -1,5 +1,5 @@
 // Where files are opened by their names, and replaced by new ones.
-ghost use Rattle.std.specs.Prelude.{◌≡◌, false, ⊤, IfErr, IfOk, OnErr, OnOk};
+ghost use Rattle.std.specs.Prelude.{◌≡◌, ◌≢◌, false, ⊤, IfErr, IfOk, OnErr, OnOk};
 ghost use Rattle.std.specs.Io.KnownBytes.{Keeps};
 ghost use Rattle.ged_devices.specs.Devices.{failed_after};
 ghost use Rattle.ged_cmd.specs.Program.{IsEmpty, IsFaultOfReplacing};
@@ -40,6 +40,7 @@ pub(crate) trait Shelf {
     fn draft(&self, alloc: Global, name: &str) -> Result<Self::Draft, Fault>
         ensures drafted { IfOk result ((files self.now).drafts name.now) }
         ensures empty { IfOk result (λ draft. IsEmpty (Self.Draft.taken draft)) }
+        ensures pending { IfOk result (λ draft. Self.Draft.fate draft ≡ Fate.Pending) }
         ensures no_failure { IfOk result (λ draft. Self.Draft.failed draft ≡ false) }
         ensures withheld { IfErr result ((files self.now).withholds name.now) }
         ensures fault { IfErr result IsFaultOfReplacing };
@@ -48,14 +49,16 @@ pub(crate) trait Shelf {
     fn place(&self, draft: &mut Self::Draft) -> Result<(), Failed>
         ensures failure { Self.Draft.failed draft.new ≡ failed_after (Self.Draft.failed draft.old) result }
         ensures bytes { Keeps (Self.Draft.taken draft.old) (Self.Draft.taken draft.new) }
-        ensures placed { OnOk result ((files self.now).fate draft.new ≡ Fate.Placed) }
-        ensures dropped { OnErr result ((files self.now).fate draft.new ≡ Fate.Dropped) };
+        ensures placed { OnOk result (Self.Draft.fate draft.new ≡ Fate.Placed) }
+        ensures dropped { OnErr result (Self.Draft.fate draft.new ≡ Fate.Dropped) }
+        ensures once { Self.Draft.fate draft.old ≢ Fate.Pending → Self.Draft.fate draft.new ≡ Self.Draft.fate draft.old };
 
-    /// Gives a new file up, so that the other one stays as it is.
+    /// Gives a new file up, so that the other one stays as it is. One that was placed before stays in its place.
     fn give_up(&self, draft: &mut Self::Draft)
         ensures failure { Self.Draft.failed draft.new ≡ Self.Draft.failed draft.old }
         ensures bytes { Self.Draft.taken draft.new ≡ Self.Draft.taken draft.old }
-        ensures dropped { (files self.now).fate draft.new ≡ Fate.Dropped };
+        ensures dropped { Self.Draft.fate draft.old ≡ Fate.Pending → Self.Draft.fate draft.new ≡ Fate.Dropped }
+        ensures once { Self.Draft.fate draft.old ≢ Fate.Pending → Self.Draft.fate draft.new ≡ Self.Draft.fate draft.old };
 }
 
 /// The files of the system. No contract can say what they hold.
@@ -82,7 +85,6 @@ impl<'a, F: Files> Shelf for Disk<'a, F> {
       refuses = λ _. ⊤;
       drafts = λ _ _. ⊤;
       withholds = λ _ _. ⊤;
-      fate = λ draft. draft.fate;
     } };
 
     fn reason(&self) -> &'static str {

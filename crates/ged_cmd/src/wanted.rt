@@ -1,11 +1,12 @@
 // What the words of the command line say as a whole.
 ghost use Rattle.std.specs.Prelude.{◌≡◌, [], List, IfOk, IfErr, IfSome, false, codes, map, option_and_then, option_map, string_bytes};
 ghost use Rattle.std.specs.Option.{option_map_or};
+ghost use Rattle.std.specs.Result.{result_ok};
 ghost use Rattle.clap.specs.Words.{Row, Text, found_of, rows_of, subcommand_of, subcommand_rows_of, fault_of};
 ghost use Rattle.clap.specs.Kinds.{HasKind};
 ghost use Rattle.ged_cmd.specs.CommandLine as line;
 ghost use Rattle.ged_cmd.specs.Tasks.{digest_asked, is_set, single_asked, task_of_match};
-ghost use Rattle.ged_cmd.specs.inner.Tasks.{IsReadOnce, wanted_task};
+ghost use Rattle.ged_cmd.specs.inner.Tasks.{IsReadOnce, mistake_in, wanted_task};
 
 use crate::arguments::EXPLAIN;
 use crate::digest_words::{Digests, digests_asked};
@@ -17,12 +18,10 @@ use std::alloc::Global;
 /// What the words say.
 #[derive(Clone, Copy)]
 pub(crate) struct Asked<'m, 'a> {
-    /// What the program is asked for; `None` where that is a mistake that clap doesn't know.
-    pub(crate) wanted: Option<Wanted<'m, 'a>>,
+    /// What the program is asked for, or a mistake that clap doesn't know.
+    pub(crate) wanted: Result<Wanted<'m, 'a>, Mistake>,
     /// Whether faults and notices are explained.
     pub(crate) explains: bool,
-    /// What is wrong with the words where there is no request.
-    pub(crate) mistake: Mistake,
 }
 
 /// What is wrong with words that clap takes.
@@ -60,20 +59,22 @@ pub(crate) fn read_words<'a>(alloc: Global, words: &'a [String]) -> Result<ArgMa
 /// input, `digest` where two would be, or `explain` where the word is of no fault. Words without a mistake have a subcommand,
 /// since clap requires one, so that there is a request for all others.
 pub(crate) fn asked_of<'m, 'a>(matches: &'m ArgMatches<'a>) -> Asked<'m, 'a>
-    ensures asked { option_map wanted_task result.wanted ≡ option_and_then task_of_match (subcommand_rows_of matches.now) }
-    ensures once { IfSome result.wanted IsReadOnce }
+    ensures asked { option_map wanted_task (result_ok result.wanted) ≡ option_and_then task_of_match (subcommand_rows_of matches.now) }
+    ensures mistake { IfErr result.wanted (λ mistake. mistake ≡ mistake_in (subcommand_rows_of matches.now)) }
+    ensures once { IfOk result.wanted IsReadOnce }
     ensures explained { result.explains ≡ option_map_or (λ (found : Text × List Row). is_set (codes "explain") found.1)
         (subcommand_rows_of matches.now) false }
 {
     Asked {
-        wanted: wanted_of(matches),
+        wanted: wanted_of(matches).ok_or(mistake_of(matches)),
         explains: is_explained(matches),
-        mistake: mistake_of(matches),
     }
 }
 
 /// What is wrong with words that ask for nothing.
-fn mistake_of(matches: &ArgMatches<'_>) -> Mistake {
+fn mistake_of(matches: &ArgMatches<'_>) -> Mistake
+    ensures { result ≡ mistake_in (subcommand_rows_of matches.now) }
+{
     match matches.subcommand() {
         Some((name, _)) if name == "explain" => Mistake::NoFault,
         Some((name, _)) if name == "digest" => Mistake::InputTwice,

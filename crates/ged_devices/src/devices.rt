@@ -3,6 +3,7 @@ ghost use Rattle.std.specs.Prelude.{◌≡◌, ◌+◌, ◌-◌, ◌^◌, ◌<�
 ghost use Rattle.std.specs.Io.{ReadsAtMost, WritesAtMost};
 ghost use Rattle.std.specs.Io.KnownBytes.{ReadConsumes, WriteAppends};
 ghost use Rattle.ged_devices.specs.Devices.{failed_after};
+ghost use Rattle.ged_devices.specs.declared.drafts.Fate.{Fate};
 
 /// A device answered an error, or took none of some bytes.
 #[derive(Clone, Copy, PartialEq, Eq, Debug)]
@@ -45,12 +46,16 @@ pub trait Sink {
     // the bytes taken, where the writer tells them
     ghost taken: { Self → Option (List ℕ) };
 
+    // what has become of what is written, where it is a new file; no write changes that
+    ghost fate: { Self → Fate };
+
     /// Takes some of the first bytes, at least one of some, and answers how many; or takes none and answers Failed.
     fn write(&mut self, bytes: &[u8]) -> Result<usize, Failed>
         ensures bound { WritesAtMost result bytes.now }
         ensures some { IfOk result (λ count. 0 < length bytes.now → 0 < count) }
         ensures failure { failed self.new ≡ failed_after (failed self.old) result }
-        ensures bytes { WriteAppends (taken self.old) (taken self.new) result bytes.now };
+        ensures bytes { WriteAppends (taken self.old) (taken self.new) result bytes.now }
+        ensures fate { fate self.new ≡ fate self.old };
 
     /// Whether a call of `write` has answered Failed.
     fn failed(&self) -> bool

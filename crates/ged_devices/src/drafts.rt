@@ -28,7 +28,7 @@ pub enum Fate {
     Pending,
     /// It has taken that file's place.
     Placed,
-    /// It was given up: it never was created, or the system was told to remove it, or it had taken that file's place before.
+    /// It was given up: it never was created, or the system was told to remove it.
     Dropped,
 }
 
@@ -102,7 +102,7 @@ impl<'a, F: Files> NewFile<'a, F> {
     /// Creates the file under the first name that no other has, with the permissions that it keeps of the file whose place it is to
     /// take.
     fn create(&mut self) -> io::Result<()>
-        ensures { self.new.failed ≡ self.old.failed }
+        ensures { (self.new.failed ≡ self.old.failed) × (self.new.fate ≡ self.old.fate) }
     {
         let file = self.open_new()?;
         let given = match self.kept {
@@ -114,7 +114,7 @@ impl<'a, F: Files> NewFile<'a, F> {
     }
 
     fn open_new(&mut self) -> io::Result<F::File>
-        ensures { self.new.failed ≡ self.old.failed }
+        ensures { (self.new.failed ≡ self.old.failed) × (self.new.fate ≡ self.old.fate) }
     {
         for number in 0..TRIES {
             self.name(number)?;
@@ -128,7 +128,7 @@ impl<'a, F: Files> NewFile<'a, F> {
 
     /// The path by which the file is created next. Its room is there, so that no memory is taken.
     fn name(&mut self, number: u64) -> io::Result<()>
-        ensures { self.new.failed ≡ self.old.failed }
+        ensures { (self.new.failed ≡ self.old.failed) × (self.new.fate ≡ self.old.fate) }
     {
         let mut buffer = Buffer::new();
         self.path.clear();
@@ -150,7 +150,7 @@ impl<'a, F: Files> NewFile<'a, F> {
 
     fn write_some(&mut self, bytes: &[u8]) -> io::Result<usize>
         ensures bound { WritesAtMost result bytes.now }
-        ensures failure { self.new.failed ≡ self.old.failed }
+        ensures stays { (self.new.failed ≡ self.old.failed) × (self.new.fate ≡ self.old.fate) }
     {
         if self.file.is_none() && self.fate == Fate::Pending {
             self.create()?;
@@ -163,7 +163,7 @@ impl<'a, F: Files> NewFile<'a, F> {
 
     /// Syncs the file, and lets it take the other's place.
     fn rename(&mut self) -> io::Result<()>
-        ensures { self.new.failed ≡ self.old.failed }
+        ensures { (self.new.failed ≡ self.old.failed) × (self.new.fate ≡ self.old.fate) }
     {
         if self.file.is_none() {
             self.create()?;
@@ -195,6 +195,7 @@ impl<'a, F: Files> NewFile<'a, F> {
 
     /// The same for one that was neither placed nor given up.
     fn place_pending(&mut self) -> Result<(), Failed>
+        requires { self.old.fate ≡ Fate.Pending }
         ensures failure { self.new.failed ≡ failed_after self.old.failed result }
         ensures placed { OnOk result (self.new.fate ≡ Fate.Placed) }
         ensures dropped { OnErr result (self.new.fate ≡ Fate.Dropped) }
@@ -219,8 +220,12 @@ impl<'a, F: Files> NewFile<'a, F> {
     /// placed or given up before is left alone. Takes no memory.
     pub fn give_up(&mut self)
         ensures failure { self.new.failed ≡ self.old.failed }
-        ensures dropped { self.new.fate ≡ Fate.Dropped }
+        ensures dropped { self.old.fate ≡ Fate.Pending → self.new.fate ≡ Fate.Dropped }
+        ensures once { self.old.fate ≢ Fate.Pending → self.new.fate ≡ self.old.fate }
     {
+        if self.fate != Fate::Pending {
+            return;
+        }
         if self.file.take().is_some() {
             let _ = fs::remove_file(self.files, self.path.as_str());
         }
@@ -233,6 +238,8 @@ impl<F: Files> Sink for NewFile<'_, F> {
 
     // no contract can say what the system's files hold
     ghost taken = { λ _. None };
+
+    ghost fate = { λ s. s.fate };
 
     fn write(&mut self, bytes: &[u8]) -> Result<usize, Failed> {
         match self.write_some(bytes) {

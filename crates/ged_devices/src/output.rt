@@ -2,6 +2,7 @@
 ghost use Rattle.std.specs.Prelude.{◌≡◌, false, IfSome, OnOk};
 ghost use Rattle.std.specs.Io.KnownBytes.{Appends, Keeps};
 ghost use Rattle.ged_devices.specs.Devices.{failed_after};
+ghost use Rattle.ged_devices.specs.declared.drafts.Fate.TheVariants.{Pending};
 
 use crate::devices::{Failed, Sink};
 use std::fmt::Display;
@@ -42,8 +43,8 @@ impl<W: Write> Output<W> {
         }
     }
 
-    /// Writes a value as it is displayed, or answers Failed where the device answers an error. Takes no memory beyond
-    /// what showing the value takes.
+    /// Writes a value as it is displayed, or answers Failed where the device answers an error: then a part of it may be written. Takes
+    /// no memory beyond what showing the value takes.
     pub fn print<D: Display + Drop>(&mut self, value: D) -> Result<(), Failed>
         ensures failure { ⟦<Output<W> as Sink>⟧.failed self.new
             ≡ failed_after (⟦<Output<W> as Sink>⟧.failed self.old) result }
@@ -64,6 +65,8 @@ impl<W: Write> Sink for Output<W> {
     ghost failed = { λ s. s.failed };
 
     ghost taken = { λ s. W.contents s.device };
+
+    ghost fate = { λ _. Pending };
 
     fn write(&mut self, bytes: &[u8]) -> Result<usize, Failed> {
         match self.device.write(bytes) {

@@ -50,8 +50,8 @@ fn words_of(kind: ErrorKind) -> &'static str {
     match kind {
         ErrorKind::NotFound => "no such file or folder",
         ErrorKind::PermissionDenied => "permission denied",
-        ErrorKind::IsADirectory => "is a directory",
-        ErrorKind::NotADirectory => "not a directory",
+        ErrorKind::IsADirectory => "is a folder",
+        ErrorKind::NotADirectory => "not a folder",
         ErrorKind::StorageFull => "no space left",
         ErrorKind::QuotaExceeded => "no space left for this user",
         ErrorKind::FileTooLarge => "file too large",

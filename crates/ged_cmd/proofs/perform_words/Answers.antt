@@ -2,6 +2,7 @@ use Rattle.std.proofs.Common.{◌≡◌, ℕ, Bool, List, [], Option, Some, None
 use Rattle.clap.specs.Words.{Text, fault_of}
 use Rattle.ged_faults.specs.Faults.{status_of}
 use Rattle.ged_faults.specs.declared.faults.Outcome.{Outcome}
+use Rattle.ged_devices.specs.declared.drafts.Fate.{Fate}
 use Rattle.ged_cmd.specs.CommandLine.{gedtool}
 use Rattle.ged_cmd.specs.Program.{Files, IsDone, Performs, Reader, Writer}
 use Rattle.ged_cmd.specs.Tasks.{Task, asked, task_of_match}
@@ -9,19 +10,19 @@ use Rattle.ged_cmd.specs.inner.Obeying.{IsMistaken}
 use Rattle.ged_cmd.proofs.perform_words.Goals as goal
 
 -- words that clap takes: what they ask for is done, or they ask for nothing
-performed : {D T : Type 0} (files : Files D T) (to_come : D → Option (List ℕ)) (failed : D → Bool) (taken : T → Option (List ℕ)) (write_failed : T → Bool)
+performed : {D T : Type 0} (files : Files D T) (to_come : D → Option (List ℕ)) (failed : D → Bool) (taken : T → Option (List ℕ)) (write_failed : T → Bool) (fate : T → Fate)
     (words : List Text) (input : Reader) (writer : Writer) (status : ℕ) → fault_of gedtool words ≡ []
     → (task : Option Task) → asked words ≡ task
     → MatchOption task (IsMistaken input writer status)
-    (λ t. (outcome : Outcome) × (status ≡ status_of outcome) × IsDone files to_come failed taken write_failed t input writer outcome)
-    → Performs files to_come failed taken write_failed words input writer status
-performed files to_come failed taken write_failed words input writer status faultless None nothing (unread, unwritten, two) =
+    (λ t. (outcome : Outcome) × (status ≡ status_of outcome) × IsDone files to_come failed taken write_failed fate t input writer outcome)
+    → Performs files to_come failed taken write_failed fate words input writer status
+performed files to_come failed taken write_failed fate words input writer status faultless None nothing (unread, unwritten, two) =
     inr (inr (faultless, nothing, unread, unwritten, two))
-performed files to_come failed taken write_failed words input writer status faultless (Some task) is (outcome, told, done) =
+performed files to_come failed taken write_failed fate words input writer status faultless (Some task) is (outcome, told, done) =
     inr (inl (record { task = task; outcome = outcome; faultless = faultless; task_asked = is; done = done; told = told }))
 
 pub returns-in-Ok-clause-performs : goal.returns-in-Ok-clause-performs
 returns-in-Ok-clause-performs g c =
-    performed (g.S.Shelf.files c.args.shelf.now) g.S.Device.Source.to_come g.S.Device.Source.failed g.S.Draft.Sink.taken g.S.Draft.Sink.failed
+    performed (g.S.Shelf.files c.args.shelf.now) g.S.Device.Source.to_come g.S.Device.Source.failed g.S.Draft.Sink.taken g.S.Draft.Sink.failed g.S.Draft.Sink.fate
     (map string_bytes c.args.words.now) _ _ c.obey_matches.result c.in-Ok.ensures.no_mistake _
     (sym (ap (option_and_then task_of_match) c.in-Ok.ensures.matched)) c.obey_matches.ensures.obeyed

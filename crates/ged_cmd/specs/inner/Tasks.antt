@@ -1,12 +1,15 @@
 -- Nothing here need be believed: only private contracts and proofs cite it.
-use Rattle.std.specs.Prelude.{◌≤◌, List, count_by, map, option_map}
+use Rattle.std.specs.Prelude.{◌≤◌, List, Option, Some, None, codes, count_by, if◌then◌else◌, map, option_map}
 use Rattle.std.specs.Borrow.{Bor}
 use Rattle.std.specs.Option.{option_copied}
+use Rattle.std.specs.Str.{bytes_eq}
 use Rattle.ged_explain.specs.Names.{as_named}
-use Rattle.clap.specs.Words.{Text}
+use Rattle.clap.specs.Words.{Row, Text}
 use Rattle.ged_tool.specs.Settings.{profile_of, edition_of}
 use Rattle.ged_cmd.specs.declared.words.Request.{Request}
 use Rattle.ged_cmd.specs.declared.words.Request.TheVariants.{Explain, Run, Same, SameInput}
+use Rattle.ged_cmd.specs.declared.wanted.Mistake.{Mistake}
+use Rattle.ged_cmd.specs.declared.wanted.Mistake.TheVariants as mistake
 use Rattle.ged_cmd.specs.declared.wanted.Wanted.{Wanted}
 use Rattle.ged_cmd.specs.declared.wanted.Wanted.TheVariants as wanted
 use Rattle.ged_cmd.specs.declared.digest_words.Digests.{Digests}
@@ -39,3 +42,10 @@ wanted_task (wanted.Digests digests) = digests_task digests
 abbrev pub IsReadOnce : Wanted → Type 0
 IsReadOnce (wanted.Request request) = Unit {0}
 IsReadOnce (wanted.Digests digests) = count_by is_input (names_of digests.files.now) ≤ 1
+
+-- what is wrong with the words of a subcommand that ask for nothing
+abbrev pub mistake_in : Option (Text × List Row) → Mistake
+mistake_in None = mistake.TwoInputs
+mistake_in (Some (name, rows)) =
+    if bytes_eq name (codes "explain") then mistake.NoFault else
+    if bytes_eq name (codes "digest") then mistake.InputTwice else mistake.TwoInputs

@@ -41,6 +41,7 @@ pub fn run_digest<R: Source, W: Sink>(
     ensures devices { TellsDevices limit (R.reads reader.new) (R.failed reader.new) (W.failed writer.new) result.outcome }
     ensures bytes { IsKeptDigestRun (profile_of settings) (edition_of settings) name.now limit (R.to_come reader.old) (R.to_come reader.new)
         (W.taken writer.old) (W.taken writer.new) result.outcome result.bytes.items }
+    ensures fate { W.fate writer.new ≡ W.fate writer.old }
 {
     let bytes = match read_whole(alloc, limit, reader) {
         Ok(bytes) => bytes,

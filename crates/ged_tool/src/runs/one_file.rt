@@ -33,6 +33,7 @@ pub fn run<R: Source, W: Sink>(
     ensures devices { TellsDevices limit (R.reads reader.new) (R.failed reader.new) (W.failed writer.new) result }
     ensures bytes { IsRun Profile.Lenient Edition.First command limit (R.to_come reader.old) (R.to_come reader.new)
         (W.taken writer.old) (W.taken writer.new) result }
+    ensures fate { W.fate writer.new ≡ W.fate writer.old }
 {
     run_as(alloc, Settings::new(), limit, command, reader, writer)
 }
@@ -67,6 +68,7 @@ pub fn run_as<R: Source, W: Sink>(
     ensures devices { TellsDevices limit (R.reads reader.new) (R.failed reader.new) (W.failed writer.new) result }
     ensures bytes { IsRun (profile_of settings) (edition_of settings) command limit (R.to_come reader.old) (R.to_come reader.new)
         (W.taken writer.old) (W.taken writer.new) result }
+    ensures fate { W.fate writer.new ≡ W.fate writer.old }
 {
     let told = run_told(alloc, settings, limit, command, reader, writer);
     told.outcome
@@ -88,6 +90,7 @@ pub fn run_told<R: Source, W: Sink>(
     ensures devices { TellsDevices limit (R.reads reader.new) (R.failed reader.new) (W.failed writer.new) result.outcome }
     ensures bytes { IsKeptRun (profile_of settings) (edition_of settings) command limit (R.to_come reader.old) (R.to_come reader.new)
         (W.taken writer.old) (W.taken writer.new) result.outcome result.bytes.items }
+    ensures fate { W.fate writer.new ≡ W.fate writer.old }
 {
     let bytes = match read_whole(alloc, limit, reader) {
         Ok(bytes) => bytes,

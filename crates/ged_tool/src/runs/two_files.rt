@@ -35,6 +35,7 @@ pub fn run_same<R: Source, S: Source, W: Sink>(
         (R.failed first.new) (S.failed second.new) (W.failed writer.new) result }
     ensures bytes { IsSameRun Profile.Lenient Edition.First limit (R.to_come first.old) (R.to_come first.new)
         (S.to_come second.old) (S.to_come second.new) (W.taken writer.old) (W.taken writer.new) result }
+    ensures fate { W.fate writer.new ≡ W.fate writer.old }
 {
     run_same_as(alloc, Settings::new(), limit, first, second, writer)
 }
@@ -71,6 +72,7 @@ pub fn run_same_as<R: Source, S: Source, W: Sink>(
         (R.failed first.new) (S.failed second.new) (W.failed writer.new) result }
     ensures bytes { IsSameRun (profile_of settings) (edition_of settings) limit (R.to_come first.old) (R.to_come first.new)
         (S.to_come second.old) (S.to_come second.new) (W.taken writer.old) (W.taken writer.new) result }
+    ensures fate { W.fate writer.new ≡ W.fate writer.old }
 {
     let form = Form::Canonical;
     let comparison = Comparison { settings, form };
@@ -97,6 +99,7 @@ pub fn run_same_told<R: Source, S: Source, W: Sink>(
     ensures bytes { IsKeptSameRunOf (profile_of comparison.settings) (relation_of comparison.form (edition_of comparison.settings))
         limit (R.to_come first.old) (R.to_come first.new) (S.to_come second.old) (S.to_come second.new)
         (W.taken writer.old) (W.taken writer.new) result.outcome result.bytes.items }
+    ensures fate { W.fate writer.new ≡ W.fate writer.old }
 {
     let first_bytes = match read_whole(alloc, limit, first) {
         Ok(bytes) => bytes,

@@ -38,6 +38,7 @@ pub(crate) fn write_answer<W: Sink>(
         (W.taken writer.old) (W.taken writer.new)) }
     ensures err { IfErr result (λ fault. StopsAnswering (Answers (profile_of settings) (edition_of settings) command bytes.now)
         (FaultAt (profile_of settings) command bytes.now) (W.taken writer.old) (W.taken writer.new) fault) }
+    ensures fate { W.fate writer.new ≡ W.fate writer.old }
 {
     match command {
         Command::Lines => write_lines(alloc, bytes, writer),
@@ -61,6 +62,7 @@ fn write_text<W: Sink>(
         (W.taken writer.old) (W.taken writer.new)) }
     ensures err { IfErr result (λ fault. StopsAnswering (Answers (profile_of settings) (edition_of settings) command bytes.now)
         (FaultAt (profile_of settings) command bytes.now) (W.taken writer.old) (W.taken writer.new) fault) }
+    ensures fate { W.fate writer.new ≡ W.fate writer.old }
 {
     let text = match answer(alloc, settings, command, bytes) {
         Ok(text) => text,
@@ -80,6 +82,7 @@ fn write_lines<W: Sink>(alloc: Global, bytes: &[u8], writer: &mut W) -> Result<(
         (W.taken writer.old) (W.taken writer.new)) }
     ensures err { IfErr result (λ fault. StopsAnswering (Answers Profile.Lenient Edition.First Command.Lines bytes.now)
         (FaultAt Profile.Lenient Command.Lines bytes.now) (W.taken writer.old) (W.taken writer.new) fault) }
+    ensures fate { W.fate writer.new ≡ W.fate writer.old }
 {
     let parts = match respell_parts(alloc, bytes) {
         Ok(parts) => parts,
@@ -112,6 +115,7 @@ fn write_form<W: Sink>(
         (W.taken writer.old) (W.taken writer.new)) }
     ensures err { IfErr result (λ fault. StopsAnswering (IsInForm form (profile_of settings) (edition_of settings) bytes.now)
         (FileFaultAt (profile_of settings) bytes.now) (W.taken writer.old) (W.taken writer.new) fault) }
+    ensures fate { W.fate writer.new ≡ W.fate writer.old }
 {
     let spelled = match spell_form(alloc, settings, form, bytes) {
         Ok(spelled) => spelled,
@@ -139,6 +143,7 @@ fn write_through<W: Sink>(
         × Appends (W.taken writer.old) (W.taken writer.new) reader.entry) }
     ensures err { OnErr result (IsTrue (W.failed writer.new) × (written : Bytes)
         × Appends (W.taken writer.old) (W.taken writer.new) written × StartsWith reader.entry written) }
+    ensures fate { W.fate writer.new ≡ W.fate writer.old }
 {
     loop {
         let count = reader.fill(buffer);
@@ -159,6 +164,7 @@ fn write_parts<W: Sink>(writer: &mut W, parts: &[SpelledPart<'_>]) -> Result<(),
         × Appends (W.taken writer.old) (W.taken writer.new) (joined_parts parts.now)) }
     ensures err { OnErr result (IsTrue (W.failed writer.new) × (written : Bytes)
         × Appends (W.taken writer.old) (W.taken writer.new) written × StartsWith (joined_parts parts.now) written) }
+    ensures fate { W.fate writer.new ≡ W.fate writer.old }
 {
     for part in parts {
         match write_both(writer, &part.made, part.kept) {
@@ -176,6 +182,7 @@ fn write_both<W: Sink>(writer: &mut W, first: &[u8], second: &[u8]) -> Result<()
         × Appends (W.taken writer.old) (W.taken writer.new) (first.now ++ second.now)) }
     ensures err { OnErr result (IsTrue (W.failed writer.new) × (written : Bytes)
         × Appends (W.taken writer.old) (W.taken writer.new) written × StartsWith (first.now ++ second.now) written) }
+    ensures fate { W.fate writer.new ≡ W.fate writer.old }
 {
     match write_whole(writer, first) {
         Ok(()) => {}
@@ -194,6 +201,7 @@ pub(crate) fn write_whole<W: Sink>(writer: &mut W, text: &[u8]) -> Result<(), Fa
         × Appends (W.taken writer.old) (W.taken writer.new) text.now) }
     ensures err { OnErr result (IsTrue (W.failed writer.new) × (written : Bytes)
         × Appends (W.taken writer.old) (W.taken writer.new) written × StartsWith text.now written) }
+    ensures fate { W.fate writer.new ≡ W.fate writer.old }
 {
     let mut at = 0usize;
     while at < text.len() {

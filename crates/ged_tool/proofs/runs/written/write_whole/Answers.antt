@@ -18,5 +18,6 @@ pub loop-at-preserved : goal.loop-at-preserved
 loop-at-preserved g c = (
   search rules,
   c.in_ok-count.ensures.failure ∙ c.loop-at.invariant.1,
-  took_more _ _ _ _ _ _ c.loop-at.invariant.2 c.in_ok-count.ensures.bytes,
+  c.in_ok-count.ensures.fate ∙ c.loop-at.invariant.2,
+  took_more _ _ _ _ _ _ c.loop-at.invariant.3 c.in_ok-count.ensures.bytes,
 )

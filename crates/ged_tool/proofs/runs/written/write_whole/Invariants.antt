@@ -3,7 +3,7 @@ use Rattle.std.specs.Io.KnownBytes.{Appends}
 use Rattle.ged_tool.proofs.runs.written.write_whole.Given as goal
 
 abbrev pub invariant-loop-at : goal.invariant-loop-at
-invariant-loop-at g l = (l.at ≤ length l.text) × (g.W.Sink.failed l.writer ≡ false)
+invariant-loop-at g l = (l.at ≤ length l.text) × (g.W.Sink.failed l.writer ≡ false) × (g.W.Sink.fate l.writer ≡ g.W.Sink.fate l.fn.writer)
     × Appends (g.W.Sink.taken l.fn.writer) (g.W.Sink.taken l.writer) (take l.at l.text)
 
 abbrev pub decreases-loop-at : goal.decreases-loop-at
