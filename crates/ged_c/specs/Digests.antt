@@ -15,7 +15,7 @@ use Rattle.ged_c.specs.declared.answering.Ended.TheVariants.{Answered, NoRoom, R
 abbrev pub DigestMeansAs : Profile → Edition → Bytes → Bytes → Bytes → Ended → Type 0
 DigestMeansAs profile edition file before after (Answered count) = (length file ≤ greatest_limit)
     × ((digest : Bytes) × IsDigest profile edition file digest × IsPut digest before after (Answered count))
-DigestMeansAs profile edition file before after (NoRoom count) = (length before < 32) × (after ≡ before)
+DigestMeansAs profile edition file before after (NoRoom count) = (count ≡ 32) × (length before < 32) × (after ≡ before)
 DigestMeansAs profile edition file before after (Refused fault) = (32 ≤ length before) × TellsOf profile Canon file fault × (after ≡ before)
 DigestMeansAs profile edition file before after BadSettings = ⊥
 DigestMeansAs profile edition file before after NotFound = ⊥

@@ -6,7 +6,8 @@ use Rattle.std.proofs.lemmas.Iterator.Consumers.{nth_from_yields_List, YieldsLis
 use denote.Ref.{Bor}
 use Rattle.ged_line.specs.Bytes.{Bytes}
 use Rattle.ged_line.specs.Pieces.{ArePiecesOf}
-use Rattle.ged_explain.specs.inner.Passing.{HasPassed, IsPieceAt}
+use Rattle.ged_explain.specs.Showing.{IsPieceAt}
+use Rattle.ged_explain.specs.inner.Passing.{HasPassed}
 
 abbrev Gives : List Bytes → Option (Bor Bytes) → List Bytes → Type 0
 Gives = YieldsFirstRef (λ pieces. pieces)
@@ -46,6 +47,9 @@ passed_on bytes passed between line rest piece left number (pieces, cut, is) ski
     let place : passed + between ≡ line - 1 = omega arith in
     let behind : left ≡ drop (suc between) rest = left_behind skipped.0 piece rest skipped.1.0 left between skipped.1.1 skipped.1.2 skipped.2 in
     let more : passed + suc between ≡ line = omega arith in (
-      λ some. (pieces, cut, found ∙ ap (λ list. slice_get list between) is ∙ nth_drop passed pieces between ∙ ap (slice_get pieces) place),
+      (
+        λ none. absurd (omega arith),
+        λ some. (pieces, cut, found ∙ ap (λ list. slice_get list between) is ∙ nth_drop passed pieces between ∙ ap (slice_get pieces) place),
+      ),
       (pieces, cut, behind ∙ ap (drop (suc between)) is ∙ drop-drop (suc between) passed pieces ∙ ap (λ n. drop n pieces) more),
     )

@@ -1,5 +1,5 @@
 -- Lines of a file as they are shown.
-use Rattle.std.specs.Prelude.{◌≡◌, ◌≤◌, ◌<◌, ◌-◌, ℕ, List, [], ◌∷◌, ◌++◌, Option, MatchOption, codes, length, slice_get, IsUtf8}
+use Rattle.std.specs.Prelude.{◌≡◌, ◌≤◌, ◌<◌, ◌-◌, ℕ, List, [], ◌∷◌, ◌++◌, Option, None, MatchOption, codes, length, slice_get, IsUtf8}
 use Rattle.std.specs.List.{All}
 use Rattle.ged_line.specs.Bytes.{Bytes, line_feed}
 use Rattle.ged_line.specs.Pieces.{ArePiecesOf}
@@ -22,6 +22,11 @@ IsShownAs piece shown = MatchOption piece
     (shown ≡ codes " is past the last line" ++ line_feed ∷ [])
     (λ piece. Begins (codes ": ") shown × (IsPlain piece → shown ≡ codes ": " ++ (piece ++ line_feed ∷ [])))
 
--- so the line of this number, counted from 1, is shown
+-- the line of this number, counted from 1, if the file has one; there is none at 0
+abbrev pub IsPieceAt : Bytes → ℕ → Option Bytes → Type 0
+IsPieceAt bytes line piece = (line ≡ 0 → piece ≡ None)
+    × (0 < line → (pieces : List Bytes) × ArePiecesOf bytes pieces × (piece ≡ slice_get pieces (line - 1)))
+
+-- so the line of this number is shown
 abbrev pub ShowsPiece : Bytes → ℕ → Bytes → Type 0
-ShowsPiece bytes line shown = 0 < line → (pieces : List Bytes) × ArePiecesOf bytes pieces × IsShownAs (slice_get pieces (line - 1)) shown
+ShowsPiece bytes line shown = (piece : Option Bytes) × IsPieceAt bytes line piece × IsShownAs piece shown

@@ -1,7 +1,6 @@
 // The lines that explain a fault or a notice.
 ghost use Rattle.std.specs.Prelude.{◌≡◌, ◌++◌, IfOk, OnOk, option_map, string_bytes};
-ghost use Rattle.ged_explain.specs.Showing.{Begins};
-ghost use Rattle.ged_explain.specs.inner.Passing.{IsPieceAt};
+ghost use Rattle.ged_explain.specs.Showing.{Begins, IsPieceAt};
 ghost use Rattle.ged_explain.specs.Openings.{Opens, ShowsLine, cause_head, file_line as line_of_file, opening, reason_line};
 
 use crate::explanation::Explanation;

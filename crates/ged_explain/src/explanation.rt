@@ -28,27 +28,19 @@ impl Explanation {
     }
 
     pub(crate) fn say(&mut self, text: &str) {
-        if self.text.push_str(text).is_err() {
-            self.lacks_memory = true;
-        }
+        self.lacks_memory |= self.text.push_str(text).is_err();
     }
 
     pub(crate) fn say_number(&mut self, number: u64) {
-        if write!(self.text, "{number}").is_err() {
-            self.lacks_memory = true;
-        }
+        self.lacks_memory |= write!(self.text, "{number}").is_err();
     }
 
     pub(crate) fn say_byte(&mut self, byte: u8) {
-        if write!(self.text, "\\x{byte:02X}").is_err() {
-            self.lacks_memory = true;
-        }
+        self.lacks_memory |= write!(self.text, "\\x{byte:02X}").is_err();
     }
 
     pub(crate) fn say_character_number(&mut self, number: u32) {
-        if write!(self.text, "U+{number:04X}").is_err() {
-            self.lacks_memory = true;
-        }
+        self.lacks_memory |= write!(self.text, "U+{number:04X}").is_err();
     }
 
     /// Says one character, or its number where it has no sign of its own. Gives how many columns that takes.

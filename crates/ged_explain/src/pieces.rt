@@ -2,7 +2,8 @@
 ghost use Rattle.std.specs.Prelude.{◌≡◌, ◌-◌, ◌<◌, List, None, option_map, slice_get};
 ghost use Rattle.ged_line.specs.Bytes.{Bytes};
 ghost use Rattle.ged_line.specs.Pieces.{ArePiecesOf};
-ghost use Rattle.ged_explain.specs.inner.Passing.{HasPassed, IsPieceAt};
+ghost use Rattle.ged_explain.specs.Showing.{IsPieceAt};
+ghost use Rattle.ged_explain.specs.inner.Passing.{HasPassed};
 
 use ged_line::{Pieces, split_pieces};
 use std::marker::Model;

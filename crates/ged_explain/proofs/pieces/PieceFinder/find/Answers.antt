@@ -1,5 +1,6 @@
 use Rattle.std.proofs.Common.{◌≡◌, ◌+◌, arith, option_map}
-use Rattle.ged_explain.specs.inner.Passing.{HasPassed, IsPieceAt}
+use Rattle.ged_explain.specs.Showing.{IsPieceAt}
+use Rattle.ged_explain.specs.inner.Passing.{HasPassed}
 use Rattle.ged_explain.proofs.Passing.{at_start, passed_on}
 use Rattle.ged_explain.proofs.pieces.PieceFinder.find.Goals as goal
 use Rattle.ged_explain.proofs.pieces.PieceFinder.find.Goals.{then-line-self, else-line-self}
