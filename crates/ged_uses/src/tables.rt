@@ -1,5 +1,6 @@
 // On ged_schema.
-ghost use Rattle.std.specs.Prelude.{◌≡◌, IfOk, MatchOption, option_map};
+ghost use Rattle.std.specs.Prelude.{◌≡◌, ◌⊎◌, IfOk, IfErr, MatchOption, alloc_error, option_map};
+ghost use Rattle.ged_link.specs.LinkFaults.{HasLinkFault};
 ghost use Rattle.ged_schema.specs.declared.context.Context.TheVariants.{Indi};
 ghost use Rattle.ged_schema.specs.declared.profile.Profile.TheVariants.{Strict};
 ghost use Rattle.ged_schema.specs.Profiles.{CheckedAs, IsFirstFaultAs};
@@ -19,11 +20,12 @@ pub fn kind_below_person(tag: &str) -> Option<Kind>
     Some(rule.kind)
 }
 
-/// The first fault by the tables under the strict profile.
+/// The first fault by the tables under the strict profile, or the fault of the cross-references.
 pub fn table_fault<F: Forest>(alloc: Global, forest: &F) -> Result<Option<SchemaAt>, LinkFault>
-    ensures { IfOk result (λ found. MatchOption found
+    ensures found { IfOk result (λ found. MatchOption found
         (CheckedAs Strict (F.trees forest.now))
         (λ at. IsFirstFaultAs Strict (F.trees forest.now) at)) }
+    ensures fault { IfErr result (λ fault. (fault ≡ LinkFault.Memory alloc_error) ⊎ HasLinkFault (F.trees forest.now) fault) }
 {
     let index = resolve(alloc, forest)?;
     match check_as(Profile::Strict, forest, &index) {
