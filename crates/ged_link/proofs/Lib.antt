@@ -3,6 +3,7 @@ pub mod PairLemmas
 pub mod PlaceCases
 pub mod LinkLemmas
 pub mod NameLemmas
+pub mod KeyLemmas
 pub mod ListingLemmas
 pub mod TypeLemmas
 pub mod LawLemmas

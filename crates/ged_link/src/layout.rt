@@ -1,5 +1,5 @@
 // How many slots the names of a document are given, and which of them those of each first byte are given.
-ghost use Rattle.std.specs.Prelude.{◌≡◌, ◌<◌, ℕ, [], IfOk, None, fold, replicate};
+ghost use Rattle.std.specs.Prelude.{◌≡◌, ◌<◌, ℕ, [], IfOk, None, fold, length, replicate};
 ghost use Rattle.ged_link.specs.Slots.{kept_in};
 ghost use Rattle.ged_link.specs.inner.Layout.{counted_at, no_names, room, begun};
 
@@ -72,7 +72,8 @@ fn regions_of(alloc: Global, tallies: &[Tally]) -> Result<(Vec<Region>, u32), Al
 /// Free slots for the names that were counted. Takes memory for at most two slots for each name, and eight for each first byte that
 /// occurs, and for fewer where the numbers of the names are small.
 pub(crate) fn slots_for(alloc: Global, tallies: &[Tally]) -> Result<Slots, AllocError>
-    ensures { IfOk result (λ slots. (name : _) → (number : ℕ) → 0 < number → kept_in slots name number ≡ None) }
+    ensures free { IfOk result (λ slots. (name : _) → (number : ℕ) → 0 < number → kept_in slots name number ≡ None) }
+    ensures sized { IfOk result (λ slots. (slots.regions.items, length slots.entries.items) ≡ fold begun ([], 0) tallies.now) }
 {
     let (regions, size) = regions_of(alloc, tallies)?;
     Slots::new(alloc, regions, size as usize)

@@ -1,9 +1,10 @@
 // Records by the names of their cross-reference identifiers.
-ghost use Rattle.std.specs.Prelude.{◌≡◌, ◌<◌, ◌^◌, ◌↔◌, ℕ, IsTrue, IfOk, IfSome, [], Option, Some, None, nat_eq};
+ghost use Rattle.std.specs.Prelude.{◌≡◌, ◌<◌, ◌^◌, ◌↔◌, ℕ, IsTrue, IfOk, IfSome, OnOk, [], List, Option, Some, None, nat_eq};
 ghost use Rattle.std.specs.HashMap.{get, get_by_text};
 ghost use Rattle.ged_line.specs.Bytes.{Bytes};
+ghost use Rattle.ged_link.specs.Links.{IsAmong};
 ghost use Rattle.ged_link.specs.Indexes.{found_in};
-ghost use Rattle.ged_link.specs.inner.Indexes.{HasKey, HasNoOthers};
+ghost use Rattle.ged_link.specs.inner.Indexes.{HasKey, HasNoOthers, HoldsOf};
 ghost use Rattle.ged_link.specs.Slots.{slot_in, kept_in};
 ghost use Rattle.ged_link.specs.NameNumbers.{count_read, counted_number, number_up_to, number_within, short_number};
 ghost use Rattle.ged_link.specs.inner.Listing.{listed_name};
@@ -166,6 +167,7 @@ impl Names {
         requires { HasNoOthers self.old }
         ensures same { (name : _) → found_in self.new name ≡ found_in self.old name }
         ensures slots { self.new.slots ≡ self.old.slots }
+        ensures others { HasNoOthers self.new }
         ensures keyed { HasKey self.new key }
     {
         self.short = IndexMap::with_hasher(alloc, KeyedNumbers { key });
@@ -246,6 +248,8 @@ impl Names {
     ) -> Result<bool, AllocError>
         ensures added { (name : Bytes) → short_number name ≡ Some number → HasNoSlot self.old name → IfOk result (AddsRecord self.old self.new (Some name) found) }
         ensures keyed { (key : ℕ) → HasKey self.old key → HasKey self.new key }
+        ensures held { (names : List (Option Bytes)) (name : Bytes) → short_number name ≡ Some number → IsAmong (Some name) names
+            → HoldsOf names self.old → OnOk result (HoldsOf names self.new) }
     {
         let before = self.short.insert(number, found)?;
         Ok(before.is_none())
@@ -261,6 +265,7 @@ impl Names {
         requires { short_number name.now ≡ None }
         ensures added { IfOk result (AddsRecord self.old self.new (Some name.now) found) }
         ensures keyed { (key : ℕ) → HasKey self.old key → HasKey self.new key }
+        ensures held { (names : List (Option Bytes)) → IsAmong (Some name.now) names → HoldsOf names self.old → OnOk result (HoldsOf names self.new) }
     {
         let key = String::from_str(alloc, name)?;
         let before = self.long.insert(key, found)?;

@@ -1,5 +1,5 @@
 // The places of a document's records, by the numbers of the records.
-ghost use Rattle.std.specs.Prelude.{◌≡◌, ◌<◌, ◌≤◌, ◌+◌, ℕ, Some, OnOk, length};
+ghost use Rattle.std.specs.Prelude.{◌≡◌, ◌<◌, ◌≤◌, ◌+◌, ◌++◌, ◌∷◌, ℕ, [], Some, None, IsSome, OnOk, length, min};
 ghost use Rattle.ged_line.specs.Bytes.{Bytes};
 ghost use Rattle.ged_tree.specs.Trees.{Trees};
 ghost use Rattle.ged_link.specs.Links.{IsRecordNumber};
@@ -26,7 +26,7 @@ impl RecordCursor {
 /// A place as it is kept: the greatest number stands for all that 32 bits do not hold.
 #[inline(always)]
 pub(crate) fn kept_place(place: usize) -> u32
-    ensures { result < 4294967295 → result ≡ place }
+    ensures { result ≡ min place 4294967295 }
 {
     if place < u32::MAX as usize {
         place as u32
@@ -38,6 +38,7 @@ pub(crate) fn kept_place(place: usize) -> u32
 /// Adds the place of the next record, as it is kept. Grows.
 #[inline(always)]
 pub(crate) fn push_place(places: &mut Vec<u32>, place: usize) -> Result<(), AllocError>
+    ensures told { OnOk result (places.new.items ≡ places.old.items ++ min place 4294967295 ∷ []) }
     ensures count { OnOk result (length places.new.items ≡ length places.old.items + 1) }
     ensures kept { OnOk result ((document : Trees) → ((name : Bytes) → HasXref document place name → IsRecordNumber document (length places.old.items) name)
         → ArePlaces document places.old.items → ArePlaces document places.new.items) }
@@ -49,8 +50,10 @@ pub(crate) fn push_place(places: &mut Vec<u32>, place: usize) -> Result<(), Allo
 /// The number of the record at a place, if it is that at which the cursor stands, which then goes on.
 #[inline(always)]
 pub(crate) fn next_record(places: &[u32], place: usize, cursor: &mut RecordCursor) -> Option<usize>
-    ensures { (document : Trees) → ArePlaces document places.now → (number : ℕ) → result ≡ Some number
+    ensures told { (document : Trees) → ArePlaces document places.now → (number : ℕ) → result ≡ Some number
         → (name : Bytes) → HasXref document place name → IsRecordNumber document number name }
+    ensures goes_on { IsSome result → cursor.new.next ≡ cursor.old.next + 1 }
+    ensures stays { result ≡ None → cursor.new.next ≡ cursor.old.next }
 {
     let number = cursor.next;
     let kept = *places.get(number)?;

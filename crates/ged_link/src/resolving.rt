@@ -5,11 +5,11 @@ ghost use Rattle.ged_tree.specs.Documents.{is_document};
 ghost use Rattle.ged_tree.specs.DocumentLines.{document_lines};
 ghost use Rattle.ged_tree.specs.Places.{structure_at};
 ghost use Rattle.ged_tree.specs.Runs.{trees_between, IsRunOfTrees};
-ghost use Rattle.ged_link.specs.Links.{Resolved, identifiers};
+ghost use Rattle.ged_link.specs.Links.{IsAmong, Resolved, identifiers};
 ghost use Rattle.ged_link.specs.LinkFaults.{HasLinkFault, IsRepeated};
 ghost use Rattle.ged_link.specs.Places.{ArePlaces};
 ghost use Rattle.ged_link.specs.Indexes.{IsIndexOf, AreRecords, AreTyped, found_in};
-ghost use Rattle.ged_link.specs.inner.Indexes.{HasKey, HasNoOthers, IsKeyed};
+ghost use Rattle.ged_link.specs.inner.Indexes.{HasKey, HasNoOthers, IsKeyed, IsKeyedFrom};
 ghost use Rattle.ged_link.specs.inner.Keys.{names_key as key_of_names};
 ghost use Rattle.ged_link.specs.inner.Listing.{listed_name, listed_halves, listed_digits, AreTypesOf, IsRecordList};
 ghost use Rattle.ged_link.specs.inner.PairSets.{lists_have};
@@ -100,7 +100,9 @@ fn begin_others<F: Forest>(alloc: Global, forest: &F, end: usize, records: &mut 
     requires { IsRunOfTrees (F.trees forest.now) place end }
     ensures same { (name : _) → found_in records.new name ≡ found_in records.old name }
     ensures slots { records.new.slots ≡ records.old.slots }
-    ensures keyed { IsKeyed (F.trees forest.now) end records.old → (first : ℕ) × HasKey records.new (key_of_names (identifiers (trees_between (F.trees forest.now) first end))) }
+    ensures key { HasNoOthers records.old → HasKey records.new (key_of_names (identifiers (trees_between (F.trees forest.now) place end))) }
+    ensures stays { (HasNoOthers records.old → ⊥) → records.new ≡ records.old }
+    ensures keyed { IsKeyed (F.trees forest.now) place end records.old → (first : ℕ) × IsKeyedFrom (F.trees forest.now) first place end records.new }
 {
     if records.has_no_others() {
         records.begin(alloc, names_key(forest, place, end));
@@ -121,9 +123,10 @@ fn add_other<F: Forest>(
 ) -> Result<bool, AllocError>
     requires within { found.place < trees_count (F.trees forest.now) }
     requires run { IsRunOfTrees (F.trees forest.now) found.place end }
+    requires among { IsAmong (structure_at (F.trees forest.now) found.place).xref (identifiers (trees_between (F.trees forest.now) found.place end)) }
     requires missed { IsMissed records.old number (structure_at (F.trees forest.now) found.place).xref }
     ensures added { IfOk result (AddsRecord records.old records.new (structure_at (F.trees forest.now) found.place).xref found) }
-    ensures keyed { IsKeyed (F.trees forest.now) end records.old → OnOk result (IsKeyed (F.trees forest.now) end records.new) }
+    ensures keyed { IsKeyed (F.trees forest.now) found.place end records.old → OnOk result (IsKeyed (F.trees forest.now) found.place end records.new) }
 {
     begin_others(alloc, forest, end, records, found.place);
     if number != 0 {
@@ -149,9 +152,10 @@ fn add_record<F: Forest>(
     requires within { found.place < trees_count (F.trees forest.now) }
     requires run { IsRunOfTrees (F.trees forest.now) found.place end }
     requires listed { listed ≡ listed_name (structure_at (F.trees forest.now) found.place).xref }
+    requires among { IsAmong (structure_at (F.trees forest.now) found.place).xref (identifiers (trees_between (F.trees forest.now) found.place end)) }
     requires named { (structure_at (F.trees forest.now) found.place).xref ≡ Some [] → ⊥ }
     ensures added { IfOk result (AddsRecord records.old records.new (structure_at (F.trees forest.now) found.place).xref found) }
-    ensures keyed { IsKeyed (F.trees forest.now) end records.old → OnOk result (IsKeyed (F.trees forest.now) end records.new) }
+    ensures keyed { IsKeyed (F.trees forest.now) found.place end records.old → OnOk result (IsKeyed (F.trees forest.now) found.place end records.new) }
 {
     match records.keep_listed(listed, found) {
         Some(is_new) => Ok(is_new),
@@ -179,7 +183,7 @@ fn add_records<F: Forest>(
     requires none { (name : _) → found_in records.old name ≡ None }
     requires others { HasNoOthers records.old }
     ensures records { OnOk result (AreRecords (F.trees forest.now) records.new) }
-    ensures keyed { OnOk result (IsKeyed (F.trees forest.now) end records.new) }
+    ensures keyed { OnOk result (IsKeyed (F.trees forest.now) end end records.new) }
     ensures types { (types : List (Option RecordType)) → AreTypesOf types (records_of (F.trees forest.now)) → OnOk result (AreTyped (F.trees forest.now) records.new types) }
     ensures places { IfOk result (λ places. ArePlaces (F.trees forest.now) places.items) }
     ensures distinct { OnOk result ((place : ℕ) → IsRepeated (F.trees forest.now) place → ⊥) }
@@ -222,7 +226,7 @@ fn find_records<F: Forest>(
     requires document { is_document (F.trees forest.now) ≡ true }
     requires list { IsRecordList (F.trees forest.now) list }
     ensures records { IfOk result (λ found. AreRecords (F.trees forest.now) found.0) }
-    ensures keyed { IfOk result (λ found. IsKeyed (F.trees forest.now) (trees_count (F.trees forest.now)) found.0) }
+    ensures keyed { IfOk result (λ found. IsKeyed (F.trees forest.now) (trees_count (F.trees forest.now)) (trees_count (F.trees forest.now)) found.0) }
     ensures types { IfOk result (λ found. AreTyped (F.trees forest.now) found.0 found.1.items) }
     ensures places { IfOk result (λ found. ArePlaces (F.trees forest.now) found.2.items) }
     ensures none { IfOk result (λ found. (role : Role) (pair : ℕ × ℕ) → lists_have found.3 role pair ≡ false) }

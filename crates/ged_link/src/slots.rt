@@ -1,6 +1,6 @@
 // A table in which a record is found by the slot that its name asks for.
-ghost use Rattle.std.specs.Prelude.{◌≡◌, ◌<◌, ℕ, true, IfOk, IfSome, Some, None, is_none, slice_index_or};
-ghost use Rattle.ged_link.specs.Slots.{number_read, brought_into, no_region, slot_within, slot_in, kept_in};
+ghost use Rattle.std.specs.Prelude.{◌≡◌, ◌<◌, ℕ, true, IfOk, IfSome, Some, None, is_none, length, slice_index_or};
+ghost use Rattle.ged_link.specs.Slots.{number_read, brought_into, empty, no_region, slot_within, slot_in, kept_in};
 ghost use Rattle.ged_link.specs.inner.Slots.{kept_at, KeepsIn};
 
 use crate::index::RecordPlace;
@@ -75,7 +75,8 @@ fn bring_into(room: u32, number: u32) -> u32
 impl Slots {
     /// No records, in so many slots.
     pub(crate) fn new(alloc: Global, regions: Vec<Region>, size: usize) -> Result<Slots, AllocError>
-        ensures { IfOk result (λ slots. (name : _) → (number : ℕ) → 0 < number → kept_in slots name number ≡ None) }
+        ensures free { IfOk result (λ slots. (name : _) → (number : ℕ) → 0 < number → kept_in slots name number ≡ None) }
+        ensures sized { IfOk result (λ slots. (slots.regions ≡ regions) × (length slots.entries.items ≡ size)) }
     {
         let entries = vec![in alloc; EMPTY; size]?;
         Ok(Slots { regions, entries })
@@ -127,6 +128,8 @@ impl Slots {
     pub(crate) fn keep(&mut self, slot: usize, number: u64, found: RecordPlace) -> Option<bool>
         requires { 0 < number }
         ensures kept { result ≡ Some true → KeepsIn self.old self.new slot number found }
+        ensures free { slot < length self.old.entries.items → (slice_index_or self.old.entries.items slot empty).name ≡ 0
+            → found.number < 4294967296 → found.place < 4294967296 → result ≡ Some true }
         ensures is_new { IfSome result (λ is_new. is_new ≡ is_none (kept_at self.old slot number)) }
         ensures same { result ≡ None → self.new ≡ self.old }
         ensures missed { result ≡ None → kept_at self.old slot number ≡ None }

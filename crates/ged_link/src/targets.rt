@@ -1,5 +1,5 @@
 // The records that the pointers of a document name, in the order of the pointers' places.
-ghost use Rattle.std.specs.Prelude.{◌≡◌, ◌<◌, ◌≤◌, ◌+◌, ℕ, Some, IfSome, OnOk, length};
+ghost use Rattle.std.specs.Prelude.{◌≡◌, ◌<◌, ◌≤◌, ◌+◌, ◌++◌, ◌∷◌, ◌⊎◌, ℕ, [], Some, None, IsSome, IfSome, OnOk, length};
 ghost use Rattle.ged_tree.specs.Trees.{Trees};
 ghost use Rattle.ged_link.specs.Targets.{PointsAt, AreTargets};
 
@@ -39,7 +39,9 @@ pub(crate) fn push_target(
     place: usize,
     number: usize,
 ) -> Result<(), AllocError>
-    ensures { OnOk result ((document : Trees) → PointsAt document place number → AreTargets document targets.old.items → AreTargets document targets.new.items) }
+    ensures told { OnOk result ((document : Trees) → PointsAt document place number → AreTargets document targets.old.items → AreTargets document targets.new.items) }
+    ensures kept { OnOk result (place < 4294967296 → number < 4294967296 → targets.new.items ≡ targets.old.items ++ record { place = place; number = number } ∷ []) }
+    ensures left_out { (4294967296 ≤ place) ⊎ (4294967296 ≤ number) → targets.new.items ≡ targets.old.items }
 {
     let Ok(place) = u32::try_from(place) else {
         return Ok(());
@@ -72,7 +74,9 @@ pub(crate) fn next_number(
     place: usize,
     cursor: &mut PointerCursor,
 ) -> Option<usize>
-    ensures { (document : Trees) → AreTargets document targets.now → (number : ℕ) → result ≡ Some number → PointsAt document place number }
+    ensures told { (document : Trees) → AreTargets document targets.now → (number : ℕ) → result ≡ Some number → PointsAt document place number }
+    ensures goes_on { IsSome result → cursor.new.next ≡ cursor.old.next + 1 }
+    ensures stays { result ≡ None → cursor.new.next ≡ cursor.old.next }
 {
     let number = number_kept(targets, cursor.next, place)?;
     cursor.next += 1;

@@ -1,5 +1,5 @@
 // The lines of a payload past the first.
-ghost use Rattle.std.specs.Prelude.{◌≡◌, ◌≤◌, ◌<◌, ◌+◌, [], List, Some, IfOk, IfSome, length, take, drop, nat_le, slice_get};
+ghost use Rattle.std.specs.Prelude.{◌≡◌, ◌≤◌, ◌<◌, ◌+◌, ℕ, [], List, Some, IsSome, IfOk, IfSome, length, take, drop, nat_le, slice_get};
 ghost use Rattle.std.specs.List.Sorted.{IsNonDecreasingBy};
 ghost use Rattle.ged_line.specs.Bytes.{Bytes};
 ghost use Rattle.ged_tree.specs.Rows.{further_before, further_of, places_of, texts_of, HasFurther};
@@ -44,7 +44,8 @@ pub(crate) struct FurtherTable<'a> {
 // Comparing the numbers is cheaper than three conversions that may fail.
 #[inline(always)]
 fn further_slice(after: usize, start: Option<usize>, length: usize) -> Option<FurtherSlice>
-    ensures { IfSome result (λ slice. (after ≡ slice.after) × (start ≡ Some slice.start) × (length ≡ slice.length)) }
+    ensures true_ones { IfSome result (λ slice. (after ≡ slice.after) × (start ≡ Some slice.start) × (length ≡ slice.length)) }
+    ensures small_ones { (at : ℕ) → start ≡ Some at → after < 4294967296 → at < 4294967296 → length < 4294967296 → IsSome result }
 {
     let start = start?;
     if after > GREATEST || start > GREATEST || length > GREATEST {

@@ -1,5 +1,5 @@
 // How many structures stand below each structure of a table.
-ghost use Rattle.std.specs.Prelude.{◌≡◌, ◌≤◌, ◌<◌, ◌+◌, List, IfOk, length};
+ghost use Rattle.std.specs.Prelude.{◌≡◌, ◌≤◌, ◌<◌, ◌+◌, ◌++◌, ◌∷◌, [], List, IfOk, length, min, slice_set};
 ghost use Rattle.ged_tree.specs.Rows.{AreSizes};
 ghost use Rattle.ged_tree.specs.inner.Tables.{end_from, size_at};
 ghost use Rattle.ged_tree.specs.declared.table.packed.KeptStructure.{KeptStructure};
@@ -80,8 +80,12 @@ impl Sizes {
     #[inline(always)]
     fn keep(&mut self, place: usize, size: usize) -> Result<(), AllocError>
         requires { place < length self.now.bytes.items }
-        ensures { (structures : List KeptStructure) → AreSizes structures self.old (place + 1) → size ≡ size_at structures place
+        ensures sizes { (structures : List KeptStructure) → AreSizes structures self.old (place + 1) → size ≡ size_at structures place
             → IfOk result (λ _. AreSizes structures self.new place) }
+        ensures bytes { IfOk result (λ _. self.new.bytes.items ≡ slice_set self.old.bytes.items place (min size 255)) }
+        ensures small { size < 255 → self.new.large.items ≡ self.old.large.items }
+        ensures listed { IfOk result (λ _. 255 ≤ size → size < 4294967296 → place < 4294967296
+            → self.new.large.items ≡ self.old.large.items ++ record { place = place; size = size } ∷ []) }
     {
         if size < TOO_LARGE as usize {
             self.bytes[place] = size as u8;
@@ -94,8 +98,11 @@ impl Sizes {
     #[inline(never)]
     fn keep_large(&mut self, place: usize, size: usize) -> Result<(), AllocError>
         requires { place < length self.now.bytes.items }
-        ensures { (structures : List KeptStructure) → AreSizes structures self.old (place + 1) → size ≡ size_at structures place
+        ensures sizes { (structures : List KeptStructure) → AreSizes structures self.old (place + 1) → size ≡ size_at structures place
             → IfOk result (λ _. AreSizes structures self.new place) }
+        ensures bytes { IfOk result (λ _. self.new.bytes.items ≡ slice_set self.old.bytes.items place 255) }
+        ensures listed { IfOk result (λ _. size < 4294967296 → place < 4294967296
+            → self.new.large.items ≡ self.old.large.items ++ record { place = place; size = size } ∷ []) }
     {
         self.bytes[place] = TOO_LARGE;
         if let (Ok(place), Ok(size)) = (u32::try_from(place), u32::try_from(size)) {

@@ -55,7 +55,8 @@ impl KeptStructure {
     /// Whether its payload is a pointer that names a record, or `None` where that is not kept.
     #[inline(always)]
     pub(crate) fn points(&self) -> Option<bool>
-        ensures { IfSome result (λ points. (0 < kept_tag_length self.now) × (kept_points self.now ≡ points)) }
+        ensures kept { IfSome result (λ points. (0 < kept_tag_length self.now) × (kept_points self.now ≡ points)) }
+        ensures told { 0 < kept_tag_length self.now → result ≡ Some (kept_points self.now) }
     {
         if self.tag_length() == 0 {
             return None;

@@ -76,7 +76,7 @@ returns-clause-used g c =
     record {
       long = length-set used number true ∙ c.requires.used.long;
       marked = used_more w c.args.place c.requires.within records name c.requires.records.named here used number named inside c.requires.used.marked;
-      told = c.in-Ok.ensures w (name, here, (c.requires.records.named.numbered name number).0 named) c.requires.used.told;
+      told = c.in-Ok.ensures.told w (name, here, (c.requires.records.named.numbered name number).0 named) c.requires.used.told;
       found = dangles_more w c.args.place c.requires.within records name c.requires.records.named here number named c.requires.used.found;
       led =
           let tagged : Bytes → Type 0 = λ tag. LeadsAsTagged c.leads_as_tagged.result (led_by tag) (slice_index_or c.args.records.now.types.now number None) in

@@ -8,8 +8,10 @@ use Rattle.ged_link.specs.Links.{identifiers}
 use Rattle.ged_link.specs.declared.names.Names.{Names}
 use Rattle.ged_link.specs.declared.index.RecordPlace.{RecordPlace}
 use Rattle.ged_link.specs.RecordTypes.{IsTypeOf}
+use Rattle.ged_link.specs.inner.Indexes.{IsKeyed}
 use Rattle.ged_link.specs.inner.Listing.{listed_halves, listed_digits, AreTypesOf}
 use Rattle.ged_link.specs.inner.Resolving.{AddsRecord}
+use Rattle.ged_link.proofs.KeyLemmas.{among_here, keyed_next}
 use Rattle.ged_link.proofs.KeptPlaces.{none_placed}
 use Rattle.ged_link.proofs.ListingLemmas.{types_next, listed_here}
 use Rattle.ged_link.proofs.RecordLemmas.{left_within, left_next, left_after, level_next, xref_here, number_within, numbered_here, records_start, records_level, records_next, records_all, repeated_here, none_repeated_all, typed_start, typed_next}
@@ -74,7 +76,7 @@ loop-after-preserved g c =
           let next : IsTypeOf (slice_index_or types k None) here.tag × AreTypesOf (drop (k + 1) types) (trees_between w a e) =
           types_next types k (trees_between w p e) here (trees_between w (p + 1) a) (trees_between w a e) step.first before.0 in
           (next.1, typed_next w p e a k step inv.left inv.level old new types one refl refl next.0 adds before.1);
-      keyed = c.in-Ok-true.ensures.keyed inv.keyed;
+      keyed = keyed_next w p e a new step (c.in-Ok-true.ensures.keyed inv.keyed);
       count = omega (arith, c.in-Ok-push_place.ensures.count, inv.count);
       placed = c.in-Ok-push_place.ensures.kept w (λ name has. rw inv.count (numbered_here w p e a k step inv.left name has)) inv.placed;
     }
@@ -209,7 +211,13 @@ pub returns-clause-fault : goal.returns-clause-fault
 returns-clause-fault g c = tt
 
 pub returns-clause-keyed : goal.returns-clause-keyed
-returns-clause-keyed g c = c.loop-after.invariant.keyed
+returns-clause-keyed g c =
+    let inv = c.loop-after.invariant in
+    let at_end : c.loop-after.place ≡ c.args.end = let f : c.loop-after.place + 0 ≡ c.args.end = rw c.in_default-next_in_run.ensures at inv.run.fills in omega arith in
+    subst (λ (place : ℕ). IsKeyed (g.F.Forest.trees c.args.forest.now) place c.args.end c.loop-after.records) at_end inv.keyed
+
+pub add_record-requires-clause-among : goal.add_record-requires-clause-among
+add_record-requires-clause-among g c = among_here (g.F.Forest.trees c.args.forest.now) c.loop-after.place c.args.end c.in-Some.after c.in-Some.ensures
 
 pub returns-clause-places : goal.returns-clause-places
 returns-clause-places g c = c.loop-after.invariant.placed

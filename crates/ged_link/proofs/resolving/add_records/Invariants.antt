@@ -24,7 +24,7 @@ invariant-loop-after g l =
       fits : l.number ≤ l.place;
       found : AreRecordsBefore trees l.place l.number l.records;
       typed : (types : List (Option RecordType)) → AreTypesOf types (records_of trees) → AreTypesOf (drop l.number types) (trees_between trees l.place l.end) × AreTyped trees l.records types;
-      keyed : IsKeyed trees l.end l.records;
+      keyed : IsKeyed trees l.place l.end l.records;
       count : length l.places.items ≡ l.number;
       placed : ArePlaces trees l.places.items;
     }

@@ -6,7 +6,7 @@ use Rattle.ged_link.proofs.resolving.find_records.Goals as goal
 
 pub returns-in-Ok-add_records-clause-keyed : goal.returns-in-Ok-add_records-clause-keyed
 returns-in-Ok-add_records-clause-keyed g c =
-    subst (λ (end : ℕ). IsKeyed (g.F.Forest.trees c.args.forest.now) end c.add_records.new.records) c.requires.end c.in-Ok-add_records.ensures.keyed
+    subst (λ (end : ℕ). IsKeyed (g.F.Forest.trees c.args.forest.now) end end c.add_records.new.records) c.requires.end c.in-Ok-add_records.ensures.keyed
 
 pub returns-in-Ok-add_records-clause-types : goal.returns-in-Ok-add_records-clause-types
 returns-in-Ok-add_records-clause-types g c = c.in-Ok-add_records.ensures.types c.args.list.types.items c.requires.list.types

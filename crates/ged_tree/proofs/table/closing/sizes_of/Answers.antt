@@ -24,6 +24,6 @@ loop-place-preserved c =
     let h : place < length items = omega (arith, c.loop-place.invariant.within, c.loop-place-test.true) in
     record {
       within = omega (arith, h);
-      sizes = c.in_ok-keep.ensures items (subst (λ (k : ℕ). AreSizes items c.loop-place.sizes k) e c.loop-place.invariant.sizes) (omega (arith, c.take-after.ensures.after));
+      sizes = c.in_ok-keep.ensures.sizes items (subst (λ (k : ℕ). AreSizes items c.loop-place.sizes k) e c.loop-place.invariant.sizes) (omega (arith, c.take-after.ensures.after));
       ends = c.take-after.ensures.ends;
     }

@@ -19,4 +19,4 @@ returns c =
     let below = rw (← c.self.view_is) at c.requires in
     rw (← c.self.view_is) (told_also _ _ c.points.result
     (λ points told. sym told.1 ∙ kept_pointer c.self.inside.file.now c.self.inside.apart.items c.self.inside.structures.items c.self.inside.sizes c.self.inside.further c.self.invariant c.args.place c.index.result.now (omega (arith, size, below)) c.index.ensures told.0)
-    c.points.ensures)
+    c.points.ensures.kept)
