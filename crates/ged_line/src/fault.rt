@@ -1,4 +1,7 @@
 // What is wrong with a piece of a file.
+ghost use Rattle.std.specs.Prelude.{◌≡◌};
+ghost use Rattle.ged_line.specs.declared.fault.RespellFault.TheVariants.{Memory};
+
 use std::alloc::AllocError;
 
 /// Why a piece of a file is no line, in the order in which the faults are told: of several that stand at one piece
@@ -46,4 +49,12 @@ pub enum RespellFault {
     At(LineAt),
     /// A growth was refused.
     Memory(AllocError),
+}
+
+impl From<AllocError> for RespellFault {
+    ghost from_gives = { λ error fault. fault ≡ Memory error };
+
+    fn from(error: AllocError) -> RespellFault {
+        RespellFault::Memory(error)
+    }
 }

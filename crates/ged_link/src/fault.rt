@@ -1,4 +1,7 @@
 // What is wrong with the cross-references of a document.
+ghost use Rattle.std.specs.Prelude.{◌≡◌};
+ghost use Rattle.ged_link.specs.declared.fault.LinkFault.TheVariants.{Memory};
+
 use std::alloc::AllocError;
 
 /// Why the cross-references of a document are not resolved (FamilySearch GEDCOM 7.0, "Lines").
@@ -11,4 +14,12 @@ pub enum LinkFault {
     Dangling(u64),
     /// A growth was refused.
     Memory(AllocError),
+}
+
+impl From<AllocError> for LinkFault {
+    ghost from_gives = { λ error fault. fault ≡ Memory error };
+
+    fn from(error: AllocError) -> LinkFault {
+        LinkFault::Memory(error)
+    }
 }

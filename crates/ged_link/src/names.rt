@@ -142,11 +142,12 @@ pub(crate) struct Names {
 }
 
 impl Names {
-    /// No records, where the slots are free. The maps have no key yet ([`Names::begin`]).
+    /// No records, where the slots are free. The maps have no key yet ([`Names::set_key`]).
     pub(crate) fn new(alloc: Global, slots: Slots) -> Names
         requires free { (name : _) → (number : ℕ) → 0 < number → kept_in slots name number ≡ None }
         ensures none { (name : _) → found_in result name ≡ None }
         ensures others { HasNoOthers result }
+        ensures slots { result.slots ≡ slots }
     {
         Names {
             slots,
@@ -163,7 +164,7 @@ impl Names {
     }
 
     /// Gives the maps, which are empty, the key of the names that are to come ([`crate::keys::names_key`]).
-    pub(crate) fn begin(&mut self, alloc: Global, key: u64)
+    pub(crate) fn set_key(&mut self, alloc: Global, key: u64)
         requires { HasNoOthers self.old }
         ensures same { (name : _) → found_in self.new name ≡ found_in self.old name }
         ensures slots { self.new.slots ≡ self.old.slots }

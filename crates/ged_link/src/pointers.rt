@@ -104,9 +104,7 @@ fn follow_all<F: Forest>(
     ensures fault { IfErr result (λ fault. (fault ≡ Memory alloc_error) ⊎ HasLinkFault (F.trees forest.now) fault) }
 {
     for place in start..end {
-        if let Err(fault) = follow(forest, records, place, followed) {
-            return Err(fault);
-        }
+        follow(forest, records, place, followed)?;
     }
     Ok(())
 }
@@ -133,20 +131,14 @@ fn follow_link<F: Forest>(
         || lists_have lists.old role pair)) }
     ensures fault { IfErr result (λ fault. (fault ≡ Memory alloc_error) ⊎ HasLinkFault (F.trees forest.now) fault) }
 {
-    let found = match follow(forest, records, place, followed) {
-        Ok(found) => found,
-        Err(fault) => return Err(fault),
-    };
-    let Some(pointed) = found else {
+    let Some(pointed) = follow(forest, records, place, followed)? else {
         return Ok(());
     };
     let Some(role) = role_of(record_tag, pointed.tag) else {
         return Ok(());
     };
-    match lists.push(role, from, pointed.to) {
-        Ok(()) => Ok(()),
-        Err(_) => Err(LinkFault::Memory(AllocError)),
-    }
+    lists.push(role, from, pointed.to)?;
+    Ok(())
 }
 
 /// The same for all structures of a record, which end before a place.
@@ -170,21 +162,13 @@ fn follow_record<F: Forest>(
         || lists_have lists.old role pair)) }
     ensures fault { IfErr result (λ fault. (fault ≡ Memory alloc_error) ⊎ HasLinkFault (F.trees forest.now) fault) }
 {
-    let Ok(()) = lists.begin_record() else {
-        return Err(LinkFault::Memory(AllocError));
-    };
-    if let Err(fault) = follow(forest, records, from, followed) {
-        return Err(fault);
-    }
+    lists.begin_record()?;
+    follow(forest, records, from, followed)?;
     let record_tag = forest.tag(from);
     let mut place = from + 1;
     while let Some(after) = next_in_run(forest, place, end) {
-        if let Err(fault) = follow_link(forest, records, from, record_tag, place, followed, lists) {
-            return Err(fault);
-        }
-        if let Err(fault) = follow_all(forest, records, place + 1, after, followed) {
-            return Err(fault);
-        }
+        follow_link(forest, records, from, record_tag, place, followed, lists)?;
+        follow_all(forest, records, place + 1, after, followed)?;
         place = after;
     }
     Ok(())
@@ -209,9 +193,7 @@ pub(crate) fn follow_pointers<F: Forest>(
     ensures links { IfOk result (λ followed. AreLinks (place_in records.now.names.now) (F.trees forest.now) followed.1) }
     ensures fault { IfErr result (λ fault. (fault ≡ Memory alloc_error) ⊎ HasLinkFault (F.trees forest.now) fault) }
 {
-    let Ok(used) = vec![in alloc; false; records.types.len()] else {
-        return Err(LinkFault::Memory(AllocError));
-    };
+    let used = vec![in alloc; false; records.types.len()]?;
     let targets = Vec::new(alloc);
     let mut followed = Followed {
         used,
@@ -222,16 +204,7 @@ pub(crate) fn follow_pointers<F: Forest>(
     let end = end_of_all(forest);
     let mut place = 0;
     while let Some(after) = next_in_run(forest, place, end) {
-        if let Err(fault) = follow_record(
-            forest,
-            records,
-            place,
-            after,
-            &mut followed,
-            &mut lists,
-        ) {
-            return Err(fault);
-        }
+        follow_record(forest, records, place, after, &mut followed, &mut lists)?;
         place = after;
     }
     Ok((followed, lists))

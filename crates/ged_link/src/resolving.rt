@@ -41,10 +41,8 @@ pub fn resolve<F: Forest>(alloc: Global, forest: &F) -> Result<Index, LinkFault>
     ensures fault { IfErr result (λ fault. (fault ≡ Memory alloc_error) ⊎ HasLinkFault (F.trees forest.now) fault) }
 {
     let end = end_of_all(forest);
-    match list_records(alloc, forest, end) {
-        Ok(list) => resolve_listed(alloc, forest, end, list),
-        Err(error) => Err(LinkFault::Memory(error)),
-    }
+    let list = list_records(alloc, forest, end)?;
+    resolve_listed(alloc, forest, end, list)
 }
 
 /// The same index or fault as [`resolve`] answers, for a caller whose reader has listed the records while the document's lines were
@@ -77,17 +75,20 @@ fn resolve_listed<F: Forest>(
     ensures index { IfOk result (λ index. IsIndexOf (F.trees forest.now) index) }
     ensures fault { IfErr result (λ fault. (fault ≡ Memory alloc_error) ⊎ HasLinkFault (F.trees forest.now) fault) }
 {
-    let (records, types, places, none) = find_records(alloc, forest, end, list)?;
+    let FoundRecords {
+        names,
+        types,
+        places,
+        none,
+    } = find_records(alloc, forest, end, list)?;
     let known = Records {
-        names: &records,
+        names: &names,
         types: &types,
     };
     let (followed, lists) = follow_pointers(alloc, forest, &known, none)?;
-    let Ok(one_way) = find_one_way(alloc, forest, &records, lists) else {
-        return Err(LinkFault::Memory(AllocError));
-    };
+    let one_way = find_one_way(alloc, forest, &names, lists)?;
     Ok(Index {
-        records,
+        records: names,
         types,
         places,
         followed,
@@ -105,7 +106,7 @@ fn begin_others<F: Forest>(alloc: Global, forest: &F, end: usize, records: &mut 
     ensures keyed { IsKeyed (F.trees forest.now) place end records.old → (first : ℕ) × IsKeyedFrom (F.trees forest.now) first place end records.new }
 {
     if records.has_no_others() {
-        records.begin(alloc, names_key(forest, place, end));
+        records.set_key(alloc, names_key(forest, place, end));
     }
 }
 
@@ -214,36 +215,47 @@ fn add_records<F: Forest>(
     Ok(places)
 }
 
-/// The listed records by their identifiers, the type and the place of each record, and lists of no links, in the memory of the list; or the
-/// fault of the first record whose identifier an earlier one has.
+/// What is found of the records of a document before their pointers are followed.
+#[derive(Drop)]
+struct FoundRecords {
+    /// The records by their identifiers.
+    names: Names,
+    /// The type of each record by its number.
+    types: Vec<Option<RecordType>>,
+    /// Where each record stands, by its number.
+    places: Vec<u32>,
+    /// Lists of no links, in the memory of the list of records.
+    none: LinkLists,
+}
+
+/// What is found of the listed records, or the fault of the first record whose identifier an earlier one has.
 fn find_records<F: Forest>(
     alloc: Global,
     forest: &F,
     end: usize,
     list: RecordList,
-) -> Result<(Names, Vec<Option<RecordType>>, Vec<u32>, LinkLists), LinkFault>
+) -> Result<FoundRecords, LinkFault>
     requires end { end ≡ trees_count (F.trees forest.now) }
     requires document { is_document (F.trees forest.now) ≡ true }
     requires list { IsRecordList (F.trees forest.now) list }
-    ensures records { IfOk result (λ found. AreRecords (F.trees forest.now) found.0) }
-    ensures keyed { IfOk result (λ found. IsKeyed (F.trees forest.now) (trees_count (F.trees forest.now)) (trees_count (F.trees forest.now)) found.0) }
-    ensures types { IfOk result (λ found. AreTyped (F.trees forest.now) found.0 found.1.items) }
-    ensures places { IfOk result (λ found. ArePlaces (F.trees forest.now) found.2.items) }
-    ensures none { IfOk result (λ found. (role : Role) (pair : ℕ × ℕ) → lists_have found.3 role pair ≡ false) }
-    ensures count { IfOk result (λ found. length found.1.items ≡ length (identifiers (records_of (F.trees forest.now)))) }
+    ensures records { IfOk result (λ found. AreRecords (F.trees forest.now) found.names) }
+    ensures keyed { IfOk result (λ found. IsKeyed (F.trees forest.now) (trees_count (F.trees forest.now))
+        (trees_count (F.trees forest.now)) found.names) }
+    ensures types { IfOk result (λ found. AreTyped (F.trees forest.now) found.names found.types.items) }
+    ensures places { IfOk result (λ found. ArePlaces (F.trees forest.now) found.places.items) }
+    ensures none { IfOk result (λ found. (role : Role) (pair : ℕ × ℕ) → lists_have found.none role pair ≡ false) }
+    ensures count { IfOk result (λ found. length found.types.items ≡ length (identifiers (records_of (F.trees forest.now)))) }
     ensures distinct { IfOk result (λ _. (place : ℕ) → IsRepeated (F.trees forest.now) place → ⊥) }
     ensures fault { IfErr result (λ fault. (fault ≡ Memory alloc_error) ⊎ HasLinkFault (F.trees forest.now) fault) }
 {
     let start = first_record(forest, end);
-    let Ok(slots) = slots_for(alloc, &list.tallies) else {
-        return Err(LinkFault::Memory(AllocError));
-    };
-    let mut records = Names::new(alloc, slots);
-    match add_records(alloc, forest, start, end, &list, &mut records) {
-        Ok(places) => {
-            let none = LinkLists::over(alloc, list.names, list.digits);
-            Ok((records, list.types, places, none))
-        }
-        Err(fault) => Err(fault),
-    }
+    let slots = slots_for(alloc, &list.tallies)?;
+    let mut names = Names::new(alloc, slots);
+    let places = add_records(alloc, forest, start, end, &list, &mut names)?;
+    Ok(FoundRecords {
+        names,
+        types: list.types,
+        places,
+        none: LinkLists::over(alloc, list.names, list.digits),
+    })
 }

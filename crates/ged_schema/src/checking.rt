@@ -234,8 +234,6 @@ pub fn check<F: Forest>(forest: &F, index: &Index) -> Result<(), SchemaAt>
     requires { IsIndexOf (F.trees forest.now) index.now }
     ensures { MatchResult result (λ _. Checked (F.trees forest.now)) (λ at. IsFirstFault (F.trees forest.now) at) }
 {
-    match check_tables(forest, index) {
-        Ok(_) => Ok(()),
-        Err(at) => Err(at),
-    }
+    check_tables(forest, index)?;
+    Ok(())
 }

@@ -5,7 +5,6 @@ ghost use Rattle.std.specs.Int.{bit_at};
 ghost use Rattle.ged_line.specs.Lines.{LineParts, Value};
 ghost use Rattle.ged_line.specs.Names.{is_tag};
 ghost use Rattle.ged_line.specs.Views.{viewed_value};
-ghost use Rattle.ged_value.specs.Kinds.{takes_lines};
 ghost use Rattle.ged_tree.specs.TreeFaults.{is_cont};
 ghost use Rattle.ged_tree.specs.Trees.{Trees};
 ghost use Rattle.ged_tree.specs.Documents.{is_document};
@@ -18,6 +17,7 @@ ghost use Rattle.ged_schema.specs.inner.LineWalks.{FitsValue, HasWalked, IsClose
 
 use crate::context::Context;
 use crate::notices::{Coverage, gives_notice};
+use crate::payloads::takes_any_text;
 use crate::quick_check::{are_needed_marked, fits_line, mark};
 use crate::rule::Rule;
 use crate::slots::row_number;
@@ -27,6 +27,9 @@ use ged_link::Index;
 use ged_tree::LineReader;
 use ged_value::Kind;
 use std::alloc::AllocError;
+
+/// The number of the levels of lines, 0 to 99, and one for what stands below the deepest.
+const LEVELS: usize = 101;
 
 /// What stands open at a level while lines are read.
 #[derive(Clone, Copy)]
@@ -42,21 +45,13 @@ pub(crate) struct Open {
 #[derive(Drop)]
 pub struct LineWalk {
     /// What stands open at each level, and below the deepest.
-    pub(crate) open: [Open; 101],
+    pub(crate) open: [Open; LEVELS],
     /// Whether a CONT may go on with the payload of the last structure.
     pub(crate) goes_on: bool,
     /// Whether a structure gave a notice.
     pub(crate) noted: bool,
     /// Whether each line so far was as the tables ask.
     pub(crate) holds: bool,
-}
-
-/// Whether each text is of a kind, of one line or of several.
-#[inline(always)]
-fn takes_any_text(kind: Kind) -> bool
-    ensures { result ≡ takes_lines kind }
-{
-    matches!(kind, Kind::Text | Kind::Free)
 }
 
 /// The number of a value's class: texts, the empty value, and pointers with the void pointer.
@@ -112,7 +107,7 @@ impl LineWalk {
             context: Context::Unchecked,
             marks: 0,
         };
-        let mut open = [unchecked; 101];
+        let mut open = [unchecked; LEVELS];
         open[0].context = Context::File;
         LineWalk {
             open,
@@ -261,7 +256,7 @@ impl LineWalk {
         if !self.holds {
             return false;
         }
-        for level in 0..101 {
+        for level in 0..LEVELS {
             if !self.is_closed(level) {
                 return false;
             }

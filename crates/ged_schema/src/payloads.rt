@@ -6,7 +6,7 @@ ghost use Rattle.ged_tree.specs.Places.{structure_at};
 ghost use Rattle.ged_tree.specs.Views.{payload_of};
 ghost use Rattle.ged_tree.specs.declared.payload.Payload.TheVariants.{Pointer};
 ghost use Rattle.ged_value.specs.declared.kind.Kind.{Kind as AnyKind};
-ghost use Rattle.ged_value.specs.Kinds.{Fits as FitsGiven};
+ghost use Rattle.ged_value.specs.Kinds.{Fits as FitsGiven, takes_lines};
 ghost use Rattle.ged_link.specs.Links.{SomeTree};
 ghost use Rattle.ged_link.specs.Indexes.{IsIndexOf};
 ghost use Rattle.ged_link.specs.RecordTypes.{record_tag};
@@ -36,6 +36,14 @@ pub(crate) fn given_of<'a, F: Forest>(
         PayloadView::Text(line) if forest.further(place) == 0 => Given::One(line),
         PayloadView::Text(_) => Given::Many,
     }
+}
+
+/// Whether each text is of a kind, of one line or of several.
+#[inline(always)]
+pub(crate) fn takes_any_text(kind: Kind) -> bool
+    ensures { result ≡ takes_lines kind }
+{
+    matches!(kind, Kind::Text | Kind::Free)
 }
 
 /// The type of the records to which pointers of a kind lead. Whether there is one is asked first, so that the type is told

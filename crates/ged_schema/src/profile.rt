@@ -139,8 +139,6 @@ pub fn check_as<F: Forest>(profile: Profile, forest: &F, index: &Index) -> Resul
     requires { IsIndexOf (F.trees forest.now) index.now }
     ensures { MatchResult result (λ _. CheckedAs profile (F.trees forest.now)) (λ at. IsFirstFaultAs profile (F.trees forest.now) at) }
 {
-    match check_coverage(profile, forest, index) {
-        Ok(_) => Ok(()),
-        Err(at) => Err(at),
-    }
+    check_coverage(profile, forest, index)?;
+    Ok(())
 }

@@ -21,7 +21,7 @@ ghost use Rattle.ged_schema.specs.inner.Marks.{are_simple, AreMarkedAsNeeded, Ma
 
 use crate::context::Context;
 use crate::notices::gives_notice;
-use crate::payloads::{names_record, target_type};
+use crate::payloads::{names_record, takes_any_text, target_type};
 use crate::slots::{number_among, seed_of};
 use crate::tables::rows;
 use ged_link::{Index, PointerCursor};
@@ -68,8 +68,8 @@ fn needs_nothing(context: Context) -> bool
     needed_rows(context) == 0
 }
 
-/// Marks a row by the bit of its number. Where the answer is true, one more of its structures may stand. Where it is false, the row has
-/// a greatest number and was marked before: then nothing is told.
+/// Marks a row by the bit of its number. Where the answer is true, one more of its structures may stand: the row has no greatest number
+/// or was not marked before. Of the answer false no clause says anything: then the walk that counts decides.
 #[inline(always)]
 pub(crate) fn mark(marks: &mut u64, number: usize, most: Option<u32>) -> bool
     requires { number < 64 }
@@ -92,6 +92,7 @@ pub(crate) fn fits_line(kind: Kind, line: &str) -> bool
 }
 
 /// Whether the payload of the structure at a place, a text with this first line, is of the kind.
+#[tactic(auto, using(crate::proofs::Fitting::any_text_fits))]
 #[inline(always)]
 fn is_text_right<F: Forest>(forest: &F, kind: Kind, line: &str, place: usize) -> bool
     requires within { place < trees_count (F.trees forest.now) }
@@ -99,7 +100,7 @@ fn is_text_right<F: Forest>(forest: &F, kind: Kind, line: &str, place: usize) ->
         ≡ (structure_at (F.trees forest.now) place).payload }
     ensures { OnTrue result (IsOfKind kind (structure_at (F.trees forest.now) place).payload) }
 {
-    if matches!(kind, Kind::Text | Kind::Free) {
+    if takes_any_text(kind) {
         return true;
     }
     if forest.further(place) > 0 {

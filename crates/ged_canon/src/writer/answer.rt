@@ -31,7 +31,7 @@ pub(crate) fn text_value(text: &str) -> ValueView<'_>
     ValueView::Text(text)
 }
 
-/// Appends X and the digits of a number. After an `Err` the vector has the X or nothing more.
+/// Appends X and the digits of a number. After an `Err` the vector is no shorter than before; what then stands in it no clause says.
 #[inline(always)]
 fn push_number(number: usize, out: &mut Vec<u8>) -> Result<(), AllocError>
     requires { 0 < number }

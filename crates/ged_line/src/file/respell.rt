@@ -25,13 +25,8 @@ pub fn respell_lines(alloc: Global, bytes: &[u8]) -> Result<Vec<u8>, RespellFaul
     ensures spelled { IfOk result (λ text. IsRespelling bytes.now text.items) }
     ensures fault { IfErr result (λ fault. TellsRespell fault bytes.now) }
 {
-    match respell_parts(alloc, bytes) {
-        Ok(parts) => match join_parts(alloc, parts) {
-            Ok(text) => Ok(text),
-            Err(error) => Err(RespellFault::Memory(error)),
-        },
-        Err(fault) => Err(fault),
-    }
+    let parts = respell_parts(alloc, bytes)?;
+    Ok(join_parts(alloc, parts)?)
 }
 
 /// What [`respell_lines`] answers, in parts. What stands in the bytes as it should be spelled, up to where a line differs, is kept
@@ -41,17 +36,9 @@ pub fn respell_parts(alloc: Global, bytes: &[u8]) -> Result<Vec<SpelledPart<'_>>
     ensures spelled { IfOk result (λ parts. IsRespelling bytes.now (joined_parts parts.items)) }
     ensures fault { IfErr result (λ fault. TellsRespell fault bytes.now) }
 {
-    let (mut answer, rest) = match Answer::start(alloc, bytes) {
-        Ok(started) => started,
-        Err(error) => return Err(RespellFault::Memory(error)),
-    };
-    if let Err(fault) = respell_rest(rest, &mut answer) {
-        return Err(fault);
-    }
-    match answer.into_parts() {
-        Ok(parts) => Ok(parts),
-        Err(error) => Err(RespellFault::Memory(error)),
-    }
+    let (mut answer, rest) = Answer::start(alloc, bytes)?;
+    respell_rest(rest, &mut answer)?;
+    Ok(answer.into_parts()?)
 }
 
 /// The bytes of parts. What the first of them made is taken as it is.
@@ -136,9 +123,7 @@ fn respell_text(text: &str, behind: &[u8], answer: &mut Answer<'_>) -> Result<u6
         };
         let spelled = canonical_text(piece, &view);
         if !is_line_before(rest, spelled, after) {
-            if let Err(error) = answer.push_line(rest, spelled, after, behind) {
-                return Err(RespellFault::Memory(error));
-            }
+            answer.push_line(rest, spelled, after, behind)?;
         }
         rest = after;
     }
@@ -176,14 +161,9 @@ fn respell_broken(block: &[u8], behind: &[u8], answer: &mut Answer<'_>) -> Resul
     ensures fault { IfErr result (λ fault. TellsRespellIn fault block.now) }
 {
     let mut made = Vec::new(answer.allocator());
-    let count = match respell_pieces(block, &mut made) {
-        Ok(count) => count,
-        Err(fault) => return Err(fault),
-    };
-    match answer.push(block.len() + behind.len(), &made, behind.len()) {
-        Ok(()) => Ok(count),
-        Err(error) => Err(RespellFault::Memory(error)),
-    }
+    let count = respell_pieces(block, &mut made)?;
+    answer.push(block.len() + behind.len(), &made, behind.len())?;
+    Ok(count)
 }
 
 /// Appends the lines of any bytes without a mark and counts them.
@@ -198,9 +178,7 @@ fn respell_pieces(bytes: &[u8], out: &mut Vec<u8>) -> Result<u64, RespellFault>
             Ok(view) => view,
             Err(fault) => return Err(RespellFault::At(LineAt { line, fault })),
         };
-        if let Err(error) = write_view(&view, out) {
-            return Err(RespellFault::Memory(error));
-        }
+        write_view(&view, out)?;
     }
     Ok(line)
 }

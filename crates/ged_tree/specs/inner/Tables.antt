@@ -1,12 +1,14 @@
 -- Nothing here need be believed: only private contracts and proofs cite it.
 -- The own lines and the further lines of a table's structures; only the table's own functions cite this.
-use Rattle.std.specs.Prelude.{◌≡◌, ℕ, ◌+◌, ◌<◌, Bool, not, if◌then◌else◌, true, false, List, [], ◌∷◌, ◌++◌, map, take, drop, length, Some}
+use Rattle.std.specs.Prelude.{◌≡◌, ℕ, ◌+◌, ◌<◌, Bool, not, if◌then◌else◌, true, false, List, [], ◌∷◌, ◌++◌, map, take, drop, length, Option, IfSome, Some}
 use Rattle.std.specs.List.{filter, list_all, AllByRecursion}
 use Rattle.std.specs.List.Sorted.{IsNonDecreasingBy}
 use Rattle.std.specs.Str.{IsCharBoundary}
 use Rattle.ged_line.specs.Bytes.{Bytes}
 use Rattle.ged_line.specs.Lines.{LineParts, is_line, Value}
 use Rattle.ged_line.specs.Lines as value
+use Rattle.ged_line.specs.Spelling.{LineText}
+use Rattle.ged_line.specs.declared.file.spelled_line.SpelledLine.{SpelledLine}
 use Rattle.ged_tree.specs.DocumentLines.{line_value}
 use Rattle.ged_tree.specs.TreeFaults.{is_cont, is_trailer, Pass, FirstTreeFault, fault_after}
 use Rattle.ged_tree.specs.Judging.{StandsFor}
@@ -92,6 +94,11 @@ pub record IsSliceAt (file : Bytes) (start : ℕ) (text : Bytes) : Type 0 where
   pub begins : IsCharBoundary file start
   pub ends : IsCharBoundary file (start + length text)
   pub text_is : take (length text) (drop start file) ≡ text
+
+-- the text spells the line, and where a place in the file is told, it is the slice from there on
+pub record IsSpelledAt (file : Bytes) (start : Option ℕ) (spelled : SpelledLine) : Type 0 where
+  pub text : LineText spelled.line spelled.text.now
+  pub slice : IfSome start (λ at. IsSliceAt file at spelled.text.now)
 
 -- one more further line, behind the others
 pub record IsFurtherPut (file : Bytes) (old new : FurtherTable) (after : ℕ) (text : Bytes) : Type 0 where

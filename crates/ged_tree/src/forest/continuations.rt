@@ -69,7 +69,8 @@ impl<'a> FurtherTable<'a> {
         }
     }
 
-    /// Adds a line behind the others. `start` tells where in the file its text begins; without it the text is kept apart.
+    /// Adds a line behind the others. `start` tells where in the file its text begins; without it the text is kept apart. Contracts see
+    /// the slices and the lines apart as one list, so no clause says that a line which could be kept as a slice is.
     #[inline(always)]
     pub(crate) fn push(
         &mut self,

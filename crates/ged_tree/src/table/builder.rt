@@ -7,7 +7,8 @@ ghost use Rattle.ged_tree.specs.Rows.{names_record};
 ghost use Rattle.ged_tree.specs.TreeFaults.{is_cont};
 ghost use Rattle.ged_tree.specs.inner.Judging.{HasRole};
 ghost use Rattle.ged_tree.specs.declared.judge.LineRole.TheVariants.{Substructure, Continuation, Other};
-ghost use Rattle.ged_tree.specs.inner.Tables.{line_text, HoldsLines, HasStructure, IsPut, IsSliceAt, IsTaken, Shows, TellsEnd, TellsFurther, TellsLine};
+ghost use Rattle.ged_tree.specs.inner.Tables.{line_text, HoldsLines, HasStructure, IsPut, IsSpelledAt};
+ghost use Rattle.ged_tree.specs.inner.Tables.{IsTaken, Shows, TellsEnd, TellsFurther, TellsLine};
 
 use crate::fault::{BuildFault, TreeAt, TreeFault};
 use crate::forest::continuations::FurtherTable;
@@ -51,18 +52,30 @@ fn is_pointer(line: &LineView<'_>) -> bool
     matches!(line.value(), ValueView::Pointer(_))
 }
 
-/// A tag's start and its mark, which tells its length and whether a pointer stands behind it, as a structure keeps them: where
-/// the start or the length is too large, the mark is 0.
+/// What a structure keeps of its tag.
+#[derive(Clone, Copy)]
+struct KeptTag {
+    /// Where the tag begins in the line, in bytes.
+    start: u8,
+    /// Its length, and 128 more where a pointer stands behind it. Where the start or the length is too large, it is 0.
+    mark: u8,
+}
+
+/// What is kept of a tag, by its start, its length, and whether a pointer stands behind it.
 #[inline(always)]
-fn kept_tag(start: usize, length: usize, points: bool) -> (u8, u8)
-    ensures true_ones { 0 < result.1 % 128 → (result.0 ≡ start) × (result.1 % 128 ≡ length) × (nat_lt 127 result.1 ≡ points) × (start < 256) }
-    ensures small_ones { start < 256 → length < 128 → (result.0 ≡ start) × (result.1 % 128 ≡ length) × (nat_lt 127 result.1 ≡ points) }
+fn kept_tag(start: usize, length: usize, points: bool) -> KeptTag
+    ensures true_ones { 0 < result.mark % 128
+        → (result.start ≡ start) × (result.mark % 128 ≡ length) × (nat_lt 127 result.mark ≡ points) × (start < 256) }
+    ensures small_ones { start < 256 → length < 128 → (result.start ≡ start) × (result.mark % 128 ≡ length) × (nat_lt 127 result.mark ≡ points) }
 {
     if start > 255 || length > 127 {
-        return (0, 0);
+        return KeptTag { start: 0, mark: 0 };
     }
     let mark = length as u8;
-    (start as u8, if points { mark + 128 } else { mark })
+    KeptTag {
+        start: start as u8,
+        mark: if points { mark + 128 } else { mark },
+    }
 }
 
 /// The structure that begins on a line, before its table is closed, by where its text is kept.
@@ -75,13 +88,13 @@ fn structure_of_line(spelled: &SpelledLine<'_>, start: u32, length: u8) -> KeptS
 {
     let line = &spelled.line;
     let points = is_pointer(line);
-    let (tag_start, tag_mark) = kept_tag(start_of_tag(line), line.tag().len(), points);
+    let kept = kept_tag(start_of_tag(line), line.tag().len(), points);
     KeptStructure {
         start,
         length,
         mark: line.level(),
-        tag_start,
-        tag_mark,
+        tag_start: kept.start,
+        tag_mark: kept.mark,
     }
 }
 
@@ -135,8 +148,7 @@ impl<'a> TableBuilder<'a> {
         start: Option<usize>,
     ) -> Result<LineRole, BuildFault>
         requires few { self.now.count < 2 ^ 63 }
-        requires text { LineText spelled.now.line spelled.now.text.now }
-        requires slice { IfSome start (λ at. IsSliceAt self.now.file.now at spelled.now.text.now) }
+        requires line { IsSpelledAt self.now.file.now start spelled.now }
         ensures { (lines : List LineParts) → HoldsLines self.old lines → MatchResult result
             (λ role. HasRole role spelled.now.line × (self.new.file.now ≡ self.old.file.now) × HoldsLines self.new (lines ++ spelled.now.line ∷ []))
             (λ fault. TellsLine fault lines spelled.now.line) }
@@ -167,8 +179,7 @@ impl<'a> TableBuilder<'a> {
         start: Option<usize>,
         role: LineRole,
     ) -> Result<(), AllocError>
-        requires text { LineText spelled.now.line spelled.now.text.now }
-        requires slice { IfSome start (λ at. IsSliceAt self.now.file.now at spelled.now.text.now) }
+        requires { IsSpelledAt self.now.file.now start spelled.now }
         ensures { HasRole role spelled.now.line → IfOk result (λ _. IsTaken spelled.now.line self.old self.new) }
     {
         match role {
@@ -185,8 +196,7 @@ impl<'a> TableBuilder<'a> {
         spelled: &SpelledLine<'a>,
         start: Option<usize>,
     ) -> Result<(), AllocError>
-        requires text { LineText spelled.now.line spelled.now.text.now }
-        requires slice { IfSome start (λ at. IsSliceAt self.now.file.now at spelled.now.text.now) }
+        requires { IsSpelledAt self.now.file.now start spelled.now }
         ensures { HasRole Substructure spelled.now.line → IfOk result (λ _. IsTaken spelled.now.line self.old self.new) }
     {
         self.judge.keep(&spelled.line, LineRole::Substructure);
@@ -200,8 +210,7 @@ impl<'a> TableBuilder<'a> {
         spelled: &SpelledLine<'a>,
         start: Option<usize>,
     ) -> Result<(), AllocError>
-        requires text { LineText spelled.now.line spelled.now.text.now }
-        requires slice { IfSome start (λ at. IsSliceAt self.now.file.now at spelled.now.text.now) }
+        requires { IsSpelledAt self.now.file.now start spelled.now }
         ensures { HasRole Continuation spelled.now.line → IfOk result (λ _. IsTaken spelled.now.line self.old self.new) }
     {
         self.judge.keep(&spelled.line, LineRole::Continuation);
@@ -215,8 +224,7 @@ impl<'a> TableBuilder<'a> {
         spelled: &SpelledLine<'a>,
         start: Option<usize>,
     ) -> Result<(), AllocError>
-        requires text { LineText spelled.now.line spelled.now.text.now }
-        requires slice { IfSome start (λ at. IsSliceAt self.now.file.now at spelled.now.text.now) }
+        requires { IsSpelledAt self.now.file.now start spelled.now }
         ensures { HasRole Other spelled.now.line → IfOk result (λ _. IsTaken spelled.now.line self.old self.new) }
     {
         self.judge.keep(&spelled.line, LineRole::Other);
@@ -230,8 +238,7 @@ impl<'a> TableBuilder<'a> {
         spelled: &SpelledLine<'a>,
         start: Option<usize>,
     ) -> Result<(), AllocError>
-        requires text { LineText spelled.now.line spelled.now.text.now }
-        requires slice { IfSome start (λ at. IsSliceAt self.now.file.now at spelled.now.text.now) }
+        requires { IsSpelledAt self.now.file.now start spelled.now }
         ensures { is_cont spelled.now.line ≡ false → IfOk result (λ _. IsPut spelled.now.line self.old self.new) }
     {
         if is_trailer(&spelled.line) {
@@ -247,8 +254,7 @@ impl<'a> TableBuilder<'a> {
         spelled: &SpelledLine<'a>,
         start: Option<usize>,
     ) -> Result<(), AllocError>
-        requires text { LineText spelled.now.line spelled.now.text.now }
-        requires slice { IfSome start (λ at. IsSliceAt self.now.file.now at spelled.now.text.now) }
+        requires { IsSpelledAt self.now.file.now start spelled.now }
         ensures { HasRole Continuation spelled.now.line → IfOk result (λ _. IsPut spelled.now.line self.old self.new) }
     {
         let after = self.structures.len();
@@ -266,8 +272,7 @@ impl<'a> TableBuilder<'a> {
         spelled: &SpelledLine<'a>,
         start: Option<usize>,
     ) -> Result<(), AllocError>
-        requires text { LineText spelled.now.line spelled.now.text.now }
-        requires slice { IfSome start (λ at. IsSliceAt self.now.file.now at spelled.now.text.now) }
+        requires { IsSpelledAt self.now.file.now start spelled.now }
         ensures { IfOk result (λ _. HasStructure spelled.now.line self.old self.new) }
     {
         let Some((start, length)) = kept_slice(start, spelled.text.len()) else {

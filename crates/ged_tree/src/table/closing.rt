@@ -112,7 +112,8 @@ impl Sizes {
     }
 }
 
-/// The size of each structure, found from the last one on.
+/// The size of each structure, found from the last one on. The clause says that the sizes which are kept are true;
+/// that each one which fits is kept, as [`Sizes::keep`] says of one, no clause says of all.
 pub(crate) fn sizes_of(alloc: Global, structures: &[KeptStructure]) -> Result<Sizes, AllocError>
     ensures { IfOk result (λ sizes. AreSizes structures.now sizes 0) }
 {

@@ -41,8 +41,9 @@ pub fn flatten(alloc: Global, bytes: &[u8]) -> Result<Flat<'_>, BuildFault>
 
 /// The same document or fault as [`flatten`] answers, for a caller that reads each line while the table is being made.
 ///
-/// The reader gets every line of the file once and in order, TRLR too, each after it passed; where the file has a fault, lines before the
-/// first one, and no clause says which. Where the reader answers an error, that a growth was refused is the answer, and no more lines are read.
+/// Where a table is the answer, a reader that had read no line has read every line of the file once and in order, TRLR too. Of what it
+/// has read beside a fault no clause says anything. Lines are handed to it as they pass, and where it answers an error, no more lines are
+/// read, and the answer is that a growth was refused; but a clause says of that answer only that there is no table.
 /// Grows by the table, and by what the reader takes: no payload is copied (FamilySearch GEDCOM 7.0, "Lines" and "Structures").
 pub fn flatten_with<'a, R: LineReader>(
     alloc: Global,

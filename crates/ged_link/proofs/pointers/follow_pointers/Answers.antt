@@ -1,4 +1,4 @@
-use Rattle.std.proofs.Common.{◌+◌, ◌∙◌, length, subst, ℕ, ◌≤◌, inl, refl}
+use Rattle.std.proofs.Common.{◌+◌, ◌∙◌, length, subst, ℕ, ◌≤◌, refl}
 use Rattle.ged_tree.specs.Places.{structure_at}
 use Rattle.ged_tree.specs.Runs.{trees_between, IsStep}
 use Rattle.ged_link.specs.Indexes.{place_in}
@@ -15,7 +15,7 @@ loop-after-init g c =
     record {
       whole = whole_end w c.end_of_all-end.result c.end_of_all-end.ensures.run c.end_of_all-end.ensures.all;
       run = c.end_of_all-end.ensures.run;
-      used = followed_start w (length c.args.records.now.types.now) _ (c.in-Ok.ensures.items_if_clones_equal (λ y e. e)) c.new-targets.ensures.items refl c.requires.count;
+      used = followed_start w (length c.args.records.now.types.now) _ (c.in_ok-used.ensures.items_if_clones_equal (λ y e. e)) c.new-targets.ensures.items refl c.requires.count;
       told = λ role pair. pairs_start (place_in c.args.records.now.names.now) role _ w pair (lists_have c.args.none role pair) c.end_of_all-end.ensures.all (c.requires.none role pair);
     }
 
@@ -23,19 +23,19 @@ pub returns-clause-used : goal.returns-clause-used
 returns-clause-used g c =
     let w = g.F.Forest.trees c.args.forest.now in
     let inv = c.loop-after.invariant in
-    used_all w c.loop-after.place c.loop-after.followed.used.items (run_over w c.loop-after.place c.end_of_all-end.result inv.run c.in_default-next_in_run.ensures ∙ inv.whole) inv.used.marked
+    used_all w c.loop-after.place c.loop-after.followed.used.items (run_over w c.loop-after.place c.end_of_all-end.result inv.run c.in_default.ensures ∙ inv.whole) inv.used.marked
 
 pub returns-clause-found : goal.returns-clause-found
 returns-clause-found g c =
     let w = g.F.Forest.trees c.args.forest.now in
     let inv = c.loop-after.invariant in
-    dangles_all w c.loop-after.place (run_over w c.loop-after.place c.end_of_all-end.result inv.run c.in_default-next_in_run.ensures ∙ inv.whole) inv.used.found
+    dangles_all w c.loop-after.place (run_over w c.loop-after.place c.end_of_all-end.result inv.run c.in_default.ensures ∙ inv.whole) inv.used.found
 
 pub returns-clause-led : goal.returns-clause-led
 returns-clause-led g c =
     let w = g.F.Forest.trees c.args.forest.now in
     let inv = c.loop-after.invariant in
-    let all = led_all w c.loop-after.place (run_over w c.loop-after.place c.end_of_all-end.result inv.run c.in_default-next_in_run.ensures ∙ inv.whole) in
+    let all = led_all w c.loop-after.place (run_over w c.loop-after.place c.end_of_all-end.result inv.run c.in_default.ensures ∙ inv.whole) in
     (λ is. all.0 (inv.used.led.0 is), λ led. inv.used.led.1 (all.1 led))
 
 pub loop-after-preserved : goal.loop-after-preserved
@@ -49,56 +49,20 @@ loop-after-preserved g c =
     record {
       whole = inv.whole;
       run = step.rest;
-      used = c.in_default-follow_record.ensures.used;
-      told = λ role pair. pairs_more (place_in c.args.records.now.names.now) role p a (trees_between w p e) (structure_at w p) (trees_between w (p + 1) a) (trees_between w a e) pair (lists_have c.loop-after.lists role pair) (lists_have c.follow_record.new.lists role pair) step.first step.below.fills (c.in_default-follow_record.ensures.links role pair) ∙ inv.told role pair;
+      used = c.in_ok-follow_record.ensures.used;
+      told = λ role pair. pairs_more (place_in c.args.records.now.names.now) role p a (trees_between w p e) (structure_at w p) (trees_between w (p + 1) a) (trees_between w a e) pair (lists_have c.loop-after.lists role pair) (lists_have c.follow_record.new.lists role pair) step.first step.below.fills (c.in_ok-follow_record.ensures.links role pair) ∙ inv.told role pair;
     }
 
 pub returns-clause-links : goal.returns-clause-links
 returns-clause-links g c role pair =
     let w = g.F.Forest.trees c.args.forest.now in
-    pairs_all (place_in c.args.records.now.names.now) role c.loop-after.place (trees_between w c.loop-after.place c.end_of_all-end.result) pair (lists_have c.loop-after.lists role pair) c.in_default-next_in_run.ensures ∙ c.loop-after.invariant.told role pair
+    pairs_all (place_in c.args.records.now.names.now) role c.loop-after.place (trees_between w c.loop-after.place c.end_of_all-end.result) pair (lists_have c.loop-after.lists role pair) c.in_default.ensures ∙ c.loop-after.invariant.told role pair
 
 pub follow_record-requires-clause-distinct : goal.follow_record-requires-clause-distinct
 follow_record-requires-clause-distinct g c = c.requires.distinct
 
-pub returns-in_default-clause-used : goal.returns-in_default-clause-used
-returns-in_default-clause-used g c = tt
-
-pub returns-in_default-clause-targets : goal.returns-in_default-clause-targets
-returns-in_default-clause-targets g c = tt
-
-pub returns-in_default-clause-led : goal.returns-in_default-clause-led
-returns-in_default-clause-led g c = tt
-
-pub returns-in_default-clause-found : goal.returns-in_default-clause-found
-returns-in_default-clause-found g c = tt
-
-pub returns-in_default-clause-links : goal.returns-in_default-clause-links
-returns-in_default-clause-links g c = tt
-
-pub returns-in-Err-clause-used : goal.returns-in-Err-clause-used
-returns-in-Err-clause-used g c = tt
-
-pub returns-in-Err-clause-targets : goal.returns-in-Err-clause-targets
-returns-in-Err-clause-targets g c = tt
-
-pub returns-in-Err-clause-led : goal.returns-in-Err-clause-led
-returns-in-Err-clause-led g c = tt
-
-pub returns-in-Err-clause-found : goal.returns-in-Err-clause-found
-returns-in-Err-clause-found g c = tt
-
-pub returns-in-Err-clause-links : goal.returns-in-Err-clause-links
-returns-in-Err-clause-links g c = tt
-
 pub returns-clause-fault : goal.returns-clause-fault
 returns-clause-fault g c = tt
-
-pub returns-in_default-clause-fault : goal.returns-in_default-clause-fault
-returns-in_default-clause-fault g c = inl refl
-
-pub returns-in-Err-clause-fault : goal.returns-in-Err-clause-fault
-returns-in-Err-clause-fault g c = c.in-Err.ensures.fault
 
 pub returns-clause-targets : goal.returns-clause-targets
 returns-clause-targets g c = c.loop-after.invariant.used.told

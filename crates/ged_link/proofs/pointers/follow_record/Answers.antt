@@ -1,4 +1,4 @@
-use Rattle.std.proofs.Common.{ℕ, ◌+◌, ◌∙◌, subst, inl, refl, ◌&&◌, nat_eq}
+use Rattle.std.proofs.Common.{ℕ, ◌+◌, ◌∙◌, subst, ◌&&◌, nat_eq}
 use Rattle.ged_tree.specs.Trees.{trees_count}
 use Rattle.ged_tree.specs.Places.{structure_at}
 use Rattle.ged_tree.specs.Runs.{trees_between, IsStep}
@@ -15,8 +15,8 @@ loop-after-init g c =
     let w = g.F.Forest.trees c.args.forest.now in
     record {
       run = c.requires.run;
-      used = c.in_default-follow.ensures.used;
-      told = λ role pair. links_kept (nat_eq pair.0 c.args.from && has_link_to (place_in c.args.records.now.names.now) role (structure_at w c.args.from).tag pair.1 (trees_between w (c.args.from + 1) c.args.end)) (lists_have c.args.lists.now role pair) (lists_have c.begin_record.new.self role pair) (c.in-Ok.ensures role pair);
+      used = c.in_ok-follow.ensures.used;
+      told = λ role pair. links_kept (nat_eq pair.0 c.args.from && has_link_to (place_in c.args.records.now.names.now) role (structure_at w c.args.from).tag pair.1 (trees_between w (c.args.from + 1) c.args.end)) (lists_have c.args.lists.now role pair) (lists_have c.begin_record.new.self role pair) (c.in_ok-begin_record.ensures role pair);
     }
 
 pub loop-after-preserved : goal.loop-after-preserved
@@ -27,20 +27,20 @@ loop-after-preserved g c =
     let step : IsStep w p c.args.end a = c.in-Some.ensures in
     record {
       run = step.rest;
-      used = c.in_default-follow_all.ensures.used;
-      told = λ role pair. links_more (place_in c.args.records.now.names.now) role (structure_at w c.args.from).tag pair.1 (nat_eq pair.0 c.args.from) (trees_between w p c.args.end) (structure_at w p) (trees_between w (p + 1) a) (trees_between w a c.args.end) (lists_have c.loop-after.lists role pair) (lists_have c.follow_link.new.lists role pair) step.first (c.in_default-follow_link.ensures.links role pair) ∙ c.loop-after.invariant.told role pair;
+      used = c.in_ok-follow_all.ensures.used;
+      told = λ role pair. links_more (place_in c.args.records.now.names.now) role (structure_at w c.args.from).tag pair.1 (nat_eq pair.0 c.args.from) (trees_between w p c.args.end) (structure_at w p) (trees_between w (p + 1) a) (trees_between w a c.args.end) (lists_have c.loop-after.lists role pair) (lists_have c.follow_link.new.lists role pair) step.first (c.in_ok-follow_link.ensures.links role pair) ∙ c.loop-after.invariant.told role pair;
     }
 
 pub returns-clause-used : goal.returns-clause-used
 returns-clause-used g c =
     let w = g.F.Forest.trees c.args.forest.now in
-    let ends = run_over w c.loop-after.place c.args.end c.loop-after.invariant.run c.in_default-next_in_run.ensures in
+    let ends = run_over w c.loop-after.place c.args.end c.loop-after.invariant.run c.in_default.ensures in
     subst (λ (place : ℕ). AreFollowed w place c.loop-after.followed) ends c.loop-after.invariant.used
 
 pub returns-clause-links : goal.returns-clause-links
 returns-clause-links g c role pair =
     let w = g.F.Forest.trees c.args.forest.now in
-    links_all (place_in c.args.records.now.names.now) role (structure_at w c.args.from).tag pair.1 (nat_eq pair.0 c.args.from) (trees_between w c.loop-after.place c.args.end) (lists_have c.loop-after.lists role pair) c.in_default-next_in_run.ensures ∙ c.loop-after.invariant.told role pair
+    links_all (place_in c.args.records.now.names.now) role (structure_at w c.args.from).tag pair.1 (nat_eq pair.0 c.args.from) (trees_between w c.loop-after.place c.args.end) (lists_have c.loop-after.lists role pair) c.in_default.ensures ∙ c.loop-after.invariant.told role pair
 
 pub follow_link-requires-clause-distinct : goal.follow_link-requires-clause-distinct
 follow_link-requires-clause-distinct g c = c.requires.distinct
@@ -49,46 +49,10 @@ pub follow_all-requires-clause-distinct : goal.follow_all-requires-clause-distin
 follow_all-requires-clause-distinct g c = c.requires.distinct
 
 pub follow_all-requires-clause-used : goal.follow_all-requires-clause-used
-follow_all-requires-clause-used g c = c.in_default-follow_link.ensures.used
-
-pub returns-in_default-clause-used : goal.returns-in_default-clause-used
-returns-in_default-clause-used g c = tt
-
-pub returns-in_default-clause-links : goal.returns-in_default-clause-links
-returns-in_default-clause-links g c = tt
-
-pub returns-in-Err-clause-used : goal.returns-in-Err-clause-used
-returns-in-Err-clause-used g c = tt
-
-pub returns-in-Err-clause-links : goal.returns-in-Err-clause-links
-returns-in-Err-clause-links g c = tt
-
-pub returns-in-Err-follow_link-clause-used : goal.returns-in-Err-follow_link-clause-used
-returns-in-Err-follow_link-clause-used g c = tt
-
-pub returns-in-Err-follow_link-clause-links : goal.returns-in-Err-follow_link-clause-links
-returns-in-Err-follow_link-clause-links g c = tt
-
-pub returns-in-Err-follow_all-clause-used : goal.returns-in-Err-follow_all-clause-used
-returns-in-Err-follow_all-clause-used g c = tt
-
-pub returns-in-Err-follow_all-clause-links : goal.returns-in-Err-follow_all-clause-links
-returns-in-Err-follow_all-clause-links g c = tt
+follow_all-requires-clause-used g c = c.in_ok-follow_link.ensures.used
 
 pub returns-clause-fault : goal.returns-clause-fault
 returns-clause-fault g c = tt
-
-pub returns-in_default-clause-fault : goal.returns-in_default-clause-fault
-returns-in_default-clause-fault g c = inl refl
-
-pub returns-in-Err-clause-fault : goal.returns-in-Err-clause-fault
-returns-in-Err-clause-fault g c = c.in-Err.ensures.fault
-
-pub returns-in-Err-follow_link-clause-fault : goal.returns-in-Err-follow_link-clause-fault
-returns-in-Err-follow_link-clause-fault g c = c.in-Err-follow_link.ensures.fault
-
-pub returns-in-Err-follow_all-clause-fault : goal.returns-in-Err-follow_all-clause-fault
-returns-in-Err-follow_all-clause-fault g c = c.in-Err-follow_all.ensures.fault
 
 pub follow-requires-clause-records : goal.follow-requires-clause-records
 follow-requires-clause-records g c = c.requires.records

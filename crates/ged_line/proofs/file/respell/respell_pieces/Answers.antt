@@ -17,7 +17,7 @@ returns-in-Err-clause-fault c =
 pub loop-piece-preserved : goal.loop-piece-preserved
 loop-piece-preserved c =
     HaveRespelled-more c.args.bytes.now c.loop-piece.line c.loop-piece.piece-iterator c.next.new.self c.in-Some.piece.now c.args.out.now.items c.loop-piece.out.items
-    c.write_view.new.out.items c.in-Ok.view c.in-Some.ensures.steps c.in-Ok.ensures.found c.in_default.ensures.ok c.loop-piece.invariant
+    c.write_view.new.out.items c.in-Ok.view c.in-Some.ensures.steps c.in-Ok.ensures.found c.in_ok-write_view.ensures.ok c.loop-piece.invariant
 
 pub returns-clause-ok : goal.returns-clause-ok
 returns-clause-ok c =

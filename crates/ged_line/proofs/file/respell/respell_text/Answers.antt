@@ -47,8 +47,8 @@ push_line-requires-clause-left c =
     IsRespelledTo-length c.args.text.now c.loop-rest.line c.loop-rest.rest.now c.args.behind.now c.loop-rest.answer.pending (text_before (c.args.text.now ++ c.args.behind.now) c.args.answer.now)
     c.loop-rest.answer.text c.loop-rest.invariant.1
 
-pub loop-rest-preserved-in_default : goal.loop-rest-preserved-in_default
-loop-rest-preserved-in_default c =
+pub loop-rest-preserved-in_ok-push_line : goal.loop-rest-preserved-in_ok-push_line
+loop-rest-preserved-in_ok-push_line c =
     let spelled = c.canonical_text-spelled.result.now in
     let (more, split) =
     line_front c.loop-rest.rest.now c.cut_line-has_banned.result.piece.now c.cut_line-has_banned.result.after.now spelled c.cut_line-has_banned.ensures.first c.canonical_text-spelled.ensures.front in (
@@ -56,7 +56,7 @@ loop-rest-preserved-in_default c =
       IsRespelledTo-made c.args.text.now c.loop-rest.line c.loop-rest.rest.now c.cut_line-has_banned.result.after.now c.args.behind.now c.loop-rest.answer.pending c.push_line.new.self.pending
           (text_before (c.args.text.now ++ c.args.behind.now) c.args.answer.now) c.loop-rest.answer.text c.push_line.new.self.text
           c.cut_line-has_banned.result.piece.now more c.in-Ok.view c.cut_line-has_banned.ensures.pieces c.in-Ok.ensures
-          (rw (← c.canonical_text-spelled.ensures.spelled) split) (rw (← c.canonical_text-spelled.ensures.spelled) c.in_default.ensures.text) c.in_default.ensures.pending c.loop-rest.invariant.1,
+          (rw (← c.canonical_text-spelled.ensures.spelled) split) (rw (← c.canonical_text-spelled.ensures.spelled) c.in_ok-push_line.ensures.text) c.in_ok-push_line.ensures.pending c.loop-rest.invariant.1,
     )
 
 pub loop-rest-preserved : goal.loop-rest-preserved

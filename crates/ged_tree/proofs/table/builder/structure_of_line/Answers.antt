@@ -20,7 +20,7 @@ returns-clause-line c =
       spelled = (
         subst (λ (l : LineParts). LineText l text) shown c.requires,
         λ some.
-            let kept = c.kept_tag-tag_start.ensures.true_ones some in
+            let kept = c.kept_tag-kept.ensures.true_ones some in
             let start = c.start_of_tag.ensures in (
               (
                 kept.0 ∙ start ∙ ap (λ (l : LineParts). length (decimal l.level) + 1 + length (xref_part l.xref)) shown,

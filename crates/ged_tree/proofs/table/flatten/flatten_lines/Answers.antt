@@ -14,11 +14,11 @@ take-requires-clause-few g c =
     let small : length c.args.bytes.now < 2 ^ 63 = search rules in
     omega (arith, count_fits c.args.bytes.now c.loop-line.table c.loop-line.line-iterator c.loop-line.invariant.taken, small)
 
-pub take-requires-clause-text : goal.take-requires-clause-text
-take-requires-clause-text g c =
+pub take-requires-clause-line : goal.take-requires-clause-line
+take-requires-clause-line g c =
     let step = c.in-Some.ensures.steps in
     let text = rw c.in-Ok.is at step.2 in
-    rw text.1 text.0
+    record { text = rw text.1 text.0; slice = tt }
 
 pub returns-in-Err-take-clause-fault : goal.returns-in-Err-take-clause-fault
 returns-in-Err-take-clause-fault g c =

@@ -14,10 +14,13 @@ take-requires-clause-few g c =
     let small : length c.args.text.now < 2 ^ 63 = search rules in
     omega (arith, count_fits_in c.args.text.now c.loop-line.table c.loop-line.rest.now c.loop-line.invariant.taken, small)
 
-pub take-requires-clause-slice : goal.take-requires-clause-slice
-take-requires-clause-slice g c =
+pub take-requires-clause-line : goal.take-requires-clause-line
+take-requires-clause-line g c =
     let step = rw c.in-Ok.is at c.in-Some.ensures.line in
-    rw step.2.1 (slice_of_rest c.args.text.now c.loop-line.table c.loop-line.rest.now step.0 c.in-Some.after.now c.in-Ok.line.line c.loop-line.invariant.taken step.1 step.2.0 c.loop-line.invariant.utf8)
+    record {
+      text = rw step.2.1 step.2.0;
+      slice = rw step.2.1 (slice_of_rest c.args.text.now c.loop-line.table c.loop-line.rest.now step.0 c.in-Some.after.now c.in-Ok.line.line c.loop-line.invariant.taken step.1 step.2.0 c.loop-line.invariant.utf8);
+    }
 
 pub returns-in-Err-take-clause-fault : goal.returns-in-Err-take-clause-fault
 returns-in-Err-take-clause-fault g c = λ file mark.
