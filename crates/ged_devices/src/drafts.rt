@@ -1,5 +1,5 @@
 // New files, which are written beside the file whose place they take.
-ghost use Rattle.std.specs.Prelude.{◌≡◌, ◌≢◌, None, false, IfOk, OnOk, OnErr};
+ghost use Rattle.std.specs.Prelude.{◌≡◌, ◌≢◌, ◌+◌, ◌*◌, ◌/◌, ◌%◌, bit_and, None, false, IfOk, OnOk, OnErr};
 ghost use Rattle.std.specs.Io.{WritesAtMost};
 ghost use Rattle.ged_devices.specs.Devices.{failed_after};
 
@@ -43,7 +43,13 @@ impl Kept {
     /// The permissions that a new file of a group gets. Where that is another group, its members get none, and all others only those
     /// that the members of the first one had too: so nobody but its new owner may do more than before. The bits by which a file runs as
     /// another user or group are left out.
-    fn mode_for(self, group: u32) -> u32 {
+    ///
+    /// The permissions are the last nine bits: three of the owner, three of the group, three of all others.
+    fn mode_for(self, group: u32) -> u32
+        ensures own { group ≡ self.group → result ≡ self.mode % 512 }
+        ensures another { group ≢ self.group
+            → result ≡ self.mode / 64 % 8 * 64 + bit_and (self.mode % 8) (self.mode / 8 % 8) }
+    {
         let mode = self.mode & 0o777;
         if group == self.group {
             return mode;

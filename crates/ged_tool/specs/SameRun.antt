@@ -1,5 +1,5 @@
 -- What the outcome of comparing two files means, for the bytes that came of each and those that were written.
-use Rattle.std.specs.Prelude.{◌≡◌, ℕ, ◌≤◌, ◌<◌, Bool, true, false, [], ◌∷◌, ◌++◌, length, Option, Some, None, codes}
+use Rattle.std.specs.Prelude.{◌≡◌, ℕ, ◌≤◌, Bool, true, false, [], ◌∷◌, ◌++◌, length, Option, Some, None, codes}
 use Rattle.std.specs.Io.{StartsWith}
 use Rattle.std.specs.Io.KnownBytes.{Consumes, Appends}
 use Rattle.ged_line.specs.Bytes.{Bytes, line_feed}
@@ -7,7 +7,7 @@ use Rattle.ged_tree.specs.Trees.{Trees}
 use Rattle.ged_schema.specs.declared.profile.Profile.{Profile}
 use Rattle.ged_canon.specs.declared.edition.Edition.{Edition}
 use Rattle.ged_canon.specs.Steps.{Equivalent}
-use Rattle.ged_tool.specs.Run.{IsWhole}
+use Rattle.ged_tool.specs.Run.{IsWhole, IsTooLong}
 use Rattle.ged_tool.specs.Same.{AreComparedBy, IsSameRefusal}
 use Rattle.ged_faults.specs.declared.faults.Which.{Which}
 use Rattle.ged_faults.specs.declared.faults.Which.TheVariants.{First, Second}
@@ -34,8 +34,8 @@ same_line false = codes "different" ++ line_feed ∷ []
 abbrev pub TellsOfFile : Profile → ℕ → Came → Came → Which → Fault → Type 0
 TellsOfFile profile limit first second which (InFile line kind) =
     IsAllOf limit first × IsAllOf limit second × IsSameRefusal profile first.bytes second.bytes which (InFile line kind)
-TellsOfFile profile limit first second First TooLong = (limit < length first.bytes) × (second.bytes ≡ [])
-TellsOfFile profile limit first second Second TooLong = IsAllOf limit first × (limit < length second.bytes)
+TellsOfFile profile limit first second First TooLong = IsTooLong limit first.bytes × (second.bytes ≡ [])
+TellsOfFile profile limit first second Second TooLong = IsAllOf limit first × IsTooLong limit second.bytes
 TellsOfFile profile limit first second First ReadFailed = (length first.bytes ≤ limit) × (second.bytes ≡ [])
 TellsOfFile profile limit first second Second ReadFailed = IsAllOf limit first × (length second.bytes ≤ limit)
 TellsOfFile profile limit first second First (Memory error) = (length first.bytes ≤ limit) × (length second.bytes ≤ limit)

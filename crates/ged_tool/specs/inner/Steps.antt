@@ -1,6 +1,6 @@
 -- Nothing here need be believed: only private contracts and proofs cite it.
 -- What the steps of a run answer. Private functions alone cite these.
-use Rattle.std.specs.Prelude.{◌≡◌, ℕ, ◌≤◌, ◌<◌, length, Option}
+use Rattle.std.specs.Prelude.{◌≡◌, ℕ, ◌≤◌, length, Option}
 use Rattle.std.specs.Io.{StartsWith}
 use Rattle.std.specs.Io.KnownBytes.{Appends}
 use Rattle.ged_line.specs.Bytes.{Bytes}
@@ -9,10 +9,11 @@ use Rattle.ged_faults.specs.declared.faults.Which.{Which}
 use Rattle.ged_faults.specs.declared.faults.Which.TheVariants.{First, Second}
 use Rattle.ged_faults.specs.declared.faults.Fault.{Fault}
 use Rattle.ged_faults.specs.declared.faults.Fault.TheVariants.{InFile, TooLong, ReadFailed, WriteFailed, Memory}
+use Rattle.ged_tool.specs.Run.{IsTooLong}
 
 -- why reading stopped before the whole file had come
 abbrev pub StopsReading : ℕ → Bytes → Fault → Type 0
-StopsReading limit came TooLong = limit < length came
+StopsReading limit came TooLong = IsTooLong limit came
 StopsReading limit came ReadFailed = length came ≤ limit
 StopsReading limit came (Memory error) = length came ≤ limit
 StopsReading limit came WriteFailed = ⊥

@@ -1,8 +1,8 @@
 // One run: read the whole file, make the whole answer, write it.
-ghost use Rattle.std.specs.Prelude.{◌≡◌, ◌+◌, ◌<◌, ◌≤◌, ◌↔◌, false, IsTrue, IfOk, IfErr, IsErrOf, vec_len};
+ghost use Rattle.std.specs.Prelude.{◌≡◌, ◌+◌, ◌≤◌, ◌↔◌, false, IsTrue, IfOk, IfErr, IsErrOf, vec_len};
 ghost use Rattle.std.specs.Io.KnownBytes.{Consumes};
 ghost use Rattle.ged_line.specs.Bytes.{Bytes};
-ghost use Rattle.ged_tool.specs.Limits.{greatest_limit};
+ghost use Rattle.ged_tool.specs.Limits.{greatest_limit, greatest_read};
 ghost use Rattle.ged_tool.specs.Settings.{profile_of, edition_of};
 ghost use Rattle.ged_tool.specs.RunDevices.{TellsDevices};
 ghost use Rattle.ged_tool.specs.Run.{IsWhole, IsRun};
@@ -50,7 +50,7 @@ pub fn run<R: Source, W: Sink>(
 /// The outcome is Done where the whole answer was written, and never Different. Else it is Failed, names neither of
 /// two files, and has
 /// - InFile where the command has a fault of the file to tell;
-/// - TooLong where more than `limit` bytes came;
+/// - TooLong where more than `limit` bytes came, 131,072 more at most;
 /// - ReadFailed exactly where the reader has failed;
 /// - WriteFailed exactly where the writer has failed; then the front of the answer was written;
 /// - Memory where no memory was found.
@@ -151,7 +151,7 @@ const CHUNK: usize = 131072;
 /// Room for one call of read. What came is copied from here, so that the vector that holds the file is never filled
 /// with zeros, and only as much of it is touched as came.
 fn make_chunk(alloc: Global) -> Result<Vec<u8>, AllocError>
-    ensures { IfOk result (λ chunk. 0 < vec_len chunk) }
+    ensures { IfOk result (λ chunk. vec_len chunk ≡ greatest_read) }
 {
     vec![in alloc; 0; CHUNK]
 }

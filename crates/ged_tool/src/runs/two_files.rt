@@ -51,7 +51,7 @@ pub fn run_same<R: Source, S: Source, W: Sink>(
 /// The outcome is Done where the files are the same and that was written, Different where they are not. Else it is
 /// Failed, and has
 /// - InFile where a file is not accepted: the first, or where that one is, the second;
-/// - TooLong where more than `limit` bytes came of a file;
+/// - TooLong where more than `limit` bytes came of a file, 131,072 more at most;
 /// - ReadFailed exactly where a reader has failed;
 /// - WriteFailed exactly where the writer has failed; then the front of the line was written;
 /// - Memory where no memory was found.

@@ -194,7 +194,7 @@ fn write_both<W: Sink>(writer: &mut W, first: &[u8], second: &[u8]) -> Result<()
     }
 }
 
-/// Writes all of a text, in as few calls as the writer allows.
+/// Writes all of a text. Where the writer fails, what was written is the front of the text.
 pub(crate) fn write_whole<W: Sink>(writer: &mut W, text: &[u8]) -> Result<(), Failed>
     requires { W.failed writer.old ≡ false }
     ensures ok { OnOk result ((W.failed writer.new ≡ false)

@@ -10,7 +10,10 @@ returns-then-len-count-clause-stopped g c =
     let long = length-append held gave in (
       held ++ gave,
       Consumes-trans _ _ _ held gave c.loop.invariant.came c.in-Ok-read.ensures.bytes.0,
-      omega (arith, c.in-Ok-read.ensures.bound.1),
+      record {
+        above = omega (arith, c.in-Ok-read.ensures.bound.1);
+        stopped = omega (arith, c.in-Ok-read.ensures.bound.0, c.in-Ok-read.ensures.bound.1, c.read.auto.buf, c.deref_mut.ensures.len, c.loop.invariant.room);
+      },
     )
 
 pub returns-in-Err-extend_from_slice-clause-stopped : goal.returns-in-Err-extend_from_slice-clause-stopped
