@@ -230,8 +230,8 @@ class Project:
     # Where reading begins, and how far it comes.
 
     def public(self):
-        """The nodes that the crates give to their callers, and the contract of the program."""
-        roots = [Node('contract', 'ged_cmd', '', 'perform')]
+        """The nodes that the crates give to their callers."""
+        roots = []
         for crate in self.crates:
             if (crate, '') not in self.sources or not any(key[0] == crate for key in self.specs):
                 continue

@@ -13,7 +13,7 @@ use std::io::ErrorKind;
 use std::rt::Files;
 
 /// Opens files by their names, and puts new ones in their places. It says which files a name opens as far as that can be said.
-pub(crate) trait Shelf {
+pub trait Shelf {
     ghost use Rattle.ged_cmd.specs.Program.{Files};
 
     /// A file that was opened.
@@ -63,14 +63,14 @@ pub(crate) trait Shelf {
 
 /// The files of the system. No contract can say what they hold.
 #[derive(Drop)]
-pub(crate) struct Disk<'a, F> {
+pub struct Disk<'a, F> {
     files: &'a F,
     reason: &'a Reason,
 }
 
 impl<'a, F: Files> Disk<'a, F> {
     /// All files that the handle gives leave to open. Why one fails is noted. Takes no memory.
-    pub(crate) fn new(files: &'a F, reason: &'a Reason) -> Disk<'a, F> {
+    pub fn new(files: &'a F, reason: &'a Reason) -> Disk<'a, F> {
         Disk { files, reason }
     }
 }

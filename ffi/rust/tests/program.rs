@@ -14,7 +14,7 @@ fn program() -> Option<PathBuf> {
     if let Some(named) = env::var_os("GEDTOOL_PROGRAM") {
         return Some(PathBuf::from(named));
     }
-    let built = Path::new(ROOT).join("crates/ged_cmd/out/ged_cmd");
+    let built = Path::new(ROOT).join("crates/gedtool/out/gedtool");
     built.is_file().then_some(built)
 }
 

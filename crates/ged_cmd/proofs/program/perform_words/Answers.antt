@@ -7,7 +7,7 @@ use Rattle.ged_cmd.specs.CommandLine.{gedtool}
 use Rattle.ged_cmd.specs.Program.{Files, IsDone, Performs, Reader, Writer}
 use Rattle.ged_cmd.specs.Tasks.{Task, asked, task_of_match}
 use Rattle.ged_cmd.specs.inner.Obeying.{IsMistaken}
-use Rattle.ged_cmd.proofs.perform_words.Goals as goal
+use Rattle.ged_cmd.proofs.program.perform_words.Goals as goal
 
 -- words that clap takes: what they ask for is done, or they ask for nothing
 performed : {D T : Type 0} (files : Files D T) (to_come : D → Option (List ℕ)) (failed : D → Bool) (taken : T → Option (List ℕ)) (write_failed : T → Bool) (fate : T → Fate)

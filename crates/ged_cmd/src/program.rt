@@ -1,7 +1,4 @@
-//! The program `gedtool`: reads its command line, runs what it asks for, and tells a fault in one
-//! line on standard error.
-#![tactic(auto)]
-
+// The whole of the program behind its `main`: what the words of the command line ask for is done, and gives the status.
 ghost use Rattle.std.specs.Prelude.{◌≡◌, ◌≤◌, List, codes, false, IfOk, IsErr, MatchOption, map, option_and_then, option_map, string_bytes};
 ghost use Rattle.std.specs.Option.{option_map_or};
 ghost use Rattle.std.specs.Result.{result_ok};
@@ -13,63 +10,32 @@ ghost use Rattle.ged_cmd.specs.inner.Obeying.{IsMistaken};
 ghost use Rattle.ged_cmd.specs.inner.Tasks.{IsReadOnce, wanted_task};
 ghost use Rattle.ged_cmd.specs.Program.{IsDone, IsUnread, IsUnwritten, Performs, reader as reader_of, writer as writer_of};
 
-mod arguments;
-mod commands;
-mod digest_words;
-mod digests;
-mod explanations;
-mod grammar;
-mod held;
-mod help;
-mod meanings;
-mod names;
-mod shelf;
-mod tells;
-mod wanted;
-mod words;
-
+use crate::commands::answer_request;
+use crate::digests::tell_digests;
+use crate::explanations::finish_told;
+use crate::shelf::Shelf;
+use crate::tells::{refuse, refuse_unread, refuse_words};
+use crate::wanted::{Asked, Wanted, asked_of, read_words};
 use clap::ArgMatches;
-use commands::answer_request;
-use digests::tell_digests;
-use explanations::finish_told;
-use ged_devices::{Input, Noted, Output, Reason, Sink, Source};
+use ged_devices::{Output, Sink, Source};
 use ged_tool::Outcome;
-use held::held_input;
-use shelf::{Disk, Shelf};
 use std::alloc::Global;
-use std::io::Write;
-use std::process::ExitCode;
-use std::{env, io};
-use tells::{refuse, refuse_unread, refuse_words};
-use wanted::{Asked, Wanted, asked_of, read_words};
+use std::env;
+use std::io::{self, Write};
 
 /// The streams of a program.
 #[derive(Drop)]
-struct Streams<R, W, E> {
-    input: R,
-    output: Output<W>,
-    errors: E,
-}
-
-fn main(rt: HostRuntime) -> ExitCode {
-    // before any file is opened, and up to the end
-    let held = held_input(&rt);
-    let reason = Reason::new();
-    // why what is held can't be read says nothing of standard input
-    let untold = Reason::new();
-    let of_input = if held.is_some() { &untold } else { &reason };
-    let mut streams = Streams {
-        input: Input::new(Noted::new(rt.stdin(), of_input)),
-        output: Output::new(Noted::new(rt.stdout(), &reason)),
-        errors: rt.stderr(),
-    };
-    let disk = Disk::new(&rt, &reason);
-    let status = perform(rt.alloc(), &disk, words_of(&rt), &mut streams);
-    ExitCode::from(status)
+pub struct Streams<R, W, E> {
+    /// Standard input, of which nothing was read.
+    pub input: R,
+    /// Standard output.
+    pub output: Output<W>,
+    /// Standard error.
+    pub errors: E,
 }
 
 /// The words of the command line, the program's name first. One that isn't UTF-8 is an error.
-fn words_of(rt: &HostRuntime) -> io::Result<Vec<String>> {
+pub fn words_of(rt: &HostRuntime) -> io::Result<Vec<String>> {
     let words = env::args(rt)?.collect(rt.alloc())?;
     Ok(words)
 }
@@ -77,7 +43,7 @@ fn words_of(rt: &HostRuntime) -> io::Result<Vec<String>> {
 /// Does what the words ask for, and gives the program's status: 0 where the answer or the help was
 /// written, 1 for a fault of the file or two files that differ, 2 for a mistake in the words or where they can't be had, 3 for a
 /// fault of a device or want of memory from then on.
-fn perform<S: Shelf, R: Source, W: Write, E: Write>(
+pub fn perform<S: Shelf, R: Source, W: Write, E: Write>(
     alloc: Global,
     shelf: &S,
     words: io::Result<Vec<String>>,
