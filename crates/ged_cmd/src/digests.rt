@@ -1,11 +1,11 @@
 // The digests of files, told one after the other.
-ghost use Rattle.std.specs.Prelude.{◌≡◌, ◌≤◌, ◌⊎◌, ◌<◌, None, count_by, true, false};
+ghost use Rattle.std.specs.Prelude.{◌≡◌, ◌≢◌, ◌≤◌, ◌⊎◌, ◌<◌, None, Some, codes, count_by, true, false};
 ghost use Rattle.std.specs.Io.KnownBytes.{Keeps};
 ghost use Rattle.ged_tool.specs.Settings.{profile_of, edition_of};
 ghost use Rattle.ged_cmd.specs.Program.{AreDigested, IsDigested, IsNotOpened, SomeFile, graver as graver_of};
 ghost use Rattle.ged_cmd.specs.Program.{reader as reader_of, writer as writer_of};
-ghost use Rattle.ged_cmd.specs.Tasks.{is_input as is_input_word};
-ghost use Rattle.ged_cmd.specs.inner.Tasks.{names_of};
+ghost use Rattle.ged_cmd.specs.Tasks.{file_named as file_named_of, is_input as is_input_word};
+ghost use Rattle.ged_cmd.specs.inner.Tasks.{name_or, names_of};
 
 use crate::commands::{flushed_told, not_opened};
 use crate::digest_words::Digests;
@@ -135,7 +135,11 @@ fn tell_outcome<E: Write>(
 }
 
 /// The name of the file that has a fault, which a word names, or of the stream.
-fn source_name<'a>(word: &'a str, fault: &Fault) -> &'a str {
+fn source_name<'a>(word: &'a str, fault: &Fault) -> &'a str
+    ensures written { fault.now ≡ Fault.WriteFailed → result.now ≡ codes "standard output" }
+    ensures read { fault.now ≢ Fault.WriteFailed
+        → result.now ≡ name_or (file_named_of (Some word.now)) (codes "standard input") }
+{
     match fault {
         Fault::WriteFailed => output_name(None),
         _ => input_name(file_named(Some(word))),

@@ -1,7 +1,8 @@
 // Faults and notices in words, behind the line of a fault and the answer of check.
-ghost use Rattle.std.specs.Prelude.{◌≡◌, false};
+ghost use Rattle.std.specs.Prelude.{◌≡◌, ◌≢◌, codes, false, option_map};
 ghost use Rattle.std.specs.Io.KnownBytes.{Keeps};
 ghost use Rattle.ged_faults.specs.Faults.{status_of};
+ghost use Rattle.ged_cmd.specs.inner.Tasks.{file_with_fault, file_written, name_or, task_of};
 
 use crate::names::{input_name, output_name, shown_name};
 use crate::tells::finish;
@@ -26,6 +27,8 @@ pub(crate) fn finish_told<E: Write>(
 ) -> u8
     ensures status { result ≡ status_of told.now.outcome }
     ensures quiet { result ≡ 0 → explains ≡ false → Keeps (E.contents errors.old) (E.contents errors.new) }
+    ensures different { told.now.outcome ≡ Outcome.Different → explains ≡ false
+        → Keeps (E.contents errors.old) (E.contents errors.new) }
 {
     let status = finish(&told.outcome, errors);
     if explains {
@@ -69,7 +72,11 @@ pub(crate) fn text_of(
 }
 
 /// The name of the file of which a fault is told, or of the stream.
-fn name_of<'a>(request: Request<'a>, which: Option<Which>, fault: Fault) -> &'a str {
+fn name_of<'a>(request: Request<'a>, which: Option<Which>, fault: Fault) -> &'a str
+    ensures written { fault ≡ Fault.WriteFailed → result.now ≡ name_or (file_written (task_of request.entry)) (codes "standard output") }
+    ensures read { fault ≢ Fault.WriteFailed
+        → result.now ≡ name_or (file_with_fault (task_of request.entry) which) (codes "standard input") }
+{
     if fault == Fault::WriteFailed {
         return output_name(into_of(request));
     }
@@ -77,7 +84,9 @@ fn name_of<'a>(request: Request<'a>, which: Option<Which>, fault: Fault) -> &'a 
 }
 
 /// The name of the file that the answer goes into.
-fn into_of<'a>(request: Request<'a>) -> Option<&'a str> {
+fn into_of<'a>(request: Request<'a>) -> Option<&'a str>
+    ensures { option_map (λ name. name.now) result ≡ file_written (task_of request.entry) }
+{
     match request {
         Request::Run {
             command: _,
@@ -90,7 +99,9 @@ fn into_of<'a>(request: Request<'a>) -> Option<&'a str> {
 }
 
 /// The name of the file with the fault, which is the first of two if none is named.
-fn file_of<'a>(request: Request<'a>, which: Option<Which>) -> Option<&'a str> {
+fn file_of<'a>(request: Request<'a>, which: Option<Which>) -> Option<&'a str>
+    ensures { option_map (λ name. name.now) result ≡ file_with_fault (task_of request.entry) which }
+{
     match request {
         Request::Run {
             command: _,

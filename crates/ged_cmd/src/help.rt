@@ -151,7 +151,7 @@ Exit status:
      enough memory.
 
 Examples:
-  gedtool digest *.ged | sort
+  gedtool digest -- *.ged | sort
   gedtool digest --explain one.ged another.ged",
 };
 

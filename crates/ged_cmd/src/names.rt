@@ -1,16 +1,23 @@
 // Names of files, and other words of the command line, as standard error shows them.
+ghost use Rattle.std.specs.Prelude.{◌≡◌, codes, option_map};
+ghost use Rattle.ged_cmd.specs.inner.Tasks.{name_or};
+
 use ged_explain::is_harmless;
 use std::alloc::{AllocError, Global};
 use std::fmt;
 use std::fmt::{Display, Formatter, Write as _};
 
 /// The name of the file that is read, or of standard input where none is named.
-pub(crate) fn input_name(file: Option<&str>) -> &str {
+pub(crate) fn input_name(file: Option<&str>) -> &str
+    ensures { result.now ≡ name_or (option_map (λ name. name.now) file.entry) (codes "standard input") }
+{
     file.unwrap_or("standard input")
 }
 
 /// The name of the file that is written, or of standard output where none is named.
-pub(crate) fn output_name(file: Option<&str>) -> &str {
+pub(crate) fn output_name(file: Option<&str>) -> &str
+    ensures { result.now ≡ name_or (option_map (λ name. name.now) file.entry) (codes "standard output") }
+{
     file.unwrap_or("standard output")
 }
 

@@ -161,6 +161,6 @@ fn obey<S: Shelf, R: Source, W: Write, E: Write>(
             let explains = asked.explains;
             tell_digests(alloc, shelf, digests, explains, input, output, errors).status()
         }
-        Err(mistake) => refuse_words(mistake, errors),
+        Err(mistake) => refuse_words(mistake, asked.word, errors),
     }
 }

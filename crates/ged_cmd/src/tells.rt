@@ -15,9 +15,9 @@ use ged_devices::{Failed, Output, Sink};
 use ged_explain::meaning_of;
 use ged_tool::{Fault, Outcome, Which};
 use std::alloc::AllocError;
-use std::fmt::Display;
-use std::io;
+use std::fmt::{Display, Formatter};
 use std::io::{Cursor, Write};
+use std::{fmt, io};
 
 /// The status for a mistake in the words of the command line.
 const USAGE_STATUS: u8 = 2;
@@ -38,10 +38,10 @@ Usage: gedtool digest [OPTIONS] <FILE>...
 For more information, try '--help'.
 ";
 
-/// What is told where the word of `explain` is of no fault, in clap's form.
-const NO_FAULT: &str = "error: no fault has the number or the name that is given for '[FAULT]'
+/// What is told behind the word of `explain` where it is of no fault, in clap's form.
+const NO_FAULT: &str = "
 
-  tip: 'gedtool explain' lists all faults
+  tip: 'gedtool explain' lists all faults; a name is written as in 'TooMany'
 
 Usage: gedtool explain [FAULT]
 
@@ -58,6 +58,7 @@ const NAMED_LINE_ROOM: usize = 4_200;
 pub(crate) fn finish<E: Write>(outcome: &Outcome, errors: &mut E) -> u8
     ensures status { result ≡ status_of outcome.now }
     ensures quiet { result ≡ 0 → Keeps (E.contents errors.old) (E.contents errors.new) }
+    ensures different { outcome.now ≡ Outcome.Different → Keeps (E.contents errors.old) (E.contents errors.new) }
 {
     if let Outcome::Failed { which, fault } = outcome {
         // a line that can't be written changes no status
@@ -181,16 +182,38 @@ pub(crate) fn print_all<D: Display + Drop, W: Write>(
     output.flush()
 }
 
-/// Tells a mistake that clap doesn't know.
-pub(crate) fn refuse_words<E: Write>(mistake: Mistake, errors: &mut E) -> u8
+/// Tells a mistake that clap doesn't know. The word is that of `explain`.
+pub(crate) fn refuse_words<E: Write>(mistake: Mistake, word: Option<&str>, errors: &mut E) -> u8
     ensures { result ≡ 2 }
 {
     let text = match mistake {
         Mistake::TwoInputs => TWO_INPUTS,
         Mistake::InputTwice => INPUT_TWICE,
-        Mistake::NoFault => NO_FAULT,
+        Mistake::NoFault => return refuse_fault(word.unwrap_or(""), errors),
     };
     tell_mistake(&text, errors)
+}
+
+/// Tells that a word is of no fault.
+fn refuse_fault<E: Write>(word: &str, errors: &mut E) -> u8
+    ensures { result ≡ 2 }
+{
+    tell_mistake(&NoFault { word }, errors)
+}
+
+/// A word that is of no fault.
+#[derive(Clone, Copy)]
+struct NoFault<'a> {
+    word: &'a str,
+}
+
+impl Display for NoFault<'_> {
+    fn fmt<W: fmt::Write>(&self, f: &mut Formatter<W>) -> fmt::Result {
+        // as a name, so that a line feed in it is told from those of the text
+        let word = Shown::name(self.word);
+        write!(f, "error: no fault has the number or the name '{word}'")?;
+        f.write_str(NO_FAULT)
+    }
 }
 
 /// Tells why the words of the command line can't be had.

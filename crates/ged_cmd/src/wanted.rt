@@ -8,7 +8,7 @@ ghost use Rattle.ged_cmd.specs.CommandLine as line;
 ghost use Rattle.ged_cmd.specs.Tasks.{digest_asked, is_set, single_asked, task_of_match};
 ghost use Rattle.ged_cmd.specs.inner.Tasks.{IsReadOnce, mistake_in, wanted_task};
 
-use crate::arguments::EXPLAIN;
+use crate::arguments::{EXPLAIN, FAULT};
 use crate::digest_words::{Digests, digests_asked};
 use crate::grammar::command_line;
 use crate::words::{Request, is_flagged, request_of};
@@ -22,6 +22,8 @@ pub(crate) struct Asked<'m, 'a> {
     pub(crate) wanted: Result<Wanted<'m, 'a>, Mistake>,
     /// Whether faults and notices are explained.
     pub(crate) explains: bool,
+    /// The word of `explain`, which a mistake in it quotes.
+    pub(crate) word: Option<&'a str>,
 }
 
 /// What is wrong with words that clap takes.
@@ -68,6 +70,7 @@ pub(crate) fn asked_of<'m, 'a>(matches: &'m ArgMatches<'a>) -> Asked<'m, 'a>
     Asked {
         wanted: wanted_of(matches).ok_or(mistake_of(matches)),
         explains: is_explained(matches),
+        word: word_of(matches),
     }
 }
 
@@ -90,6 +93,14 @@ fn is_explained(matches: &ArgMatches<'_>) -> bool
     match matches.subcommand() {
         Some((_, inner)) => is_flagged(inner, EXPLAIN),
         None => false,
+    }
+}
+
+/// The word of `explain`; `None` where none is given, and for any other subcommand.
+fn word_of<'a>(matches: &ArgMatches<'a>) -> Option<&'a str> {
+    match matches.subcommand() {
+        Some((name, inner)) if name == "explain" => inner.get_str(FAULT),
+        _ => None,
     }
 }
 

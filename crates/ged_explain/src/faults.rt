@@ -15,7 +15,7 @@ pub struct Meaning {
     pub name: &'static str,
     /// What is wrong, in a few words.
     pub title: &'static str,
-    /// What usually causes it, and what helps: one or two sentences.
+    /// What usually causes it, and what helps: a few sentences.
     pub cause: &'static str,
     /// Lines of a file, with line feeds between them; behind the one at which the fault is told stands `<- here`. For a
     /// fault of a device, a command that meets it.

@@ -14,7 +14,7 @@ pub(crate) static MEANINGS: [Meaning; 29] = [
         number: 2,
         name: "BannedCharacter",
         title: "The line has a character that no line may have.",
-        cause: "A control character came in with a text that was pasted from another program. Write that part of the text anew. At line 1 the file may have been saved as UTF-16; then export it once more as GEDCOM 7.",
+        cause: "A control character came in with a text that was pasted from another program: write that part of the text anew. After TRLR, an older program left it as a mark of the file's end: remove it. At line 1 the file may have been saved as UTF-16, and is to be exported once more as GEDCOM 7; or it is a packed file, such as a GEDZIP, which has to be unpacked first.",
         example: "1 NOTE Born inU+000BUlm.    <- here",
     },
     Meaning {
@@ -28,7 +28,7 @@ pub(crate) static MEANINGS: [Meaning; 29] = [
         number: 4,
         name: "BadLevel",
         title: "The line does not begin with a level and one space.",
-        cause: "A text of several lines was put into the file without CONT, so that its further lines have no level; or the lines were indented. At line 1 the file may not be GEDCOM at all, but a web page.",
+        cause: "A text of several lines was put into the file without CONT, so that its further lines have no level; or the lines were indented. Or two files were put into one, the second of which begins with a byte order mark, U+FEFF. At line 1 the file may not be GEDCOM at all, but a web page.",
         example: "1 NOTE The register\nwas lost.    <- here",
     },
     Meaning {
@@ -133,14 +133,14 @@ pub(crate) static MEANINGS: [Meaning; 29] = [
         number: 19,
         name: "WrongVersion",
         title: "The file does not say that it is GEDCOM 7.0.",
-        cause: "The program that wrote the file exports another version, such as 5.5.1. Many programs offer GEDCOM 7 as a choice when they export.",
+        cause: "The program that wrote the file exports another version, such as 5.5.1. Many programs offer GEDCOM 7 as a choice when they export. Or blanks stand behind the version: remove them.",
         example: "0 HEAD\n1 GEDC\n2 VERS 5.5.1    <- here",
     },
     Meaning {
         number: 20,
         name: "BadPayload",
         title: "The value is not of the kind that belongs there.",
-        cause: "A date, an age or a word was written as people write it, or as an older version of GEDCOM wrote it. In a date the words are English and in capital letters; for an event, a citation or an age the value may be left out, and what was meant be put in a PHRASE below it. Older versions wrote 1648/49 for BET 1648 AND 1649, B.C. for BCE, CHILD for < 8y, INFANT for < 1y and STILLBORN for 0y. What they wrote as NOTE with a pointer is SNOTE now, SOUR and OBJE are pointers to records, and another name of a person is a second NAME, not ALIA.",
+        cause: "A date, an age or a word was written as people or older versions write it, or the month has no such day. Words of a date are English and in capital letters; other words go into a PHRASE below it, so INT 1900 (about) is 1900 with PHRASE about; the value of an age, or of the date of an event or citation, may then be empty. An event has Y or nothing, its date in DATE below it, a description in TYPE; that it did not happen is 1 NO DEAT. Older versions wrote 1648/49 for BET 1648 AND 1649, CHILD for < 8y and INFANT for < 1y. NOTE with a pointer is SNOTE now, SOUR and OBJE are pointers, another name is a second NAME, not ALIA.",
         example: "1 BIRT\n2 DATE 3 Mai 1871    <- here",
     },
     Meaning {
@@ -203,7 +203,7 @@ pub(crate) static MEANINGS: [Meaning; 29] = [
         number: 29,
         name: "UnlistedTag",
         title: "A tag that does not begin with _ stands where the structure tables do not list it.",
-        cause: "An older version of GEDCOM had the tag there, or the program that wrote the file uses it in its own way. A program's own tags begin with _.",
+        cause: "An older version of GEDCOM had the tag there, or the program that wrote the file uses it in its own way. AFN is EXID with a TYPE now, a NOTE that is a record is SNOTE, and FONE and ROMN are TRAN with LANG. What has no such tag goes into a NOTE, or to a tag that begins with _, as a program's own tags do.",
         example: "0 @I7@ INDI\n1 AFN 1234    <- here",
     },
 ];

@@ -25,9 +25,9 @@ pub(crate) fn say_wrong_by_tables(
 fn say_version(own: Step<'_>, told: &mut Explanation) {
     told.say("this file says ");
     match own.value {
-        ValueView::Text(text) => {
+        ValueView::Text(_) => {
             told.say("version ");
-            told.say_clipped(text.as_bytes(), NAME_COLUMNS);
+            say_value(own.value, told);
         }
         _ => told.say("no version"),
     }

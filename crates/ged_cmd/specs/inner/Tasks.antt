@@ -4,6 +4,8 @@ use Rattle.std.specs.Borrow.{Bor}
 use Rattle.std.specs.Option.{option_copied}
 use Rattle.std.specs.Str.{bytes_eq}
 use Rattle.ged_explain.specs.Names.{as_named}
+use Rattle.ged_faults.specs.declared.faults.Which.{Which}
+use Rattle.ged_faults.specs.declared.faults.Which.TheVariants.{First, Second}
 use Rattle.clap.specs.Words.{Row, Text}
 use Rattle.ged_tool.specs.Settings.{profile_of, edition_of}
 use Rattle.ged_cmd.specs.declared.words.Request.{Request}
@@ -24,6 +26,31 @@ task_of (Same comparison first second) =
 task_of (SameInput comparison second) =
     input_same comparison.form (profile_of comparison.settings) (edition_of comparison.settings) second.now
 task_of (Explain meaning) = explain (option_map as_named (option_copied meaning))
+
+-- the file that a fault is told of, which is the first of two where none is named; none where it is standard input
+abbrev pub file_with_fault : Task → Option Which → Option Text
+file_with_fault (run profile edition command file into) which = file
+file_with_fault (same form profile edition first second) (Some Second) = second
+file_with_fault (same form profile edition first second) (Some First) = Some first
+file_with_fault (same form profile edition first second) None = Some first
+file_with_fault (input_same form profile edition second) (Some Second) = Some second
+file_with_fault (input_same form profile edition second) (Some First) = None
+file_with_fault (input_same form profile edition second) None = None
+file_with_fault (explain named) which = None
+file_with_fault (digest profile edition files) which = None
+
+-- the file that the answer goes into, where one is named
+abbrev pub file_written : Task → Option Text
+file_written (run profile edition command file into) = into
+file_written (same form profile edition first second) = None
+file_written (input_same form profile edition second) = None
+file_written (explain named) = None
+file_written (digest profile edition files) = None
+
+-- a file's name, or that of the stream where none is named
+abbrev pub name_or : Option Text → Text → Text
+name_or None stream = stream
+name_or (Some name) stream = name
 
 -- the texts of names
 abbrev pub names_of : List (Bor Text) → List Text
