@@ -32,7 +32,7 @@ pub struct Index {
     pub(crate) records: Names,
     /// The type of each record by its number.
     pub(crate) types: Vec<Option<RecordType>>,
-    /// The place of each record, by its number.
+    /// The place of each record, by its number; the greatest number stands for all that 32 bits do not hold.
     pub(crate) places: Vec<u32>,
     pub(crate) followed: Followed,
     pub(crate) one_way: Vec<usize>,

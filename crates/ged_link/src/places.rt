@@ -15,7 +15,7 @@ pub struct RecordCursor {
 }
 
 impl RecordCursor {
-    /// A cursor at the first record of a document.
+    /// A cursor at the first record of a document. Takes no memory.
     pub fn new() -> RecordCursor
         ensures { result.next ≡ 0 }
     {

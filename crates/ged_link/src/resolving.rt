@@ -222,7 +222,7 @@ struct FoundRecords {
     names: Names,
     /// The type of each record by its number.
     types: Vec<Option<RecordType>>,
-    /// Where each record stands, by its number.
+    /// Where each record stands, by its number, as an index keeps it.
     places: Vec<u32>,
     /// Lists of no links, in the memory of the list of records.
     none: LinkLists,

@@ -24,7 +24,7 @@ pub struct PointerCursor {
 }
 
 impl PointerCursor {
-    /// A cursor at the first pointer of a document.
+    /// A cursor at the first pointer of a document. Takes no memory.
     pub fn new() -> PointerCursor
         ensures { result.next ≡ 0 }
     {

@@ -33,8 +33,8 @@ pub(crate) fn new_numbers(
     for each in records {
         if let Some(name) = &each.xref {
             number += 1;
-            if let Some(place) = index.record_of(name) {
-                numbers[place] = number;
+            if let Some(record) = index.record_of(name) {
+                numbers[record] = number;
             }
         }
     }
@@ -46,7 +46,7 @@ pub(crate) fn new_number(index: &Index, numbers: &[usize], name: &str) -> usize
     ensures { (names : List Bytes) → IsNumbering names index.now numbers.now → result ≡ number_among 1 names name.now }
 {
     match index.record_named(name) {
-        Some(place) => numbers.get(place).copied().unwrap_or(0),
+        Some(record) => numbers.get(record).copied().unwrap_or(0),
         None => 0,
     }
 }

@@ -117,10 +117,10 @@ pub(crate) fn numbers_in_order<F: Forest>(
     let mut cursor = RecordCursor::new();
     for each in records {
         if let Some(name) = forest.xref(each.place) {
-            if let Some(place) = index.record_with(each.place, name, &mut cursor) {
-                if index.is_used(place) {
+            if let Some(record) = index.record_with(each.place, name, &mut cursor) {
+                if index.is_used(record) {
                     number += 1;
-                    numbers[place] = number;
+                    numbers[record] = number;
                 }
             }
         }

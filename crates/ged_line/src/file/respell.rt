@@ -20,7 +20,8 @@ use crate::line::write::write_view;
 use std::alloc::{AllocError, Global};
 
 /// What [`crate::write_lines`] writes of the lines that [`crate::read_lines`] reads, or the first faulty line, without
-/// a line of its own for any of them. Grows as [`respell_parts`] does, and for the answer where it is in more than one part.
+/// a line of its own for any of them. Grows as [`respell_parts`] does, and for the answer, unless all of it was made. The error is the
+/// first faulty line, or that a growth was refused (FamilySearch GEDCOM 7.0, "Lines").
 pub fn respell_lines(alloc: Global, bytes: &[u8]) -> Result<Vec<u8>, RespellFault>
     ensures spelled { IfOk result (λ text. IsRespelling bytes.now text.items) }
     ensures fault { IfErr result (λ fault. TellsRespell fault bytes.now) }

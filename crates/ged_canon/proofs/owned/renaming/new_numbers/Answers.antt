@@ -32,8 +32,8 @@ loop-each-init c =
 pub index_mut-requires : goal.index_mut-requires
 index_mut-requires c =
     let d = c.args.document.now in
-    let here : IsRecordNumber d c.in-Some-record_of.place c.in-Some.name = (c.record_of.ensures d c.requires.index c.in-Some-record_of.place).0 c.in-Some-record_of.is in
-    omega (arith, slice_get_within (identifiers (records_of d)) c.in-Some-record_of.place (Some c.in-Some.name) here, c.loop-each.invariant.long)
+    let here : IsRecordNumber d c.in-Some-record_of.record c.in-Some.name = (c.record_of.ensures d c.requires.index c.in-Some-record_of.record).0 c.in-Some-record_of.is in
+    omega (arith, slice_get_within (identifiers (records_of d)) c.in-Some-record_of.record (Some c.in-Some.name) here, c.loop-each.invariant.long)
 
 pub loop-each-preserved : goal.loop-each-preserved
 loop-each-preserved c =
@@ -49,7 +49,7 @@ loop-each-preserved c =
       | in-Some+in-Some-record_of w ↦ (
           let name = w.in-Some.name in
           let named : c.each-item.result.xref ≡ Some name = w.in-Some.is in
-          let place = w.in-Some-record_of.place in
+          let place = w.in-Some-record_of.record in
           let told = w.record_of.ensures d c.requires.index in
           let here : IsRecordNumber d place name = (told place).0 w.in-Some-record_of.is in
           let only : (other : ℕ) → IsRecordNumber d other name → other ≡ place = λ other h. one_place w.record_of.result other place ((told other).1 h) w.in-Some-record_of.is in

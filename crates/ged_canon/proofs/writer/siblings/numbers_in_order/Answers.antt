@@ -41,7 +41,7 @@ loop-each-preserved g c =
       | in-Some+in-Some-record_with+then-is_used w ↦ (
           let name = w.in-Some.name.now in
           let has : HasXref d x.place name = (stands.0, sym c.xref.ensures ∙ ap option_copied w.in-Some.is) in
-          let place = w.in-Some-record_with.place in
+          let place = w.in-Some-record_with.record in
           let told = w.record_with.ensures d c.requires.index has in
           let here : IsRecordNumber d place name = (told place).0 w.in-Some-record_with.is in
           let only : (k : ℕ) → IsRecordNumber d k name → k ≡ place = λ k h. one_place w.record_with.result k place ((told k).1 h) w.in-Some-record_with.is in
@@ -60,7 +60,7 @@ loop-each-preserved g c =
       | in-Some+in-Some-record_with+else-is_used w ↦ (
           let name = w.in-Some.name.now in
           let has : HasXref d x.place name = (stands.0, sym c.xref.ensures ∙ ap option_copied w.in-Some.is) in
-          let place = w.in-Some-record_with.place in
+          let place = w.in-Some-record_with.record in
           let here : IsRecordNumber d place name = (w.record_with.ensures d c.requires.index has place).0 w.in-Some-record_with.is in
           let none_kept = dropped_unused d place name here (λ used. false≢true (sym w.if-is_used.false ∙ (w.is_used.ensures d c.requires.index).1 used)) in
           let names = unchanged d rs at x x within here_is (ap (used_xref (is_named d)) (sym c.xref.ensures ∙ ap option_copied w.in-Some.is) ∙ none_kept) in
