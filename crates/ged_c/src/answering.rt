@@ -34,7 +34,7 @@ pub enum Ended {
 }
 
 impl Ended {
-    /// The status by which C is told.
+    /// The status by which C is told. Takes no memory.
     pub fn status(&self) -> u32
         ensures { result ≡ call_status self.now }
     {
@@ -47,7 +47,7 @@ impl Ended {
         }
     }
 
-    /// The length of the answer in bytes, or 0 where there is none.
+    /// The length of the answer in bytes, or 0 where there is none. Takes no memory.
     pub fn length(&self) -> usize
         ensures { result ≡ length_of self.now }
     {
@@ -57,7 +57,7 @@ impl Ended {
         }
     }
 
-    /// The line of a fault of the file, counted from 1, or 0.
+    /// The line of a fault of the file, counted from 1, or 0. Takes no memory.
     pub fn line(&self) -> u64
         ensures { result ≡ line_of self.now }
     {

@@ -19,7 +19,7 @@ pub enum Compared {
 }
 
 impl Compared {
-    /// The status by which C is told.
+    /// The status by which C is told. Takes no memory.
     pub fn status(&self) -> u32
         ensures { result ≡ same_status self.now }
     {
@@ -30,7 +30,7 @@ impl Compared {
         }
     }
 
-    /// 1 where the files are known to say the same, else 0.
+    /// 1 where the files are known to say the same, else 0. Takes no memory.
     pub fn same(&self) -> u32
         ensures { result ≡ same_flag self.now }
     {
@@ -40,7 +40,7 @@ impl Compared {
         }
     }
 
-    /// The number of the file with the fault, or 0 where there is none.
+    /// The number of the file with the fault, or 0 where there is none. Takes no memory.
     pub fn which(&self) -> u32
         ensures { result ≡ which_number self.now }
     {
@@ -51,7 +51,7 @@ impl Compared {
         }
     }
 
-    /// The line of that fault, counted from 1, or 0.
+    /// The line of that fault, counted from 1, or 0. Takes no memory.
     pub fn line(&self) -> u64
         ensures { result ≡ same_line_of self.now }
     {

@@ -8,7 +8,7 @@ ghost use Rattle.ged_tool.specs.Limits.{greatest_limit};
 ghost use Rattle.ged_c.specs.Calls.{IsPut, MeansAs};
 
 use crate::answering::Ended;
-use ged_line::{RespellFault, SpelledPart, respell_parts};
+use ged_line::{SpelledPart, respell_parts};
 use ged_tool::Fault;
 use std::alloc::Global;
 
@@ -19,14 +19,7 @@ pub(crate) fn respell_into(alloc: Global, file: &[u8], room: &mut [u8]) -> Ended
 {
     let parts = match respell_parts(alloc, file) {
         Ok(parts) => parts,
-        Err(RespellFault::At(at)) => {
-            let kind = at.fault.into();
-            return Ended::Refused(Fault::InFile {
-                line: at.line,
-                kind,
-            });
-        }
-        Err(RespellFault::Memory(error)) => return Ended::Refused(Fault::Memory(error)),
+        Err(fault) => return Ended::Refused(fault.into()),
     };
     put_parts(&parts, room)
 }

@@ -2,6 +2,8 @@
 use Rattle.std.specs.Prelude.{ℕ}
 use Rattle.ged_line.specs.declared.fault.LineFault.{LineFault}
 use Rattle.ged_line.specs.declared.fault.LineFault.TheVariants as of_line
+use Rattle.ged_line.specs.declared.fault.RespellFault.{RespellFault}
+use Rattle.ged_line.specs.declared.fault.RespellFault.TheVariants as of_respelling
 use Rattle.ged_tree.specs.declared.fault.TreeFault.{TreeFault}
 use Rattle.ged_tree.specs.declared.fault.TreeFault.TheVariants as of_tree
 use Rattle.ged_schema.specs.declared.fault.SchemaFault.{SchemaFault}
@@ -73,6 +75,11 @@ file_fault_number TooMany = 22
 file_fault_number Missing = 23
 file_fault_number OneWayLink = 28
 file_fault_number UnlistedTag = 29
+
+-- why lines could not be respelled, as a fault of the run
+abbrev pub fault_of_respelling : RespellFault → Fault
+fault_of_respelling (of_respelling.At at) = InFile at.line (file_fault_of_line at.fault)
+fault_of_respelling (of_respelling.Memory error) = Memory error
 
 -- the number by which a fault is told
 abbrev pub fault_number : Fault → ℕ

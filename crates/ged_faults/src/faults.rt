@@ -1,9 +1,9 @@
 // What a run can answer, and the numbers by which a program tells it.
 ghost use Rattle.std.specs.Prelude.{◌≡◌};
-ghost use Rattle.ged_faults.specs.Faults.{file_fault_of_line, file_fault_of_tree, file_fault_of_tables};
+ghost use Rattle.ged_faults.specs.Faults.{file_fault_of_line, file_fault_of_tree, file_fault_of_tables, fault_of_respelling};
 ghost use Rattle.ged_faults.specs.Faults.{file_fault_number, fault_number, status_of};
 
-use ged_line::LineFault;
+use ged_line::{LineFault, RespellFault};
 use ged_schema::SchemaFault;
 use ged_tree::TreeFault;
 use std::alloc::AllocError;
@@ -183,6 +183,20 @@ impl Fault {
     }
 }
 
+impl From<RespellFault> for Fault {
+    ghost from_gives = { λ fault given. given ≡ fault_of_respelling fault };
+
+    fn from(fault: RespellFault) -> Fault {
+        match fault {
+            RespellFault::At(at) => Fault::InFile {
+                line: at.line,
+                kind: at.fault.into(),
+            },
+            RespellFault::Memory(error) => Fault::Memory(error),
+        }
+    }
+}
+
 /// One of two files.
 #[derive(Clone, Copy, PartialEq, Eq, Debug)]
 pub enum Which {
@@ -204,7 +218,7 @@ pub enum Outcome {
 
 impl Outcome {
     /// The exit status of a program that ran this: 0 where all was well, 1 where the file is faulty or two files
-    /// differ, 3 where reading, writing or memory failed. Takes no memory.
+    /// differ, 3 where a file was too long, or reading, writing or memory failed. Takes no memory.
     pub fn status(&self) -> u8
         ensures { result ≡ status_of self.now }
     {

@@ -12,7 +12,7 @@ use crate::settings::Settings;
 use ged_accept::{show_text, verdict};
 use ged_canon::Edition;
 use ged_faults::Fault;
-use ged_line::{RespellFault, respell_lines};
+use ged_line::respell_lines;
 use ged_schema::Profile;
 use std::alloc::Global;
 
@@ -58,14 +58,7 @@ fn answer_lines(alloc: Global, bytes: &[u8]) -> Result<Vec<u8>, Fault>
     ensures { MatchResult result (λ text. Answers Profile.Lenient Edition.First Command.Lines bytes.now text.items)
         (IsRefusal (FaultAt Profile.Lenient Command.Lines bytes.now)) }
 {
-    match respell_lines(alloc, bytes) {
-        Ok(text) => Ok(text),
-        Err(RespellFault::At(at)) => Err(Fault::InFile {
-            line: at.line,
-            kind: at.fault.into(),
-        }),
-        Err(RespellFault::Memory(error)) => Err(Fault::Memory(error)),
-    }
+    Ok(respell_lines(alloc, bytes)?)
 }
 
 fn answer_check(alloc: Global, settings: Settings, bytes: &[u8]) -> Result<Vec<u8>, Fault>

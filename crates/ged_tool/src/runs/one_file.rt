@@ -115,6 +115,7 @@ pub(crate) fn read_whole<R: Source>(
     requires unread { R.reads reader.old ≡ 0 }
     requires no_failure { R.failed reader.old ≡ false }
     ensures calls { R.reads reader.new ≤ limit + 1 }
+    ensures once_at_the_end { IfOk result (λ bytes. R.reads reader.new ≤ vec_len bytes + 1) }
     ensures read_failed { IsTrue (R.failed reader.new) ↔ IsErrOf result Fault.ReadFailed }
     ensures whole { IfOk result (λ bytes. IsWhole limit bytes.items (R.to_come reader.new)
         × Consumes (R.to_come reader.old) (R.to_come reader.new) bytes.items) }

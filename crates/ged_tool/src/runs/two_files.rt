@@ -43,7 +43,7 @@ pub fn run_same<R: Source, S: Source, W: Sink>(
 /// Reads a file to its reader's end, then another, compares them under the profile and in the edition of the settings,
 /// and writes the line `same` or `different`.
 ///
-/// `limit` is the most bytes that each file may have, 1,073,741,824 at most. The readers must not have been read before,
+/// `limit` is the most bytes that each file may have, [`crate::GREATEST_LIMIT`] at most. The readers must not have been read before,
 /// and no device have failed. No more than `limit + 1` calls of read are made on each reader, and nothing is written
 /// unless both files are accepted. Memory is taken for both files, for the document and index of one
 /// at a time, and for what their forms have that the files have not; for files that are equal byte for byte no form is made.

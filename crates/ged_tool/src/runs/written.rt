@@ -17,7 +17,7 @@ use crate::settings::Settings;
 use ged_canon::{Edition, FormReader};
 use ged_devices::{Failed, Sink};
 use ged_faults::Fault;
-use ged_line::{RespellFault, SpelledPart, respell_parts};
+use ged_line::{SpelledPart, respell_parts};
 use ged_schema::Profile;
 use std::alloc::Global;
 
@@ -84,17 +84,7 @@ fn write_lines<W: Sink>(alloc: Global, bytes: &[u8], writer: &mut W) -> Result<(
         (FaultAt Profile.Lenient Command.Lines bytes.now) (W.taken writer.old) (W.taken writer.new) fault) }
     ensures fate { W.fate writer.new ≡ W.fate writer.old }
 {
-    let parts = match respell_parts(alloc, bytes) {
-        Ok(parts) => parts,
-        Err(RespellFault::At(at)) => {
-            let kind = at.fault.into();
-            return Err(Fault::InFile {
-                line: at.line,
-                kind,
-            });
-        }
-        Err(RespellFault::Memory(error)) => return Err(Fault::Memory(error)),
-    };
+    let parts = respell_parts(alloc, bytes)?;
     match write_parts(writer, &parts) {
         Ok(()) => Ok(()),
         Err(Failed) => Err(Fault::WriteFailed),
