@@ -14,7 +14,7 @@ _DECLARATION = re.compile(
 _CONSTRUCTOR = re.compile(rf'^\s+({_NAME})\s+:\s', re.M)
 
 # What is built in, and so stands for itself: the language's words and the names of its prelude that are used here.
-BUILT_IN = set('→ × = : | ↦ ¬ _ ℓ λ let in where record data pub abbrev unfoldable Type Unit tt ⊥ absurd omega'.split())
+BUILT_IN = set('→ × = : | ↦ ¬ _ ℓ λ let in where record data pub abbrev unfoldable Type Unit tt ⊥ ∥ ∥₁ absurd omega'.split())
 
 
 class Unreadable(Exception):

@@ -90,7 +90,7 @@ def read_needed(contexts):
     masks = {}
     for path in sorted((SOURCE / "tables").glob("*.rt")):
         for name, body in re.findall(r"static (\w+): \[Rule; \d+\] = \[(.*?)\];", path.read_text(), re.S):
-            masks[name] = sum(1 << number for number, macro in enumerate(re.findall(r'(\w+)!\(\s*"', body)) if macro in ("one", "some"))
+            masks[name] = sum(1 << number for number, macro in enumerate(re.findall(r'(\w+)!\(\s*"', body)) if macro == "one")
     arms = dict(re.findall(r"Context::(\w+) => &(\w+),", (SOURCE / "tables.rt").read_text()))
     return {context: masks[arms[context]] if context in arms else 0 for context in contexts}
 

@@ -9,9 +9,16 @@ function __gedtool_takes_file -d 'Whether the command takes a further file'
     set -l words (commandline -opc)
     set -l files
     set -l before
+    set -l flags yes
     for word in $words[3..]
-        # what stands behind -o is no file to read
-        string match -q -- '-*' $word; or contains -- "$before" -o --output; or set -a files $word
+        # what stands behind -o is no file to read, and behind -- nothing is a flag
+        if test -z "$flags"
+            set -a files $word
+        else if test "$word" = --
+            set flags
+        else
+            string match -qr -- '^-.' $word; or contains -- "$before" -o --output; or set -a files $word
+        end
         set before $word
     end
     if __gedtool_command lines check show canon
@@ -29,7 +36,8 @@ function __gedtool_begins -d 'Whether no command is there yet'
 end
 
 function __gedtool_takes_command -d 'Whether a command comes next'
-    __gedtool_begins; or __gedtool_command help
+    set -l words (commandline -opc)
+    __gedtool_begins; or test "$words[2..]" = help
 end
 
 complete -c gedtool -f
