@@ -5,7 +5,7 @@
 // refused, then with its second, and so on until it answers as usual; and after each once more with memory. It asks for
 // a refusal by the mark `refuse growth N`, and ends the call by `growths end`, each a line of its own. Between them it
 // takes no memory but the call's. Behind them it tells how the call answered:
-// `memory`, `usual` for the answer that it gives with memory, or `other`. Nothing is refused where nobody heeds the marks.
+// `memory`, `memory first` or `memory second` for a want of memory, `usual` for the answer that it gives with memory, or `other`. Nothing is refused where nobody heeds the marks.
 use crate::answers::Answer;
 use crate::growing::{MEMORY_WORDS, is_of_lines, make_call};
 use ged_line::split_pieces;

@@ -1,2 +1,4 @@
+pub mod CallerLemmas
 pub mod Found
 pub mod Passing
+mod Seen

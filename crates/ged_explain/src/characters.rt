@@ -1,6 +1,6 @@
 // Characters that are not shown as they are.
 ghost use Rattle.std.specs.Prelude.{◌≡◌, not};
-ghost use Rattle.ged_explain.specs.Characters.{misleads};
+ghost use Rattle.ged_explain.specs.Characters.{is_blank as is_blank_code, is_unseen, misleads, takes_no_room as takes_no_room_code};
 
 /// Whether a character leaves what stands around it as it is: it ends no line, controls no terminal, and does not turn the direction
 /// of a text. The name of a file may have any of these: a space other than the one of ASCII, or a character that is not seen, is a fair
@@ -21,31 +21,48 @@ pub fn is_harmless(character: char) -> bool
 
 /// Whether a character of a file is seen as it is. Unlike in a name, one that takes no room is not, nor is a space but the one of ASCII,
 /// which it could be taken for: it may be what is wrong with a line.
-pub(crate) fn is_seen(character: char) -> bool {
-    is_harmless(character)
-        && !matches!(
-            character,
-            '\u{A0}'
-                | '\u{AD}'
-                | '\u{34F}'
-                | '\u{115F}'..='\u{1160}'
-                | '\u{1680}'
-                | '\u{17B4}'..='\u{17B5}'
-                | '\u{180B}'..='\u{180F}'
-                | '\u{2000}'..='\u{200D}'
-                | '\u{202F}'
-                | '\u{205F}'..='\u{2065}'
-                | '\u{206A}'..='\u{206F}'
-                | '\u{2800}'
-                | '\u{3000}'
-                | '\u{3164}'
-                | '\u{FE00}'..='\u{FE0F}'
-                | '\u{FEFF}'
-                | '\u{FFA0}'
-                | '\u{FFF0}'..='\u{FFFB}'
-                | '\u{FFFE}'..='\u{FFFF}'
-                | '\u{1BCA0}'..='\u{1BCA3}'
-                | '\u{1D173}'..='\u{1D17A}'
-                | '\u{E0000}'..='\u{E0FFF}'
-        )
+pub(crate) fn is_seen(character: char) -> bool
+    ensures { result ≡ not (is_unseen character) }
+{
+    is_harmless(character) && !is_blank(character) && !takes_no_room(character)
+}
+
+fn is_blank(character: char) -> bool
+    ensures { result ≡ is_blank_code character }
+{
+    matches!(
+        character,
+        '\u{A0}'
+            | '\u{115F}'..='\u{1160}'
+            | '\u{1680}'
+            | '\u{2000}'..='\u{200A}'
+            | '\u{202F}'
+            | '\u{205F}'
+            | '\u{2800}'
+            | '\u{3000}'
+            | '\u{3164}'
+            | '\u{FFA0}'
+    )
+}
+
+fn takes_no_room(character: char) -> bool
+    ensures { result ≡ takes_no_room_code character }
+{
+    matches!(
+        character,
+        '\u{AD}'
+            | '\u{34F}'
+            | '\u{17B4}'..='\u{17B5}'
+            | '\u{180B}'..='\u{180F}'
+            | '\u{200B}'..='\u{200D}'
+            | '\u{2060}'..='\u{2065}'
+            | '\u{206A}'..='\u{206F}'
+            | '\u{FE00}'..='\u{FE0F}'
+            | '\u{FEFF}'
+            | '\u{FFF0}'..='\u{FFFB}'
+            | '\u{FFFE}'..='\u{FFFF}'
+            | '\u{1BCA0}'..='\u{1BCA3}'
+            | '\u{1D173}'..='\u{1D17A}'
+            | '\u{E0000}'..='\u{E0FFF}'
+    )
 }

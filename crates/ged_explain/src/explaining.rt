@@ -9,7 +9,8 @@ use crate::path::{Step, Walk};
 use crate::pieces::piece_at;
 use crate::shown::shown_line;
 use crate::site::Site;
-use crate::wrong_lines::say_wrong_line;
+use crate::version::say_other_version;
+use crate::wrong_lines::{say_cut_off, say_wrong_line};
 use crate::wrong_links::say_wrong_link;
 use crate::wrong_structures::say_wrong_structure;
 use crate::wrong_tables::say_wrong_by_tables;
@@ -19,7 +20,8 @@ use itoa::Buffer;
 use std::alloc::{AllocError, Global};
 
 /// The lines that explain a fault, each with its line feed: the name of the file, which is handed in and told as it is, the
-/// line as it stands, the structures above it, what belongs there, and what usually causes the fault.
+/// line as it stands, the structures above it, what belongs there, and what usually causes the fault. That the file ends within the
+/// line, or says in its header that it is of another version, is told too.
 ///
 /// `bytes` are those of the file in which the fault was found; of any others the text has no meaning. Of a long line its first
 /// 120 columns or a few more are told; a byte that is not UTF-8 is told as `\xNN`, and a character that is not seen as `U+NNNN`.
@@ -156,7 +158,10 @@ fn details_of(alloc: Global, site: &Site<'_, '_>, kind: FileFault) -> Result<Str
     say_place(site, &mut told);
     told.say("  wrong: ");
     say_wrong(kind, site, &mut told);
-    told.say("\n  cause: ");
+    told.say("\n");
+    say_cut_off(kind, site, &mut told);
+    say_other_version(kind, site.bytes, &mut told);
+    told.say("  cause: ");
     let line = site.line;
     told.say(meaning_of(&Fault::InFile { line, kind }).cause);
     told.say("\n");

@@ -1,4 +1,8 @@
 // What is told, as a text that grows.
+ghost use Rattle.std.specs.Prelude.{◌≡◌, false, string_bytes, IfOk};
+ghost use Rattle.ged_explain.specs.Showing.{IsSeen};
+ghost use Rattle.ged_explain.specs.inner.Telling.{TellsSeen};
+
 use crate::characters::is_seen;
 use std::alloc::{AllocError, Global};
 use std::fmt::Write;
@@ -12,7 +16,9 @@ pub(crate) struct Explanation {
 }
 
 impl Explanation {
-    pub(crate) fn new(alloc: Global) -> Explanation {
+    pub(crate) fn new(alloc: Global) -> Explanation
+        ensures { TellsSeen result }
+    {
         Explanation {
             text: String::new(alloc),
             lacks_memory: false,
@@ -20,14 +26,18 @@ impl Explanation {
     }
 
     /// The text, where memory was not wanting.
-    pub(crate) fn into_text(self) -> Result<String, AllocError> {
+    pub(crate) fn into_text(self) -> Result<String, AllocError>
+        ensures { IfOk result (λ text. (self.lacks_memory ≡ false) × (text ≡ self.text)) }
+    {
         if self.lacks_memory {
             return Err(AllocError);
         }
         Ok(self.text)
     }
 
-    pub(crate) fn say(&mut self, text: &str) {
+    pub(crate) fn say(&mut self, text: &str)
+        ensures { TellsSeen self.old → IsSeen text.now → TellsSeen self.new }
+    {
         self.lacks_memory |= self.text.push_str(text).is_err();
     }
 
@@ -35,18 +45,24 @@ impl Explanation {
         self.lacks_memory |= write!(self.text, "{number}").is_err();
     }
 
-    pub(crate) fn say_byte(&mut self, byte: u8) {
+    pub(crate) fn say_byte(&mut self, byte: u8)
+        ensures { TellsSeen self.old → TellsSeen self.new }
+    {
         self.lacks_memory |= write!(self.text, "\\x{byte:02X}").is_err();
     }
 
-    pub(crate) fn say_character_number(&mut self, number: u32) {
+    pub(crate) fn say_character_number(&mut self, number: u32)
+        ensures { TellsSeen self.old → TellsSeen self.new }
+    {
         self.lacks_memory |= write!(self.text, "U+{number:04X}").is_err();
     }
 
     /// Says one character, or its number where it has no sign of its own. Gives how many columns that takes.
-    fn say_character(&mut self, character: char, spelled: &str) -> usize {
+    fn say_character(&mut self, character: char) -> usize
+        ensures { TellsSeen self.old → TellsSeen self.new }
+    {
         if is_seen(character) {
-            self.say(spelled);
+            self.lacks_memory |= self.text.push(character).is_err();
             return 1;
         }
         self.say_character_number(u32::from(character));
@@ -55,7 +71,9 @@ impl Explanation {
 
     /// Says bytes that a file has: a byte that belongs to no character as `\xNN`, and a character that is not seen as `U+NNNN`.
     /// Behind so many columns, or up to five more, three dots stand for the rest, which is not looked at.
-    pub(crate) fn say_clipped(&mut self, bytes: &[u8], columns: usize) {
+    pub(crate) fn say_clipped(&mut self, bytes: &[u8], columns: usize)
+        ensures { TellsSeen self.old → TellsSeen self.new }
+    {
         let mut rest = bytes;
         let mut used = 0usize;
         for _ in 0..columns {
@@ -72,10 +90,12 @@ impl Explanation {
     }
 
     /// Says the first character or byte of some. Gives how many columns that takes, and what stands behind it.
-    fn say_first<'a>(&mut self, bytes: &'a [u8]) -> (usize, &'a [u8]) {
+    fn say_first<'a>(&mut self, bytes: &'a [u8]) -> (usize, &'a [u8])
+        ensures { TellsSeen self.old → TellsSeen self.new }
+    {
         if let Some((first, behind)) = first_character(bytes) {
             if let Some(character) = first.chars().next() {
-                return (self.say_character(character, first), behind);
+                return (self.say_character(character), behind);
             }
         }
         match bytes {

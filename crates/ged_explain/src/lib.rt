@@ -16,6 +16,7 @@ mod pieces;
 mod shown;
 mod site;
 mod table;
+mod version;
 mod wrong_lines;
 mod wrong_links;
 mod wrong_structures;

@@ -1,8 +1,8 @@
 // A line of a file as it is shown.
 ghost use Rattle.std.specs.Prelude.{◌≡◌, ◌++◌, ◌∷◌, ◌↔◌, [], codes, string_bytes, IsTrue, MatchOption, OnOk, IfOk, option_map};
 ghost use Rattle.std.specs.List.{All};
-ghost use Rattle.ged_line.specs.Bytes.{line_feed};
-ghost use Rattle.ged_explain.specs.Showing.{Begins, IsPlain, IsShownAs, IsSign};
+ghost use Rattle.ged_line.specs.Bytes.{Bytes, line_feed};
+ghost use Rattle.ged_explain.specs.Showing.{IsPlain, IsSeen, IsSeenLine, IsShownAs, IsSign};
 
 use crate::explanation::Explanation;
 use std::alloc::{AllocError, Global};
@@ -24,8 +24,8 @@ pub(crate) fn shown_line(alloc: Global, piece: Option<&[u8]>) -> Result<String, 
 
 /// A colon and a line.
 fn shown_piece(alloc: Global, piece: &[u8]) -> Result<String, AllocError>
-    ensures { IfOk result (λ text. Begins (codes ": ") (string_bytes text)
-        × (IsPlain piece.now → string_bytes text ≡ codes ": " ++ (piece.now ++ line_feed ∷ []))) }
+    ensures { IfOk result (λ text. (seen : Bytes) × (string_bytes text ≡ codes ": " ++ (seen ++ line_feed ∷ []))
+        × IsSeenLine piece.now seen) }
 {
     let mut text = String::from_str(alloc, ": ")?;
     push_shown(alloc, piece, &mut text)?;
@@ -35,8 +35,7 @@ fn shown_piece(alloc: Global, piece: &[u8]) -> Result<String, AllocError>
 
 /// Appends a line: as it is where it is plain, else so that each byte and character is seen, and clipped.
 fn push_shown(alloc: Global, piece: &[u8], text: &mut String) -> Result<(), AllocError>
-    ensures begins { OnOk result (Begins (string_bytes text.old) (string_bytes text.new)) }
-    ensures plain { OnOk result (IsPlain piece.now → string_bytes text.new ≡ string_bytes text.old ++ piece.now) }
+    ensures { OnOk result ((seen : Bytes) × (string_bytes text.new ≡ string_bytes text.old ++ seen) × IsSeenLine piece.now seen) }
 {
     if let Some(plain) = plain_text(piece) {
         return text.push_str(plain);
@@ -45,7 +44,10 @@ fn push_shown(alloc: Global, piece: &[u8], text: &mut String) -> Result<(), Allo
     text.push_str(clipped.as_str())
 }
 
-fn clipped_text(alloc: Global, piece: &[u8]) -> Result<String, AllocError> {
+/// A line so that each byte and character is seen, and clipped.
+fn clipped_text(alloc: Global, piece: &[u8]) -> Result<String, AllocError>
+    ensures { IfOk result (λ text. IsSeen (string_bytes text)) }
+{
     let mut told = Explanation::new(alloc);
     told.say_clipped(piece, LINE_COLUMNS);
     told.into_text()
@@ -53,7 +55,7 @@ fn clipped_text(alloc: Global, piece: &[u8]) -> Result<String, AllocError> {
 
 /// The text of a line that is shown as it is.
 fn plain_text(piece: &[u8]) -> Option<&str>
-    ensures { MatchOption result (¬ (IsPlain piece.now)) (λ text. text.now ≡ piece.now) }
+    ensures { MatchOption result (¬ (IsPlain piece.now)) (λ text. (text.now ≡ piece.now) × All IsSign piece.now) }
 {
     if piece.len() > LINE_COLUMNS || !are_signs(piece) {
         return None;

@@ -58,6 +58,17 @@ impl<'a> Site<'_, 'a> {
         }
     }
 
+    /// Whether the file ends within the line, and does not begin with it: no line end stands behind it, nor another line.
+    pub(crate) fn ends_file(&self) -> bool {
+        if self.line < 2 || piece_at(self.bytes, self.line.saturating_add(1)).is_some() {
+            return false;
+        }
+        match self.bytes {
+            [.., last] => *last != b'\n' && *last != b'\r',
+            [] => false,
+        }
+    }
+
     /// The number of the first line that stands below the same superstructure as this one and has the same tag.
     pub(crate) fn first_sibling(&self, own: Step<'a>) -> u64 {
         let mut first = 0u64;

@@ -49,14 +49,14 @@ pub(crate) static MEANINGS: [Meaning; 29] = [
         number: 7,
         name: "BadTag",
         title: "What stands where the tag belongs is not a tag.",
-        cause: "A tag has capital letters, digits and _. It may have been written in small letters, or two spaces stand before it; or a text of several lines was put into the file without CONT, and one of its lines begins with a number.",
+        cause: "A tag begins with a capital letter or _, and has capital letters, digits and _. It may have been written in small letters, or two spaces stand before it; or a text of several lines was put into the file without CONT, and one of its lines begins with a number.",
         example: "1 Sex F    <- here",
     },
     Meaning {
         number: 8,
         name: "BadValue",
         title: "The value begins with @ but is not a pointer.",
-        cause: "A text that begins with @ is written with @@. If a pointer was meant, it has capital letters, digits and _ between two @, and nothing follows it; older versions also allowed small letters, hyphens and spaces in it. They wrote the calendar of a date between two @: what was @#DJULIAN@ 3 MAY 1671 is now JULIAN 3 MAY 1671.",
+        cause: "A text that begins with @ is written with @@. If a pointer was meant, it has capital letters, digits and _ between two @, and nothing follows it; older versions also allowed small letters, hyphens and spaces in it. They wrote the calendar of a date between two @: what was @#DJULIAN@ 3 MAY 1671 is now JULIAN 3 MAY 1671, and @#DFRENCH R@ is FRENCH_R.",
         example: "1 NOTE @home: see the letter    <- here",
     },
     Meaning {
@@ -98,7 +98,7 @@ pub(crate) static MEANINGS: [Meaning; 29] = [
         number: 14,
         name: "TrailerNotEmpty",
         title: "TRLR, the end of the file, has a value or a line below it.",
-        cause: "Lines were put at the end of the file, after 0 TRLR. They belong before it.",
+        cause: "Lines were put at the end of the file, after 0 TRLR. They belong before it. Or blanks stand behind TRLR: remove them.",
         example: "0 TRLR\n1 NOTE The end.    <- here",
     },
     Meaning {
@@ -133,14 +133,14 @@ pub(crate) static MEANINGS: [Meaning; 29] = [
         number: 19,
         name: "WrongVersion",
         title: "The file does not say that it is GEDCOM 7.0.",
-        cause: "The program that wrote the file exports another version, such as 5.5.1. Many programs offer GEDCOM 7 as a choice when they export. Or blanks stand behind the version: remove them.",
+        cause: "The program that wrote the file exports another version, an older one such as 5.5.1 or a newer one. Many programs offer GEDCOM 7.0 as a choice when they export. Or blanks stand behind the version: remove them.",
         example: "0 HEAD\n1 GEDC\n2 VERS 5.5.1    <- here",
     },
     Meaning {
         number: 20,
         name: "BadPayload",
         title: "The value is not of the kind that belongs there.",
-        cause: "A date, an age or a word was written as people or older versions write it, or the month has no such day. Words of a date are English and in capital letters; other words go into a PHRASE below it, so INT 1900 (about) is 1900 with PHRASE about; the value of an age, or of the date of an event or citation, may then be empty. An event has Y or nothing, its date in DATE below it, a description in TYPE; that it did not happen is 1 NO DEAT. Older versions wrote 1648/49 for BET 1648 AND 1649, CHILD for < 8y and INFANT for < 1y. NOTE with a pointer is SNOTE now, SOUR and OBJE are pointers, another name is a second NAME, not ALIA.",
+        cause: "A date, an age or a word was written as people or older versions write it, or the month has no such day. Words of a date are English and in capital letters; other words go into a PHRASE below it, so INT 1900 (about) is 1900 with PHRASE about; the value of an age, or of the date of an event or citation, may then be empty. An event has Y or nothing, its date in DATE below it, a description in TYPE; that it did not happen is 1 NO DEAT. Older versions wrote 1648/49 for BET 1648 AND 1649, B.C. for BCE, FRENCH R for FRENCH_R, CHILD for < 8y, INFANT for < 1y and STILLBORN for 0y, with a PHRASE. NOTE with a pointer is SNOTE now, SOUR and OBJE are pointers, another name is a second NAME, not ALIA.",
         example: "1 BIRT\n2 DATE 3 Mai 1871    <- here",
     },
     Meaning {
@@ -203,7 +203,7 @@ pub(crate) static MEANINGS: [Meaning; 29] = [
         number: 29,
         name: "UnlistedTag",
         title: "A tag that does not begin with _ stands where the structure tables do not list it.",
-        cause: "An older version of GEDCOM had the tag there, or the program that wrote the file uses it in its own way. AFN is EXID with a TYPE now, a NOTE that is a record is SNOTE, and FONE and ROMN are TRAN with LANG. What has no such tag goes into a NOTE, or to a tag that begins with _, as a program's own tags do.",
+        cause: "An older version of GEDCOM had the tag there, or the program that wrote the file uses it in its own way. AFN is EXID with a TYPE now, a NOTE that is a record is SNOTE, FONE and ROMN are TRAN with LANG, and the text of a CONC is joined to the line before. What has no such tag goes into a NOTE, or to a tag that begins with _, as a program's own tags do.",
         example: "0 @I7@ INDI\n1 AFN 1234    <- here",
     },
 ];

@@ -1,6 +1,7 @@
 // What is wrong with a line by itself: faults 1 to 8.
 use crate::explanation::Explanation;
 use crate::path::NAME_COLUMNS;
+use crate::site::Site;
 use ged_faults::FileFault;
 use ged_line::is_plain;
 use std::str;
@@ -43,9 +44,16 @@ fn say_wrong_byte(piece: &[u8], told: &mut Explanation) {
 
 fn say_banned(piece: &[u8], told: &mut Explanation) {
     let text = str::from_utf8(piece).unwrap_or("");
-    if let Some(character) = text.chars().find(|character| is_banned(*character)) {
-        told.say("no line may have the character ");
-        told.say_character_number(u32::from(character));
+    let mut place = 1u64;
+    for character in text.chars() {
+        if is_banned(character) {
+            told.say("no line may have the character ");
+            told.say_character_number(u32::from(character));
+            told.say("; it stands at byte ");
+            told.say_number(place);
+            return told.say(" of the line");
+        }
+        place = place.saturating_add(character.len_utf8() as u64);
     }
 }
 
@@ -61,8 +69,36 @@ fn say_wrong_tag(piece: &[u8], told: &mut Explanation) {
         NAME_COLUMNS,
     );
     told.say(
-        "\" is not a tag; a tag has capital letters and digits, such as SEX, or begins with _, such as _MILT",
+        "\" is not a tag; a tag begins with a capital letter, such as SEX, or with _ and one more character, such as _MILT, and has only capital letters, digits and _",
     );
+}
+
+/// Says of a line that is none that it may be half of one, where the file ends within it: what is wrong with it is then no mistake of
+/// whoever wrote it.
+pub(crate) fn say_cut_off(kind: FileFault, site: &Site<'_, '_>, told: &mut Explanation) {
+    if is_of_half_line(kind) && site.ends_file() && !is_trailer(site.piece.unwrap_or(&[])) {
+        told.say(
+            "  end: the file ends within this line, so it may have been cut off: get it again\n",
+        );
+    }
+}
+
+/// Whether half a line may have a fault.
+fn is_of_half_line(kind: FileFault) -> bool {
+    matches!(
+        kind,
+        FileFault::NotUtf8
+            | FileFault::BadLevel
+            | FileFault::BadXref
+            | FileFault::BadTag
+            | FileFault::BadValue
+    )
+}
+
+/// Whether a line is meant to be the last one, behind which the line end is often left out.
+fn is_trailer(piece: &[u8]) -> bool {
+    let text = str::from_utf8(piece).unwrap_or("");
+    text.ends_with("TRLR") || text.ends_with("trlr")
 }
 
 /// What stands at the tag's place: behind the level, and behind an identifier if there is one, up to the next space.

@@ -56,7 +56,9 @@ fn say_record(record: Option<Record<'_>>, told: &mut Explanation) {
 
 fn say_one_way(site: &Site<'_, '_>, own: Step<'_>, told: &mut Explanation) {
     let Some(name) = site.path.record().and_then(|record| record.xref) else {
-        return told.say("the record has no identifier, so that no other record can name it");
+        return told.say(
+            "the record has no identifier, so that no other record can name it: give the record an identifier first",
+        );
     };
     let pointed = own.pointer().unwrap_or("");
     say_record(site.record_named(pointed), told);

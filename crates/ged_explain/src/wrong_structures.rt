@@ -2,7 +2,9 @@
 use crate::explanation::Explanation;
 use crate::path::Step;
 use crate::site::Site;
+use crate::wrong_tables::say_value;
 use ged_faults::FileFault;
+use ged_line::ValueView;
 
 pub(crate) fn say_wrong_structure(
     kind: FileFault,
@@ -18,9 +20,7 @@ pub(crate) fn say_wrong_structure(
         FileFault::MisplacedCont => say_misplaced(own, told),
         FileFault::NoHeader => told.say("the first line has to be 0 HEAD"),
         FileFault::SecondHeader => told.say("only the first line may be 0 HEAD"),
-        FileFault::TrailerNotEmpty => told.say(
-            "0 TRLR ends the file; it has no value, and nothing stands below it",
-        ),
+        FileFault::TrailerNotEmpty => say_trailer_not_empty(own, told),
         _ => say_trailer(site.path.before(), told),
     }
 }
@@ -43,7 +43,21 @@ fn say_misplaced(own: Step<'_>, told: &mut Explanation) {
     }
     told.say(
         "a CONT comes straight after the text that it continues, one level deeper, and is no pointer",
-    )
+    );
+    match own.value {
+        ValueView::Pointer(_) | ValueView::Void => told.say(
+            "; a line of text that begins with @ is written with @@",
+        ),
+        _ => {}
+    }
+}
+
+fn say_trailer_not_empty(own: Step<'_>, told: &mut Explanation) {
+    told.say("0 TRLR ends the file; it has no value, and nothing stands below it");
+    if own.level == 0 {
+        told.say("; found ");
+        say_value(own.value, told);
+    }
 }
 
 fn say_trailer(before: Option<Step<'_>>, told: &mut Explanation) {

@@ -46,7 +46,7 @@ fn say_payload(site: &Site<'_, '_>, own: Step<'_>, told: &mut Explanation) {
     say_value(own.value, told);
 }
 
-fn say_value(value: ValueView<'_>, told: &mut Explanation) {
+pub(crate) fn say_value(value: ValueView<'_>, told: &mut Explanation) {
     match value {
         ValueView::Empty => told.say("nothing"),
         ValueView::Void => told.say("the pointer @VOID@"),
@@ -103,6 +103,9 @@ fn say_unlisted(site: &Site<'_, '_>, own: Step<'_>, told: &mut Explanation) {
             say_tag(above, told);
         }
         None => told.say("at level 0"),
+    }
+    if own.tag == "CONC" {
+        return told.say("; GEDCOM 7.0 has no CONC: its text is joined to the line before");
     }
     say_listed(site, own, told);
 }
