@@ -102,7 +102,7 @@ check_taken_names() {
     done
     puts "no name that is not taken" 3 "$unwritten" "a.ged:$smallest$names" ./gedtool canon -o "$room/folder/b.ged" "$at"
     explained "no name that is not taken, explained" 3 "" "$unwritten" "  file: $room/folder/b.ged
-  reason: all names for a new file are taken
+  reason: all names for a new file are taken: remove .gedtool-0.new to .gedtool-99.new
   cause: $(part_of 26 cause)" ./gedtool canon --explain -o "$room/folder/b.ged" "$at"
 }
 

@@ -21,7 +21,7 @@ within_names named i within = subst (λ (n : ℕ). i < n) (sym (length-map named
 name_at : (named : List (Bor Text)) (i : ℕ) (d : Bor Text) → i < length named → get_or (names_of named) i [] ≡ (slice_index_or named i d).now
 name_at named i d within = get_or-map (λ (name : Bor Text). name.now) named i d [] within
 
-names_more : (named : List (Bor Text)) (i : ℕ) (d : Bor Text) → i < length named
+pub names_more : (named : List (Bor Text)) (i : ℕ) (d : Bor Text) → i < length named
     → take (i + 1) (names_of named) ≡ take i (names_of named) ++ (slice_index_or named i d).now ∷ []
 names_more named i d within =
     take_more (names_of named) i [] (within_names named i within) ∙ ap (λ (name : Text). take i (names_of named) ++ name ∷ []) (name_at named i d within)

@@ -1,3 +1,5 @@
 pub mod ClapLemmas
 pub mod DigestLemmas
 pub mod FlushLemmas
+mod Harmless
+mod ShelfLemmas

@@ -1,4 +1,5 @@
 pub mod CommandLine
 pub mod Tasks
 pub mod Program
+pub mod Shelves
 pub mod inner

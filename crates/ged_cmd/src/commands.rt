@@ -1,8 +1,9 @@
 // One command over one input, or over two.
-ghost use Rattle.std.specs.Prelude.{◌≡◌, ◌⊎◌, [], None, Some, false, option_map};
+ghost use Rattle.std.specs.Prelude.{◌≡◌, ◌⊎◌, ◌∷◌, [], None, Some, false, option_map};
 ghost use Rattle.ged_tool.specs.Settings.{profile_of, edition_of};
 ghost use Rattle.ged_cmd.specs.inner.Flushes.{IsFlushed};
 ghost use Rattle.ged_cmd.specs.Program.{IsAnswered, IsCompared, IsDone, IsOver, IsPut, IsWithheld, fate_of, reader as reader_of, writer as writer_of};
+ghost use Rattle.ged_cmd.specs.Shelves.{Calls, CallsAtMost, calls_of, drafting, opening, opening_named};
 ghost use Rattle.ged_cmd.specs.Tasks.{input_same as input_same_task, same as same_task};
 ghost use Rattle.ged_cmd.specs.inner.Tasks.{task_of};
 
@@ -47,16 +48,17 @@ pub(crate) fn not_opened(alloc: Global, which: Option<Which>) -> Told
 /// Does what a request asks for, and gives the outcome with the bytes of the file of which it tells.
 pub(crate) fn answer_request<S: Shelf, R: Source, W: Write>(
     alloc: Global,
-    shelf: &S,
+    shelf: &mut S,
     request: Request<'_>,
     input: &mut R,
     output: &mut Output<W>,
 ) -> Told
     requires unread { R.reads input.old ≡ 0 }
     requires no_failure { (R.failed input.old ≡ false) × (⟦<Output<W> as Sink>⟧.failed output.old ≡ false) }
-    ensures { IsDone (S.files shelf.now) S.Device.to_come S.Device.failed S.Draft.taken S.Draft.failed S.Draft.fate (task_of request.entry)
+    ensures done { IsDone (S.files (S.stock shelf.old)) S.Device.to_come S.Device.failed S.Draft.taken S.Draft.failed S.Draft.fate (task_of request.entry)
         (reader_of R.to_come R.failed input.old input.new)
         (writer_of ⟦<Output<W> as Sink>⟧.taken ⟦<Output<W> as Sink>⟧.failed output.old output.new) result.outcome }
+    ensures called { CallsAtMost (S.calls shelf.old) (S.calls shelf.new) (calls_of (task_of request.entry)) }
 {
     match request {
         Request::Run {
@@ -87,7 +89,7 @@ pub(crate) fn answer_request<S: Shelf, R: Source, W: Write>(
 /// ReadFailed.
 fn answer_output<S: Shelf, R: Source, W: Write>(
     alloc: Global,
-    shelf: &S,
+    shelf: &mut S,
     settings: Settings,
     command: Command,
     file: Option<&str>,
@@ -96,10 +98,11 @@ fn answer_output<S: Shelf, R: Source, W: Write>(
 ) -> Told
     requires unread { R.reads input.old ≡ 0 }
     requires no_failure { (R.failed input.old ≡ false) × (⟦<Output<W> as Sink>⟧.failed output.old ≡ false) }
-    ensures { IsOver (S.files shelf.now) S.Device.to_come S.Device.failed (profile_of settings) (edition_of settings) command
+    ensures done { IsOver (S.files (S.stock shelf.old)) S.Device.to_come S.Device.failed (profile_of settings) (edition_of settings) command
         (option_map (λ name. name.now) file.entry)
         (reader_of R.to_come R.failed input.old input.new)
         (writer_of ⟦<Output<W> as Sink>⟧.taken ⟦<Output<W> as Sink>⟧.failed output.old output.new) result.outcome }
+    ensures called { Calls (S.calls shelf.old) (S.calls shelf.new) (opening_named (option_map (λ name. name.now) file.entry)) }
 {
     let told = answer_file(alloc, shelf, settings, command, file, input, output);
     flushed_told(told, output)
@@ -109,7 +112,7 @@ fn answer_output<S: Shelf, R: Source, W: Write>(
 /// which stays as it is where the outcome is not Done.
 fn answer_into<S: Shelf, R: Source>(
     alloc: Global,
-    shelf: &S,
+    shelf: &mut S,
     settings: Settings,
     command: Command,
     file: Option<&str>,
@@ -118,11 +121,13 @@ fn answer_into<S: Shelf, R: Source>(
 ) -> Told
     requires unread { R.reads input.old ≡ 0 }
     requires no_failure { R.failed input.old ≡ false }
-    ensures { IsWithheld ((S.files shelf.now).withholds name.now) (reader_of R.to_come R.failed input.old input.new) result.outcome
-        ⊎ IsPut (S.files shelf.now) S.Draft.taken S.Draft.failed S.Draft.fate name.now (λ writer.
-        IsOver (S.files shelf.now) S.Device.to_come S.Device.failed (profile_of settings) (edition_of settings) command
+    ensures done { IsWithheld ((S.files (S.stock shelf.old)).withholds name.now) (reader_of R.to_come R.failed input.old input.new) result.outcome
+        ⊎ IsPut (S.files (S.stock shelf.old)) S.Draft.taken S.Draft.failed S.Draft.fate name.now (λ writer.
+        IsOver (S.files (S.stock shelf.old)) S.Device.to_come S.Device.failed (profile_of settings) (edition_of settings) command
         (option_map (λ name. name.now) file.entry) (reader_of R.to_come R.failed input.old input.new) writer result.outcome)
         result.outcome }
+    ensures called { CallsAtMost (S.calls shelf.old) (S.calls shelf.new)
+        (drafting name.now ∷ opening_named (option_map (λ name. name.now) file.entry)) }
 {
     let mut draft = match shelf.draft(alloc, name) {
         Ok(draft) => draft,
@@ -139,7 +144,7 @@ fn answer_into<S: Shelf, R: Source>(
 /// ReadFailed.
 fn answer_file<S: Shelf, R: Source, W: Sink>(
     alloc: Global,
-    shelf: &S,
+    shelf: &mut S,
     settings: Settings,
     command: Command,
     file: Option<&str>,
@@ -148,10 +153,11 @@ fn answer_file<S: Shelf, R: Source, W: Sink>(
 ) -> Told
     requires unread { R.reads input.old ≡ 0 }
     requires no_failure { (R.failed input.old ≡ false) × (W.failed writer.old ≡ false) }
-    ensures answered { IsOver (S.files shelf.now) S.Device.to_come S.Device.failed (profile_of settings) (edition_of settings) command
+    ensures answered { IsOver (S.files (S.stock shelf.old)) S.Device.to_come S.Device.failed (profile_of settings) (edition_of settings) command
         (option_map (λ name. name.now) file.entry)
         (reader_of R.to_come R.failed input.old input.new) (writer_of W.taken W.failed writer.old writer.new) result.outcome }
     ensures fate { W.fate writer.new ≡ W.fate writer.old }
+    ensures called { Calls (S.calls shelf.old) (S.calls shelf.new) (opening_named (option_map (λ name. name.now) file.entry)) }
 {
     match file {
         None => answer(alloc, settings, command, input, writer),
@@ -166,7 +172,7 @@ fn answer_file<S: Shelf, R: Source, W: Sink>(
 /// opened before one is read. A file that can't be opened is ReadFailed, and is named.
 fn compare_files<S: Shelf, R: Source, W: Write>(
     alloc: Global,
-    shelf: &S,
+    shelf: &mut S,
     comparison: Comparison,
     first: &str,
     second: Option<&str>,
@@ -175,10 +181,12 @@ fn compare_files<S: Shelf, R: Source, W: Write>(
 ) -> Told
     requires unread { R.reads input.old ≡ 0 }
     requires no_failure { (R.failed input.old ≡ false) × (⟦<Output<W> as Sink>⟧.failed output.old ≡ false) }
-    ensures { IsDone (S.files shelf.now) S.Device.to_come S.Device.failed S.Draft.taken S.Draft.failed S.Draft.fate
+    ensures done { IsDone (S.files (S.stock shelf.old)) S.Device.to_come S.Device.failed S.Draft.taken S.Draft.failed S.Draft.fate
         (same_task comparison.form (profile_of comparison.settings) (edition_of comparison.settings) first.now (option_map (λ name. name.now) second.entry))
         (reader_of R.to_come R.failed input.old input.new)
         (writer_of ⟦<Output<W> as Sink>⟧.taken ⟦<Output<W> as Sink>⟧.failed output.old output.new) result.outcome }
+    ensures called { CallsAtMost (S.calls shelf.old) (S.calls shelf.new)
+        (opening first.now ∷ opening_named (option_map (λ name. name.now) second.entry)) }
 {
     let mut first = match shelf.open(first) {
         Ok(device) => device,
@@ -197,7 +205,7 @@ fn compare_files<S: Shelf, R: Source, W: Write>(
 /// named.
 fn compare_input<S: Shelf, R: Source, W: Write>(
     alloc: Global,
-    shelf: &S,
+    shelf: &mut S,
     comparison: Comparison,
     second: &str,
     input: &mut R,
@@ -205,10 +213,11 @@ fn compare_input<S: Shelf, R: Source, W: Write>(
 ) -> Told
     requires unread { R.reads input.old ≡ 0 }
     requires no_failure { (R.failed input.old ≡ false) × (⟦<Output<W> as Sink>⟧.failed output.old ≡ false) }
-    ensures { IsDone (S.files shelf.now) S.Device.to_come S.Device.failed S.Draft.taken S.Draft.failed S.Draft.fate
+    ensures done { IsDone (S.files (S.stock shelf.old)) S.Device.to_come S.Device.failed S.Draft.taken S.Draft.failed S.Draft.fate
         (input_same_task comparison.form (profile_of comparison.settings) (edition_of comparison.settings) second.now)
         (reader_of R.to_come R.failed input.old input.new)
         (writer_of ⟦<Output<W> as Sink>⟧.taken ⟦<Output<W> as Sink>⟧.failed output.old output.new) result.outcome }
+    ensures called { Calls (S.calls shelf.old) (S.calls shelf.new) (opening second.now ∷ []) }
 {
     match shelf.open(second) {
         Ok(mut second) => compare(alloc, comparison, input, &mut second, output),

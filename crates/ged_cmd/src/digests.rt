@@ -1,9 +1,10 @@
 // The digests of files, told one after the other.
-ghost use Rattle.std.specs.Prelude.{◌≡◌, ◌≢◌, ◌≤◌, ◌⊎◌, ◌<◌, None, Some, codes, count_by, true, false};
+ghost use Rattle.std.specs.Prelude.{◌≡◌, ◌≢◌, ◌≤◌, ◌⊎◌, ◌<◌, ◌∷◌, [], None, Some, codes, count_by, true, false};
 ghost use Rattle.std.specs.Io.KnownBytes.{Keeps};
 ghost use Rattle.ged_tool.specs.Settings.{profile_of, edition_of};
 ghost use Rattle.ged_cmd.specs.Program.{AreDigested, IsDigested, IsNotOpened, SomeFile, graver as graver_of};
 ghost use Rattle.ged_cmd.specs.Program.{reader as reader_of, writer as writer_of};
+ghost use Rattle.ged_cmd.specs.Shelves.{Calls, CallsAtMost, opening_all};
 ghost use Rattle.ged_cmd.specs.Tasks.{file_named as file_named_of, is_input as is_input_word};
 ghost use Rattle.ged_cmd.specs.inner.Tasks.{name_or, names_of};
 
@@ -24,7 +25,7 @@ use std::io::Write;
 /// output has failed it stops.
 pub(crate) fn tell_digests<S: Shelf, R: Source, W: Write, E: Write>(
     alloc: Global,
-    shelf: &S,
+    shelf: &mut S,
     digests: Digests<'_, '_>,
     explains: bool,
     input: &mut R,
@@ -34,10 +35,11 @@ pub(crate) fn tell_digests<S: Shelf, R: Source, W: Write, E: Write>(
     requires once { count_by is_input_word (names_of digests.files.now) ≤ 1 }
     requires unread { R.reads input.old ≡ 0 }
     requires no_failure { (R.failed input.old ≡ false) × (⟦<Output<W> as Sink>⟧.failed output.old ≡ false) }
-    ensures told { AreDigested (S.files shelf.now) S.Device.to_come S.Device.failed (profile_of digests.entry.settings)
+    ensures told { AreDigested (S.files (S.stock shelf.old)) S.Device.to_come S.Device.failed (profile_of digests.entry.settings)
         (edition_of digests.entry.settings) (names_of digests.entry.files.now)
         (reader_of R.to_come R.failed input.old input.new)
         (writer_of ⟦<Output<W> as Sink>⟧.taken ⟦<Output<W> as Sink>⟧.failed output.old output.new) result }
+    ensures called { CallsAtMost (S.calls shelf.old) (S.calls shelf.new) (opening_all (names_of digests.entry.files.now)) }
     ensures quiet { result ≡ Outcome.Done → Keeps (E.contents errors.old) (E.contents errors.new) }
 {
     let mut gravest = Outcome::Done;
@@ -67,7 +69,7 @@ fn graver(before: Outcome, later: Outcome) -> Outcome
 /// ReadFailed.
 fn tell_digest<S: Shelf, R: Source, W: Write>(
     alloc: Global,
-    shelf: &S,
+    shelf: &mut S,
     settings: Settings,
     name: &str,
     input: &mut R,
@@ -76,14 +78,16 @@ fn tell_digest<S: Shelf, R: Source, W: Write>(
     requires unread { is_input_word name.now ≡ true → (R.reads input.old ≡ 0) × (R.failed input.old ≡ false) }
     requires no_failure { ⟦<Output<W> as Sink>⟧.failed output.old ≡ false }
     ensures named { is_input_word name.now ≡ false → (input.new ≡ input.old)
-        × (IsNotOpened ((S.files shelf.now).refuses name.now) None
+        × (IsNotOpened ((S.files (S.stock shelf.old)).refuses name.now) None
         (writer_of ⟦<Output<W> as Sink>⟧.taken ⟦<Output<W> as Sink>⟧.failed output.old output.new) result.outcome
-        ⊎ SomeFile ((S.files shelf.now).opens name.now) S.Device.to_come S.Device.failed (λ file.
+        ⊎ SomeFile ((S.files (S.stock shelf.old)).opens name.now) S.Device.to_come S.Device.failed (λ file.
         IsDigested (profile_of settings) (edition_of settings) name.now file
         (writer_of ⟦<Output<W> as Sink>⟧.taken ⟦<Output<W> as Sink>⟧.failed output.old output.new) result.outcome)) }
     ensures input { is_input_word name.now ≡ true → IsDigested (profile_of settings) (edition_of settings) name.now
         (reader_of R.to_come R.failed input.old input.new)
         (writer_of ⟦<Output<W> as Sink>⟧.taken ⟦<Output<W> as Sink>⟧.failed output.old output.new) result.outcome }
+    ensures same { S.stock shelf.new ≡ S.stock shelf.old }
+    ensures called { Calls (S.calls shelf.old) (S.calls shelf.new) (opening_all (name.now ∷ [])) }
 {
     if is_input(name) {
         return digest(alloc, settings, name, input, output);

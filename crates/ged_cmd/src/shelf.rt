@@ -1,8 +1,9 @@
 // Where files are opened by their names, and replaced by new ones.
-ghost use Rattle.std.specs.Prelude.{◌≡◌, ◌≢◌, false, ⊤, IfErr, IfOk, OnErr, OnOk};
+ghost use Rattle.std.specs.Prelude.{◌≡◌, ◌≢◌, ◌∷◌, [], List, Option, None, false, ⊤, IfErr, IfOk, OnErr, OnOk};
 ghost use Rattle.std.specs.Io.KnownBytes.{Keeps};
 ghost use Rattle.ged_devices.specs.Devices.{failed_after};
 ghost use Rattle.ged_cmd.specs.Program.{IsEmpty, IsFaultOfReplacing};
+ghost use Rattle.ged_cmd.specs.Shelves.{Calls, ShelfCall, drafting, opening};
 
 use ged_devices::{Failed, Fate, Input, NewFile, Noted, Reason, Sink, Source};
 use ged_tool::Fault;
@@ -22,27 +23,40 @@ pub trait Shelf {
     /// A new file, which is to take the place of another one.
     type Draft: Sink + Drop;
 
+    /// What it has, as far as its files are told apart by that.
+    type Stock;
+
+    // what it has, which no call changes
+    ghost stock: { Self → Self.Stock };
+
     // what is known of files by their names
-    ghost files: { Self → Files Self.Device Self.Draft };
+    ghost files: { Self.Stock → Files Self.Device Self.Draft };
+
+    // what was asked of it so far, in order, where it tells that
+    ghost calls: { Self → Option (List ShelfCall) };
 
     /// The reason of the last failure of a device, in words; empty where none is known.
     fn reason(&self) -> &'static str;
 
     /// Opens a file, or answers Failed where it can't be opened.
-    fn open(&self, name: &str) -> Result<Self::Device, Failed>
-        ensures opened { IfOk result ((files self.now).opens name.now) }
+    fn open(&mut self, name: &str) -> Result<Self::Device, Failed>
+        ensures same { stock self.new ≡ stock self.old }
+        ensures called { Calls (calls self.old) (calls self.new) (opening name.now ∷ []) }
+        ensures opened { IfOk result ((files (stock self.old)).opens name.now) }
         ensures unread { IfOk result (λ device. Self.Device.reads device ≡ 0) }
         ensures no_failure { IfOk result (λ device. Self.Device.failed device ≡ false) }
-        ensures refused { OnErr result ((files self.now).refuses name.now) };
+        ensures refused { OnErr result ((files (stock self.old)).refuses name.now) };
 
     /// Prepares a new file that is to take the place of the one of this name, where there is one. Nothing is created before it
     /// is written to. The fault is WriteFailed where the file of this name can't be replaced, or Memory.
-    fn draft(&self, alloc: Global, name: &str) -> Result<Self::Draft, Fault>
-        ensures drafted { IfOk result ((files self.now).drafts name.now) }
+    fn draft(&mut self, alloc: Global, name: &str) -> Result<Self::Draft, Fault>
+        ensures same { stock self.new ≡ stock self.old }
+        ensures called { Calls (calls self.old) (calls self.new) (drafting name.now ∷ []) }
+        ensures drafted { IfOk result ((files (stock self.old)).drafts name.now) }
         ensures empty { IfOk result (λ draft. IsEmpty (Self.Draft.taken draft)) }
         ensures pending { IfOk result (λ draft. Self.Draft.fate draft ≡ Fate.Pending) }
         ensures no_failure { IfOk result (λ draft. Self.Draft.failed draft ≡ false) }
-        ensures withheld { IfErr result ((files self.now).withholds name.now) }
+        ensures withheld { IfErr result ((files (stock self.old)).withholds name.now) }
         ensures fault { IfErr result IsFaultOfReplacing };
 
     /// Puts a new file in its place, with all that was written to it, or gives it up and answers Failed where that can't be.
@@ -80,6 +94,10 @@ impl<'a, F: Files> Shelf for Disk<'a, F> {
 
     type Draft = NewFile<'a, F>;
 
+    type Stock = ();
+
+    ghost stock = { λ _. tt };
+
     ghost files = { λ _. record {
       opens = λ _ _. ⊤;
       refuses = λ _. ⊤;
@@ -87,11 +105,13 @@ impl<'a, F: Files> Shelf for Disk<'a, F> {
       withholds = λ _ _. ⊤;
     } };
 
+    ghost calls = { λ _. None };
+
     fn reason(&self) -> &'static str {
         self.reason.words()
     }
 
-    fn open(&self, name: &str) -> Result<Input<Noted<'a, F::File>>, Failed> {
+    fn open(&mut self, name: &str) -> Result<Input<Noted<'a, F::File>>, Failed> {
         match File::open(self.files, name) {
             Ok(file) => Ok(Input::new(Noted::new(file, self.reason))),
             Err(error) => {
@@ -101,7 +121,7 @@ impl<'a, F: Files> Shelf for Disk<'a, F> {
         }
     }
 
-    fn draft(&self, alloc: Global, name: &str) -> Result<NewFile<'a, F>, Fault> {
+    fn draft(&mut self, alloc: Global, name: &str) -> Result<NewFile<'a, F>, Fault> {
         match NewFile::new(alloc, self.files, self.reason, name) {
             Ok(draft) => Ok(draft),
             Err(error) => Err(fault_of(&error)),

@@ -7,7 +7,7 @@ ghost use Rattle.ged_faults.specs.Faults.{status_of};
 ghost use Rattle.ged_cmd.specs.Program.{IsUnwritten, refusal_status, writer as writer_of};
 
 use crate::commands::failed;
-use crate::names::Shown;
+use crate::names::{ShownLines, ShownName};
 use crate::wanted::Mistake;
 use clap::Error;
 use clap::error::ErrorKind;
@@ -51,7 +51,8 @@ For more information, try '--help'.
 /// More bytes than any line that tells a fault has.
 const LINE_ROOM: usize = 80;
 
-/// More bytes than such a line has after the longest name by which the system opens a file.
+/// More bytes than such a line has after the longest name by which the system opens a file, where each of its characters is shown as it
+/// is.
 const NAMED_LINE_ROOM: usize = 4_200;
 
 /// Tells the outcome's fault, if it has one, and gives the outcome's status.
@@ -88,8 +89,8 @@ fn write_held<const ROOM: usize, E: Write>(
     errors.write_all(&held.get_ref()[..length.min(ROOM)])
 }
 
-/// Writes the line that tells a fault after a name, by one write where the writer takes it whole and the name is no longer than
-/// one of the system's. It takes no memory.
+/// Writes the line that tells a fault after a name, by one write where the writer takes it whole and the name, as it is shown, is
+/// no longer than one of the system's. It takes no memory.
 pub(crate) fn tell_named<E: Write>(name: &str, fault: &Fault, errors: &mut E) -> io::Result<()> {
     let mut line = Cursor::new([0; NAMED_LINE_ROOM]);
     match write_named_line(name, fault, &mut line) {
@@ -99,7 +100,7 @@ pub(crate) fn tell_named<E: Write>(name: &str, fault: &Fault, errors: &mut E) ->
 }
 
 fn write_named_line<W: Write>(name: &str, fault: &Fault, line: &mut W) -> io::Result<()> {
-    write!(line, "{}: ", Shown::name(name))?;
+    write!(line, "{}: ", ShownName::new(name))?;
     write_line(None, fault, line)
 }
 
@@ -152,9 +153,9 @@ fn tell_mistake<D: Display, E: Write>(mistake: &D, errors: &mut E) -> u8
 /// no memory.
 fn write_shown<D: Display, E: Write>(text: &D, errors: &mut E) -> io::Result<()> {
     let mut shown = Cursor::new([0; NAMED_LINE_ROOM]);
-    match write!(shown, "{}", Shown::lines(text)) {
+    match write!(shown, "{}", ShownLines::new(text)) {
         Ok(()) => write_held(&shown, errors),
-        Err(_) => write!(errors, "{}", Shown::lines(text)),
+        Err(_) => write!(errors, "{}", ShownLines::new(text)),
     }
 }
 
@@ -210,7 +211,7 @@ struct NoFault<'a> {
 impl Display for NoFault<'_> {
     fn fmt<W: fmt::Write>(&self, f: &mut Formatter<W>) -> fmt::Result {
         // as a name, so that a line feed in it is told from those of the text
-        let word = Shown::name(self.word);
+        let word = ShownName::new(self.word);
         write!(f, "error: no fault has the number or the name '{word}'")?;
         f.write_str(NO_FAULT)
     }

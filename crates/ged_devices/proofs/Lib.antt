@@ -1,1 +1,2 @@
+mod Folders
 mod Modes

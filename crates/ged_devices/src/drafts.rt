@@ -1,7 +1,8 @@
 // New files, which are written beside the file whose place they take.
-ghost use Rattle.std.specs.Prelude.{◌≡◌, ◌≢◌, ◌+◌, ◌*◌, ◌/◌, ◌%◌, bit_and, None, false, IfOk, OnOk, OnErr};
+ghost use Rattle.std.specs.Prelude.{◌≡◌, ◌≢◌, ◌+◌, ◌*◌, ◌/◌, ◌%◌, bit_and, None, false, string_bytes, IfOk, IsNone, IsSome, OnOk, OnErr};
 ghost use Rattle.std.specs.Io.{WritesAtMost};
 ghost use Rattle.ged_devices.specs.Devices.{failed_after};
+ghost use Rattle.ged_devices.specs.Paths.{IsBeside, IsFolderOf, new_path};
 
 use crate::devices::{Failed, Sink};
 use crate::reasons::Reason;
@@ -15,7 +16,7 @@ use std::rt::Files;
 /// How many names are tried for a new file.
 const TRIES: u64 = 100;
 
-/// The most bytes of a new file's name.
+/// Room for a new file's name, in bytes: more than the longest one has.
 const NAME_ROOM: usize = 40;
 
 /// Who may read and write a new file that is still to get the permissions of another: who runs the program.
@@ -72,8 +73,12 @@ pub struct NewFile<'a, F: Files> {
     kept: Option<Kept>,
     file: Option<F::File>,
     /// What has become of it.
-    pub fate: Fate,
+    pub(crate) fate: Fate,
     pub(crate) failed: bool,
+    // the folder is that of the file whose place it is to take
+    ghost in_folder: { ∥ IsFolderOf (string_bytes target) (string_bytes folder) ∥₁ },
+    // once it is created it stands beside that file
+    ghost beside: { IsSome file → ∥ IsBeside (string_bytes target) (string_bytes path) ∥₁ },
 }
 
 impl<'a, F: Files> NewFile<'a, F> {
@@ -108,6 +113,7 @@ impl<'a, F: Files> NewFile<'a, F> {
     /// Creates the file under the first name that no other has, with the permissions that it keeps of the file whose place it is to
     /// take.
     fn create(&mut self) -> io::Result<()>
+        requires { IsNone self.old.file }
         ensures { (self.new.failed ≡ self.old.failed) × (self.new.fate ≡ self.old.fate) }
     {
         let file = self.open_new()?;
@@ -120,7 +126,10 @@ impl<'a, F: Files> NewFile<'a, F> {
     }
 
     fn open_new(&mut self) -> io::Result<F::File>
-        ensures { (self.new.failed ≡ self.old.failed) × (self.new.fate ≡ self.old.fate) }
+        requires { IsNone self.old.file }
+        ensures none { IsNone self.new.file }
+        ensures stays { (self.new.failed ≡ self.old.failed) × (self.new.fate ≡ self.old.fate) }
+        ensures named { OnOk result ∥ IsBeside (string_bytes self.new.target) (string_bytes self.new.path) ∥₁ }
     {
         for number in 0..TRIES {
             self.name(number)?;
@@ -134,7 +143,10 @@ impl<'a, F: Files> NewFile<'a, F> {
 
     /// The path by which the file is created next. Its room is there, so that no memory is taken.
     fn name(&mut self, number: u64) -> io::Result<()>
-        ensures { (self.new.failed ≡ self.old.failed) × (self.new.fate ≡ self.old.fate) }
+        requires { IsNone self.old.file }
+        ensures none { IsNone self.new.file }
+        ensures stays { (self.new.failed ≡ self.old.failed) × (self.new.fate ≡ self.old.fate) }
+        ensures named { OnOk result (string_bytes self.new.path ≡ new_path (string_bytes self.new.folder) number) }
     {
         let mut buffer = Buffer::new();
         self.path.clear();
@@ -314,7 +326,9 @@ fn metadata_of<F: Files>(files: &F, path: &str) -> io::Result<Option<Metadata>> 
 }
 
 /// The folder of the file of this path, with its slash; nothing where the path has none.
-fn folder_of(alloc: Global, path: &str) -> io::Result<String> {
+fn folder_of(alloc: Global, path: &str) -> io::Result<String>
+    ensures { IfOk result (λ folder. IsFolderOf path.now (string_bytes folder)) }
+{
     match path.rsplit_once('/') {
         Some((folder, _)) => {
             let mut folder = String::from_str(alloc, folder)?;

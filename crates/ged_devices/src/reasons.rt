@@ -59,7 +59,8 @@ fn words_of(kind: ErrorKind) -> &'static str {
         ErrorKind::FilesystemLoop => "too many symbolic links",
         ErrorKind::InvalidFilename => "file name too long",
         ErrorKind::BrokenPipe => "broken pipe",
-        ErrorKind::AlreadyExists => "all names for a new file are taken",
+        ErrorKind::AlreadyExists =>
+            "all names for a new file are taken: remove .gedtool-0.new to .gedtool-99.new",
         _ => "",
     }
 }

@@ -18,7 +18,7 @@ fn main(rt: HostRuntime) -> ExitCode {
         output: Output::new(Noted::new(rt.stdout(), &reason)),
         errors: rt.stderr(),
     };
-    let disk = Disk::new(&rt, &reason);
-    let status = perform(rt.alloc(), &disk, words_of(&rt), &mut streams);
+    let mut disk = Disk::new(&rt, &reason);
+    let status = perform(rt.alloc(), &mut disk, words_of(&rt), &mut streams);
     ExitCode::from(status)
 }

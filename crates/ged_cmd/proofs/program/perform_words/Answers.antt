@@ -23,6 +23,6 @@ performed files to_come failed taken write_failed fate words input writer status
 
 pub returns-in-Ok-clause-performs : goal.returns-in-Ok-clause-performs
 returns-in-Ok-clause-performs g c =
-    performed (g.S.Shelf.files c.args.shelf.now) g.S.Device.Source.to_come g.S.Device.Source.failed g.S.Draft.Sink.taken g.S.Draft.Sink.failed g.S.Draft.Sink.fate
+    performed (g.S.Shelf.files (g.S.Shelf.stock c.args.shelf.now)) g.S.Device.Source.to_come g.S.Device.Source.failed g.S.Draft.Sink.taken g.S.Draft.Sink.failed g.S.Draft.Sink.fate
     (map string_bytes c.args.words.now) _ _ c.obey_matches.result c.in-Ok.ensures.no_mistake _
     (sym (ap (option_and_then task_of_match) c.in-Ok.ensures.matched)) c.obey_matches.ensures.obeyed

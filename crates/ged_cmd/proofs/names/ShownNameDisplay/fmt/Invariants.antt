@@ -1,0 +1,8 @@
+use Rattle.std.proofs.Common.{flat_map}
+use Rattle.std.specs.Fmt.{HasWritten, IsPlainFormatter}
+use Rattle.ged_cmd.specs.inner.Names.{shown_character}
+use Rattle.ged_cmd.proofs.names.ShownNameDisplay.fmt.Given as goal
+
+abbrev pub invariant-loop-character : goal.invariant-loop-character
+invariant-loop-character g l =
+    IsPlainFormatter l.initial.f → HasWritten g.W.Write.write_str_gives l.initial.f (flat_map shown_character l.yielded) l.f
