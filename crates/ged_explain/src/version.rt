@@ -6,10 +6,12 @@ use ged_line::{ValueView, split_pieces, view_line};
 use ged_value::{Given, Kind, fits};
 
 /// Says that the file is of another version. The fault of the version says so itself; with any other one the file would be mended by
-/// hand, line by line, where it only has to be exported again.
+/// hand, line by line, where it only has to be exported again. What is a notice is told of a file whose version is read: the header is
+/// not looked at, so that many notices do not read it many times.
 pub(crate) fn say_other_version(kind: FileFault, bytes: &[u8], told: &mut Explanation) {
-    if let FileFault::WrongVersion = kind {
-        return;
+    match kind {
+        FileFault::WrongVersion | FileFault::OneWayLink | FileFault::UnlistedTag => return,
+        _ => {}
     }
     if let Some((line, value)) = version_in(bytes) {
         let version = text_of(value);
