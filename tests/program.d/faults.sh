@@ -55,3 +55,16 @@ check_faults() {
     expect "check of a person with two sexes" 1 "" "fault 22 at line 9: TooMany" ./gedtool check examples/two-sexes.ged
     expect "canon of a file without a trailer" 1 "" "fault 16 at line 4: NoTrailer" given "$header" ./gedtool canon
 }
+
+# A record with a long tag, to which a person has many links. A program that reads the tag again for each of them takes far longer.
+check_long_target() {
+    local at=$room/long-target.ged
+    {
+        printf "$header"
+        printf '0 @F@ _%0400000d\n0 INDI\n' 0
+        printf '1 FAMS @F@\n%.0s' {1..60000}
+        printf "$end"
+    } >"$at"
+    expect "many links to a record with a long tag" 1 "" "fault 21 at line 6: WrongTarget" timeout 5 ./gedtool check "$at"
+    rm -- "$at"
+}

@@ -1,5 +1,8 @@
 -- The record that a name leads to, and its type.
-use Rattle.std.proofs.Common.{◌≡◌, ◌↔◌, ℕ, List, Option, Some, None, option_map, sym, ap, subst, ◌∙◌, refl, slice_index_or}
+use Rattle.std.proofs.Common.{◌≡◌, ◌↔◌, ℕ, Bool, IsTrue, List, Option, Some, None, IfSome, option_map, sym, ap, subst, ◌∙◌, refl, slice_index_or}
+use Rattle.std.specs.Str.{bytes_eq}
+use Rattle.std.proofs.lemmas.Bool.Decides.{same_from_decides}
+use Rattle.std.proofs.lemmas.Slice.Eq.{bytes_eq-Decides}
 use Rattle.ged_line.specs.Bytes.{Bytes}
 use Rattle.ged_tree.specs.Trees.{Trees}
 use Rattle.ged_tree.specs.Places.{structure_at}
@@ -7,8 +10,19 @@ use Rattle.ged_link.specs.declared.index.RecordPlace.{RecordPlace}
 use Rattle.ged_link.specs.declared.names.Names.{Names}
 use Rattle.ged_link.specs.declared.record_type.RecordType.{RecordType}
 use Rattle.ged_link.specs.Links.{IsRecordNumber}
-use Rattle.ged_link.specs.RecordTypes.{record_tag, HasRecordOf}
+use Rattle.ged_link.specs.RecordTypes.{record_tag, HasRecordOf, IsTypeOf}
 use Rattle.ged_link.specs.Indexes.{found_in, place_in, AreRecords, AreTyped}
+
+-- the type of a record that is found is listed by its number
+pub found_typed : (d : Trees) (records : Names) (types : List (Option RecordType)) (name : Bytes) (o : Option RecordPlace) → AreTyped d records types
+    → o ≡ found_in records name → IfSome o (λ r. IsTypeOf (slice_index_or types r.number None) (structure_at d r.place).tag)
+found_typed d records types name None typed is = tt
+found_typed d records types name (Some found) typed is = typed name found (sym is)
+
+-- a type that is known tells whether the tag is that of a type
+pub tag_tested : (known : Option RecordType) (tag : Bytes) (wanted : RecordType) (b : Bool) → IsTypeOf known tag → (IsTrue b ↔ (known ≡ Some wanted)) → b ≡ bytes_eq tag (record_tag wanted)
+tag_tested known tag wanted b typed is =
+    same_from_decides b (bytes_eq tag (record_tag wanted)) (λ e. (typed wanted).0 (is.0 e), λ e. is.1 ((typed wanted).1 e)) (bytes_eq-Decides tag (record_tag wanted))
 
 pub one_place : (x y : ℕ) → Some x ≡ Some y → x ≡ y
 one_place x y e = cc

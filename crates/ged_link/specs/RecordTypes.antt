@@ -1,4 +1,4 @@
--- The types of the records that pointers lead to (FamilySearch GEDCOM 7.0, "Structure Organization").
+-- The types of the records to which the pointers lead that the structure tables ask for (FamilySearch GEDCOM 7.0, "Structure Organization").
 use Rattle.std.specs.Prelude.{◌≡◌, ℕ, ◌↔◌, Option, Some, codes}
 use Rattle.ged_line.specs.Bytes.{Bytes}
 use Rattle.ged_tree.specs.Trees.{Trees}

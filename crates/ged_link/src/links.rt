@@ -1,9 +1,11 @@
 // Links between persons and families: those that the other record answers, and those in one direction only.
-ghost use Rattle.std.specs.Prelude.{◌≡◌, ◌<◌, ◌+◌, IfOk, OnOk, ◌++◌, option_map};
+ghost use Rattle.std.specs.Prelude.{◌≡◌, ◌<◌, ◌+◌, None, IfOk, IfSome, OnOk, ◌++◌, option_map, slice_index_or};
 ghost use Rattle.ged_tree.specs.Trees.{trees_count};
 ghost use Rattle.ged_tree.specs.Places.{structure_at};
 ghost use Rattle.ged_tree.specs.Runs.{trees_between, IsRunOfTrees};
-ghost use Rattle.ged_link.specs.Indexes.{AreRecords, place_in};
+ghost use Rattle.ged_link.specs.Indexes.{place_in};
+ghost use Rattle.ged_link.specs.RecordTypes.{IsTypeOf, record_tag as tag_of_type};
+ghost use Rattle.ged_link.specs.inner.Resolving.{AreKnown};
 ghost use Rattle.ged_link.specs.inner.LinkWalks.{role_under, target, one_way_below, one_way_places};
 ghost use Rattle.ged_link.specs.inner.LinkWalks.{is_one_way as one_way_under, other_tag as tag_of_other};
 ghost use Rattle.ged_link.specs.inner.PairSets.{AreLinks, AreInOrder};
@@ -11,8 +13,9 @@ ghost use Rattle.ged_link.specs.declared.index.RecordPlace.{RecordPlace};
 
 use crate::index::RecordPlace;
 use crate::link_lists::LinkLists;
-use crate::names::Names;
 use crate::pairs::{Role, are_answered, has};
+use crate::pointers::Records;
+use crate::record_type::{RecordType, has_tag_of};
 use ged_tree::{Forest, PayloadView, end_of_all, next_in_run};
 use std::alloc::{AllocError, Global};
 
@@ -42,30 +45,36 @@ pub(crate) fn role_of(record_tag: &str, tag: &str) -> Option<Role>
     }
 }
 
-/// The record that the structure at a place points to.
-fn target_of<F: Forest>(forest: &F, records: &Names, place: usize) -> Option<RecordPlace>
-    requires { place < trees_count (F.trees forest.now) }
-    ensures { option_map (λ (r : RecordPlace). r.place) result ≡ target (place_in records.now) (structure_at (F.trees forest.now) place).payload }
+/// The record that the structure at a place points to. Its type is listed by its number.
+fn target_of<F: Forest>(forest: &F, records: &Records<'_>, place: usize) -> Option<RecordPlace>
+    requires within { place < trees_count (F.trees forest.now) }
+    requires records { AreKnown (F.trees forest.now) records.now }
+    ensures place { option_map (λ (r : RecordPlace). r.place) result ≡ target (place_in records.now.names.now) (structure_at (F.trees forest.now) place).payload }
+    ensures typed { IfSome result (λ r. IsTypeOf (slice_index_or records.now.types.now r.number None) (structure_at (F.trees forest.now) r.place).tag) }
 {
     match forest.payload(place) {
-        PayloadView::Pointer(name) => records.find(name),
+        PayloadView::Pointer(name) => records.names.find(name),
         PayloadView::Void | PayloadView::Text(_) => None,
     }
 }
 
-/// The tag of the records that the links of persons, or of families, lead to.
-fn other_tag(record_tag: &str) -> &'static str
-    ensures { result.now ≡ tag_of_other record_tag.now }
+/// The type of the records that the links of persons, or of families, lead to.
+fn other_type(record_tag: &str) -> RecordType
+    ensures { tag_of_type result ≡ tag_of_other record_tag.now }
 {
-    if record_tag == "INDI" { "FAM" } else { "INDI" }
+    if record_tag == "INDI" {
+        RecordType::Fam
+    } else {
+        RecordType::Indi
+    }
 }
 
 /// Whether a structure directly under a record with a tag is a link that the other record does not answer. A pointer that is no link
-/// is not looked up.
+/// is not looked up, and the tag of the other record, which may stand on a long line, is not read again for each link.
 #[tactic(auto, using(crate::proofs::WalkLemmas::not_one_way))]
 fn is_one_way<F: Forest>(
     forest: &F,
-    records: &Names,
+    records: &Records<'_>,
     lists: &LinkLists,
     from: usize,
     record_tag: &str,
@@ -73,10 +82,10 @@ fn is_one_way<F: Forest>(
 ) -> bool
     requires record_tag { record_tag.now ≡ (structure_at (F.trees forest.now) from).tag }
     requires within { place < trees_count (F.trees forest.now) }
-    requires records { AreRecords (F.trees forest.now) records.now }
-    requires links { AreLinks (place_in records.now) (F.trees forest.now) lists.now }
+    requires records { AreKnown (F.trees forest.now) records.now }
+    requires links { AreLinks (place_in records.now.names.now) (F.trees forest.now) lists.now }
     requires ordered { AreInOrder lists.now }
-    ensures { result ≡ one_way_under (place_in records.now) (F.trees forest.now) (structure_at (F.trees forest.now) from).tag from (structure_at (F.trees forest.now) place) }
+    ensures { result ≡ one_way_under (place_in records.now.names.now) (F.trees forest.now) (structure_at (F.trees forest.now) from).tag from (structure_at (F.trees forest.now) place) }
 {
     let Some(role) = role_of(record_tag, forest.tag(place)) else {
         return false;
@@ -84,14 +93,15 @@ fn is_one_way<F: Forest>(
     let Some(other) = target_of(forest, records, place) else {
         return false;
     };
-    !has(lists, role, other, from) && forest.tag(other.place) == other_tag(record_tag)
+    !has(lists, role, other, from)
+        && has_tag_of(records.types, other.number, other_type(record_tag))
 }
 
 /// Adds the places of a record's links in one direction only.
 #[tactic(auto, using(crate::proofs::WalkLemmas::one_ways))]
 fn push_one_way<F: Forest>(
     forest: &F,
-    records: &Names,
+    records: &Records<'_>,
     lists: &LinkLists,
     from: usize,
     end: usize,
@@ -99,11 +109,11 @@ fn push_one_way<F: Forest>(
 ) -> Result<(), AllocError>
     requires within { from < trees_count (F.trees forest.now) }
     requires run { IsRunOfTrees (F.trees forest.now) (from + 1) end }
-    requires records { AreRecords (F.trees forest.now) records.now }
-    requires links { AreLinks (place_in records.now) (F.trees forest.now) lists.now }
+    requires records { AreKnown (F.trees forest.now) records.now }
+    requires links { AreLinks (place_in records.now.names.now) (F.trees forest.now) lists.now }
     requires ordered { AreInOrder lists.now }
     ensures { OnOk result (places.new.items ≡ places.old.items
-        ++ one_way_below (place_in records.now) (F.trees forest.now) (structure_at (F.trees forest.now) from).tag from (from + 1) (trees_between (F.trees forest.now) (from + 1) end)) }
+        ++ one_way_below (place_in records.now.names.now) (F.trees forest.now) (structure_at (F.trees forest.now) from).tag from (from + 1) (trees_between (F.trees forest.now) (from + 1) end)) }
 {
     let record_tag = forest.tag(from);
     let mut place = from + 1;
@@ -121,13 +131,13 @@ fn push_one_way<F: Forest>(
 fn search_one_way<F: Forest>(
     alloc: Global,
     forest: &F,
-    records: &Names,
+    records: &Records<'_>,
     lists: &LinkLists,
 ) -> Result<Vec<usize>, AllocError>
-    requires records { AreRecords (F.trees forest.now) records.now }
-    requires links { AreLinks (place_in records.now) (F.trees forest.now) lists.now }
+    requires records { AreKnown (F.trees forest.now) records.now }
+    requires links { AreLinks (place_in records.now.names.now) (F.trees forest.now) lists.now }
     requires ordered { AreInOrder lists.now }
-    ensures { IfOk result (λ places. places.items ≡ one_way_places (place_in records.now) (F.trees forest.now) 0 (F.trees forest.now)) }
+    ensures { IfOk result (λ places. places.items ≡ one_way_places (place_in records.now.names.now) (F.trees forest.now) 0 (F.trees forest.now)) }
 {
     let mut places = Vec::new(alloc);
     let end = end_of_all(forest);
@@ -144,12 +154,12 @@ fn search_one_way<F: Forest>(
 pub(crate) fn find_one_way<F: Forest>(
     alloc: Global,
     forest: &F,
-    records: &Names,
+    records: &Records<'_>,
     mut lists: LinkLists,
 ) -> Result<Vec<usize>, AllocError>
-    requires records { AreRecords (F.trees forest.now) records.now }
-    requires links { AreLinks (place_in records.now) (F.trees forest.now) lists }
-    ensures { IfOk result (λ places. places.items ≡ one_way_places (place_in records.now) (F.trees forest.now) 0 (F.trees forest.now)) }
+    requires records { AreKnown (F.trees forest.now) records.now }
+    requires links { AreLinks (place_in records.now.names.now) (F.trees forest.now) lists }
+    ensures { IfOk result (λ places. places.items ≡ one_way_places (place_in records.now.names.now) (F.trees forest.now) 0 (F.trees forest.now)) }
 {
     if are_answered(&lists) {
         return Ok(Vec::new(alloc));

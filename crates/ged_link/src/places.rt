@@ -79,7 +79,8 @@ fn move_on(places: &[u32], place: usize, cursor: &mut RecordCursor)
     }
 }
 
-/// The same for a cursor that stands elsewhere. It is moved first, behind records at lower places: those near it, or all.
+/// What [`next_record`] answers, for a cursor that stands elsewhere. It is moved first, behind records at lower places: those near it,
+/// or all.
 #[cold]
 #[inline(never)]
 pub(crate) fn searched_record(

@@ -1,5 +1,7 @@
 // The types of the records that pointers lead to.
 ghost use Rattle.std.specs.Prelude.{◌≡◌, ◌↔◌, Some, None, IsTrue, slice_index_or, option_map};
+ghost use Rattle.std.specs.Str.{bytes_eq};
+ghost use Rattle.ged_line.specs.Bytes.{Bytes};
 ghost use Rattle.ged_link.specs.RecordTypes.{IsTypeOf, record_tag};
 ghost use Rattle.ged_link.specs.LedByTags.{led_by};
 ghost use Rattle.ged_link.specs.inner.Resolving.{LeadsAsTagged};
@@ -43,6 +45,14 @@ pub(crate) fn is_typed(types: &[Option<RecordType>], number: usize, wanted: Reco
     ensures { IsTrue result ↔ (slice_index_or types.now number None ≡ Some wanted) }
 {
     types.get(number).copied().unwrap_or(None) == Some(wanted)
+}
+
+/// The same for a record of which the tag is known to a proof alone: whether it is that of the type's records.
+#[inline(always)]
+pub(crate) fn has_tag_of(types: &[Option<RecordType>], number: usize, wanted: RecordType) -> bool
+    ensures { (tag : Bytes) → IsTypeOf (slice_index_or types.now number None) tag → result ≡ bytes_eq tag (record_tag wanted) }
+{
+    is_typed(types, number, wanted)
 }
 
 /// The type of the records that a pointer with a tag leads to, or `None` where its tag alone does not say it. The most frequent

@@ -86,7 +86,7 @@ fn resolve_listed<F: Forest>(
         types: &types,
     };
     let (followed, lists) = follow_pointers(alloc, forest, &known, none)?;
-    let one_way = find_one_way(alloc, forest, &names, lists)?;
+    let one_way = find_one_way(alloc, forest, &known, lists)?;
     Ok(Index {
         records: names,
         types,

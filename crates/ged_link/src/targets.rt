@@ -101,7 +101,8 @@ fn move_near(targets: &[Target], place: usize, cursor: &mut PointerCursor)
     }
 }
 
-/// The same for a cursor that stands elsewhere. It is moved first, behind the pointers of lower places that stand near it, or behind all.
+/// What [`next_number`] answers, for a cursor that stands elsewhere. It is moved first, behind the pointers of lower places that stand near
+/// it, or behind all.
 pub(crate) fn searched_number(
     targets: &[Target],
     place: usize,

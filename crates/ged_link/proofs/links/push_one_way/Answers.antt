@@ -14,6 +14,6 @@ loop-after-preserved-in_ok-push g c =
     let step : IsStep w p e a = c.in-Some.ensures in
     record {
       run = step.rest;
-      told = one_way_pushed (place_in c.args.records.now) w (structure_at w c.args.from).tag c.args.from p a (trees_between w p e) (structure_at w p) (trees_between w (p + 1) a) (trees_between w a e) c.loop-after.places.items c.push.new.self.items step.first step.below.fills
+      told = one_way_pushed (place_in c.args.records.now.names.now) w (structure_at w c.args.from).tag c.args.from p a (trees_between w p e) (structure_at w p) (trees_between w (p + 1) a) (trees_between w a e) c.loop-after.places.items c.push.new.self.items step.first step.below.fills
           (sym c.is_one_way.ensures ∙ c.if-is_one_way.true) c.in_ok-push.ensures.items ∙ c.loop-after.invariant.told;
     }

@@ -8,7 +8,7 @@ use Rattle.ged_link.proofs.links.push_one_way.Given as goal
 abbrev pub invariant-loop-after : goal.invariant-loop-after
 invariant-loop-after g l =
     let trees = g.F.Forest.trees l.forest in
-    let below = one_way_below (place_in l.records) trees (structure_at trees l.from).tag l.from in
+    let below = one_way_below (place_in l.records.names.now) trees (structure_at trees l.from).tag l.from in
     record {
       run : IsRunOfTrees trees l.place l.end;
       told : l.places.items ++ below l.place (trees_between trees l.place l.end) ≡ l.fn.places.items ++ below (l.from + 1) (trees_between trees (l.from + 1) l.end);

@@ -9,7 +9,7 @@ invariant-loop-after g l =
     let trees = g.F.Forest.trees l.forest in
     record {
       run : IsRunOfTrees trees l.place l.end;
-      told : l.places.items ++ one_way_places (place_in l.records) trees l.place (trees_between trees l.place l.end) ≡ one_way_places (place_in l.records) trees 0 trees;
+      told : l.places.items ++ one_way_places (place_in l.records.names.now) trees l.place (trees_between trees l.place l.end) ≡ one_way_places (place_in l.records.names.now) trees 0 trees;
     }
 
 abbrev pub decreases-loop-after : goal.decreases-loop-after

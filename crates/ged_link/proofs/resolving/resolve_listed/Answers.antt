@@ -30,3 +30,10 @@ follow_pointers-requires-clause-records g c = record {
   named = c.in_ok-names.ensures.records;
   typed = rw c.deref.ensures.value c.in_ok-names.ensures.types;
 }
+
+pub find_one_way-requires-clause-records : goal.find_one_way-requires-clause-records
+find_one_way-requires-clause-records g c = record {
+  document = c.requires.document;
+  named = c.in_ok-names.ensures.records;
+  typed = rw c.deref.ensures.value c.in_ok-names.ensures.types;
+}
