@@ -25,6 +25,7 @@ use Rattle.ged_faults.specs.declared.faults.Outcome.TheVariants.{Done, Failed}
 use Rattle.ged_devices.specs.declared.drafts.Fate.{Fate}
 use Rattle.ged_devices.specs.declared.drafts.Fate.TheVariants.{Pending, Placed, Dropped}
 use Rattle.ged_cmd.specs.CommandLine.{gedtool}
+use Rattle.ged_cmd.specs.Shelves.{ShelfCall, drafting, opening, opening_named}
 use Rattle.ged_cmd.specs.Tasks.{Task, asked, digest, explain, input_same, is_input, run, same}
 use Rattle.ged_tool.specs.Limits.{greatest_limit}
 
@@ -138,25 +139,25 @@ IsWrittenOn before next = (before.failed ≡ false) × (next.taken ≡ before.ho
 abbrev pub written_in_all : (before next : Writer) → Writer
 written_in_all before next = record { taken = before.taken; holds = next.holds; failed = next.failed }
 
--- Digests are told of files, one after the other: at first nothing is read or written; each file that has a name is opened
--- and its digest told, or it can't be opened; and one whose name stands for standard input is read from there. Once the
--- output has failed nothing more is done. The outcome is the gravest of all.
-pub data AreDigested {D T : Type 0} (files : Files D T) (to_come : D → Option (List ℕ)) (failed : D → Bool) (profile : Profile) (edition : Edition) : List Text → (input : Reader) → Writer → Outcome → Type 0 where
+-- Digests are told of files, one after the other, while these calls are made: at first nothing is read or written; each file that
+-- has a name is opened and its digest told, or it can't be opened; and one whose name stands for standard input is read from there.
+-- Once the output has failed nothing more is done, and no file opened. The outcome is the gravest of all.
+pub data AreDigested {D T : Type 0} (files : Files D T) (to_come : D → Option (List ℕ)) (failed : D → Bool) (profile : Profile) (edition : Edition) : List Text → (input : Reader) → Writer → (made : List ShelfCall) → Outcome → Type 0 where
   at_first : {input : Reader} {writer : Writer} → IsUnread input → IsUnwritten writer
-      → AreDigested files to_come failed profile edition [] input writer Done
-  and_file : {names : List Text} {input : Reader} {writer : Writer} {before : Outcome} (name : Text) (next : Writer) (outcome : Outcome)
-      → AreDigested files to_come failed profile edition names input writer before
+      → AreDigested files to_come failed profile edition [] input writer [] Done
+  and_file : {names : List Text} {input : Reader} {writer : Writer} {made : List ShelfCall} {before : Outcome} (name : Text) (next : Writer) (outcome : Outcome)
+      → AreDigested files to_come failed profile edition names input writer made before
       → IsWrittenOn writer next → is_input name ≡ false
       → IsNotOpened (files.refuses name) None next outcome
       ⊎ SomeFile (files.opens name) to_come failed (λ file. IsDigested profile edition name file next outcome)
-      → AreDigested files to_come failed profile edition (names ++ name ∷ []) input (written_in_all writer next) (graver before outcome)
-  and_input : {names : List Text} {input : Reader} {writer : Writer} {before : Outcome} (name : Text) (reader : Reader) (next : Writer) (outcome : Outcome)
-      → AreDigested files to_come failed profile edition names input writer before
+      → AreDigested files to_come failed profile edition (names ++ name ∷ []) input (written_in_all writer next) (made ++ opening name ∷ []) (graver before outcome)
+  and_input : {names : List Text} {input : Reader} {writer : Writer} {made : List ShelfCall} {before : Outcome} (name : Text) (reader : Reader) (next : Writer) (outcome : Outcome)
+      → AreDigested files to_come failed profile edition names input writer made before
       → IsWrittenOn writer next → is_input name ≡ true → IsReadOn input reader → IsDigested profile edition name reader next outcome
-      → AreDigested files to_come failed profile edition (names ++ name ∷ []) (read_in_all input reader) (written_in_all writer next) (graver before outcome)
-  and_nothing : {names : List Text} {input : Reader} {writer : Writer} {before : Outcome} (name : Text)
-      → AreDigested files to_come failed profile edition names input writer before → IsTrue writer.failed
-      → AreDigested files to_come failed profile edition (names ++ name ∷ []) input writer before
+      → AreDigested files to_come failed profile edition (names ++ name ∷ []) (read_in_all input reader) (written_in_all writer next) made (graver before outcome)
+  and_nothing : {names : List Text} {input : Reader} {writer : Writer} {made : List ShelfCall} {before : Outcome} (name : Text)
+      → AreDigested files to_come failed profile edition names input writer made before → IsTrue writer.failed
+      → AreDigested files to_come failed profile edition (names ++ name ∷ []) input writer made before
 
 module _ {D T : Type 0} where
   -- a command over the file of a name, or over standard input where none is named
@@ -176,30 +177,36 @@ module _ {D T : Type 0} where
       × done (writer taken write_failed draft left)
       × (fate left ≡ fate_of outcome)
 
-  -- What the program does for a task, over the files of which `files` tells, and standard input. Both files of a comparison
-  -- are opened before one is read.
+  -- What the program does for a task, over the files of which `files` tells, and standard input, and the calls that it makes for
+  -- these files, each once: no file is opened where the one before could not be opened or replaced. Where the second file of a
+  -- comparison can't be opened, nothing is read of the first.
   abbrev pub IsDone : Files D T → (to_come : D → Option (List ℕ)) → (failed : D → Bool)
-      → (taken : T → Option (List ℕ)) → (write_failed : T → Bool) → (fate : T → Fate) → Task → (input : Reader) → Writer → Outcome → Type 0
-  IsDone files to_come failed taken write_failed fate (run profile edition command file None) input output outcome =
-      IsOver files to_come failed profile edition command file input output outcome
-  IsDone files to_come failed taken write_failed fate (run profile edition command file (Some name)) input output outcome =
-      IsUnwritten output × (IsWithheld (files.withholds name) input outcome
-      ⊎ IsPut files taken write_failed fate name (λ writer. IsOver files to_come failed profile edition command file input writer outcome)
-      outcome)
-  IsDone files to_come failed taken write_failed fate (same form profile edition first None) input output outcome =
-      (IsUnread input × IsNotOpened (files.refuses first) (Some First) output outcome)
-      ⊎ SomeFile (files.opens first) to_come failed (λ file. IsCompared form profile edition file input output outcome)
-  IsDone files to_come failed taken write_failed fate (same form profile edition first (Some second)) input output outcome =
-      IsUnread input × (IsNotOpened (files.refuses first) (Some First) output outcome
-      ⊎ SomeFile (files.opens first) to_come failed (λ file. IsUnread file × IsNotOpened (files.refuses second) (Some Second) output outcome)
+      → (taken : T → Option (List ℕ)) → (write_failed : T → Bool) → (fate : T → Fate)
+      → Task → (input : Reader) → Writer → (made : List ShelfCall) → Outcome → Type 0
+  IsDone files to_come failed taken write_failed fate (run profile edition command file None) input output made outcome =
+      IsOver files to_come failed profile edition command file input output outcome × (made ≡ opening_named file)
+  IsDone files to_come failed taken write_failed fate (run profile edition command file (Some name)) input output made outcome =
+      IsUnwritten output × ((IsWithheld (files.withholds name) input outcome × (made ≡ drafting name ∷ []))
+      ⊎ (IsPut files taken write_failed fate name (λ writer. IsOver files to_come failed profile edition command file input writer outcome)
+      outcome × (made ≡ drafting name ∷ opening_named file)))
+  IsDone files to_come failed taken write_failed fate (same form profile edition first None) input output made outcome =
+      ((IsUnread input × IsNotOpened (files.refuses first) (Some First) output outcome)
+      ⊎ SomeFile (files.opens first) to_come failed (λ file. IsCompared form profile edition file input output outcome))
+      × (made ≡ opening first ∷ [])
+  IsDone files to_come failed taken write_failed fate (same form profile edition first (Some second)) input output made outcome =
+      IsUnread input × ((IsNotOpened (files.refuses first) (Some First) output outcome × (made ≡ opening first ∷ []))
+      ⊎ ((SomeFile (files.opens first) to_come failed (λ file. IsUnread file × IsNotOpened (files.refuses second) (Some Second) output outcome)
       ⊎ SomeFile (files.opens first) to_come failed (λ file. SomeFile (files.opens second) to_come failed (λ other.
       IsCompared form profile edition file other output outcome)))
-  IsDone files to_come failed taken write_failed fate (input_same form profile edition second) input output outcome =
-      (IsUnread input × IsNotOpened (files.refuses second) (Some Second) output outcome)
-      ⊎ SomeFile (files.opens second) to_come failed (λ file. IsCompared form profile edition input file output outcome)
-  IsDone files to_come failed taken write_failed fate (explain named) input output outcome = IsExplained input output outcome
-  IsDone files to_come failed taken write_failed fate (digest profile edition names) input output outcome =
-      AreDigested files to_come failed profile edition names input output outcome
+      × (made ≡ opening first ∷ opening second ∷ [])))
+  IsDone files to_come failed taken write_failed fate (input_same form profile edition second) input output made outcome =
+      ((IsUnread input × IsNotOpened (files.refuses second) (Some Second) output outcome)
+      ⊎ SomeFile (files.opens second) to_come failed (λ file. IsCompared form profile edition input file output outcome))
+      × (made ≡ opening second ∷ [])
+  IsDone files to_come failed taken write_failed fate (explain named) input output made outcome =
+      IsExplained input output outcome × (made ≡ [])
+  IsDone files to_come failed taken write_failed fate (digest profile edition names) input output made outcome =
+      AreDigested files to_come failed profile edition names input output made outcome
 
 -- The status for words that clap refuses: 3 for want of memory, and for help or the version that can't be written, which
 -- else is 0; 2 for a mistake.
@@ -209,8 +216,8 @@ refusal_status DisplayHelp failed = if failed then 3 else 0
 refusal_status DisplayVersion failed = if failed then 3 else 0
 refusal_status kind failed = 2
 
--- The words are refused: memory is wanting, or they have one of the faults that clap finds in them. Nothing is read, and
--- something is written only where help or the version is asked for.
+-- The words are refused: memory is wanting, or they have one of the faults that clap finds in them. Nothing is read of standard
+-- input, and something is written to standard output only where help or the version is asked for.
 pub record IsRefused (words : List Text) (input : Reader) (writer : Writer) (status : ℕ) : Type 0 where
   pub kind : ErrorKind
   pub found : (kind ≡ OutOfMemory) ⊎ IsAmong kind (fault_of gedtool words)
@@ -220,20 +227,21 @@ pub record IsRefused (words : List Text) (input : Reader) (writer : Writer) (sta
 
 module _ {D T : Type 0} where
   -- what the words ask for is done, and the status is the outcome's
-  pub record IsObeyed (files : Files D T) (to_come : D → Option (List ℕ)) (failed : D → Bool) (taken : T → Option (List ℕ)) (write_failed : T → Bool) (fate : T → Fate) (words : List Text) (input : Reader) (writer : Writer) (status : ℕ) : Type 0 where
+  pub record IsObeyed (files : Files D T) (to_come : D → Option (List ℕ)) (failed : D → Bool) (taken : T → Option (List ℕ)) (write_failed : T → Bool) (fate : T → Fate) (words : List Text) (input : Reader) (writer : Writer) (made : List ShelfCall) (status : ℕ) : Type 0 where
     pub task : Task
     pub outcome : Outcome
     pub faultless : fault_of gedtool words ≡ []
     pub task_asked : asked words ≡ Some task
-    pub done : IsDone files to_come failed taken write_failed fate task input writer outcome
+    pub done : IsDone files to_come failed taken write_failed fate task input writer made outcome
     pub told : status ≡ status_of outcome
 
   -- What the program does for the words of its command line. Words without a fault that ask for nothing are a mistake:
   -- those under which both files of `same`, or two of `digest`, would be standard input, and a word of `explain` that is of no fault.
+  -- Where words are refused or a mistake, no file is opened and no new one prepared.
   abbrev pub Performs : Files D T → (to_come : D → Option (List ℕ)) → (failed : D → Bool)
       → (taken : T → Option (List ℕ)) → (write_failed : T → Bool) → (fate : T → Fate)
-      → (words : List Text) → (input : Reader) → Writer → (status : ℕ) → Type 0
-  Performs files to_come failed taken write_failed fate words input writer status =
-      IsRefused words input writer status
-      ⊎ IsObeyed files to_come failed taken write_failed fate words input writer status
-      ⊎ ((fault_of gedtool words ≡ []) × (asked words ≡ None) × IsUnread input × IsUnwritten writer × (status ≡ 2))
+      → (words : List Text) → (input : Reader) → Writer → (made : List ShelfCall) → (status : ℕ) → Type 0
+  Performs files to_come failed taken write_failed fate words input writer made status =
+      (IsRefused words input writer status × (made ≡ []))
+      ⊎ IsObeyed files to_come failed taken write_failed fate words input writer made status
+      ⊎ ((fault_of gedtool words ≡ []) × (asked words ≡ None) × IsUnread input × IsUnwritten writer × (made ≡ []) × (status ≡ 2))

@@ -1,5 +1,6 @@
 pub mod CommandLine
 pub mod Flushes
+pub mod Calling
 pub mod Obeying
 pub mod Tasks
 pub mod Names

@@ -3,7 +3,7 @@ ghost use Rattle.std.specs.Prelude.{◌≡◌, ◌⊎◌, ◌∷◌, [], None, S
 ghost use Rattle.ged_tool.specs.Settings.{profile_of, edition_of};
 ghost use Rattle.ged_cmd.specs.inner.Flushes.{IsFlushed};
 ghost use Rattle.ged_cmd.specs.Program.{IsAnswered, IsCompared, IsDone, IsOver, IsPut, IsWithheld, fate_of, reader as reader_of, writer as writer_of};
-ghost use Rattle.ged_cmd.specs.Shelves.{Calls, CallsAtMost, calls_of, drafting, opening, opening_named};
+ghost use Rattle.ged_cmd.specs.Shelves.{Calls, SomeCalls, drafting, opening, opening_named};
 ghost use Rattle.ged_cmd.specs.Tasks.{input_same as input_same_task, same as same_task};
 ghost use Rattle.ged_cmd.specs.inner.Tasks.{task_of};
 
@@ -55,10 +55,10 @@ pub(crate) fn answer_request<S: Shelf, R: Source, W: Write>(
 ) -> Told
     requires unread { R.reads input.old ≡ 0 }
     requires no_failure { (R.failed input.old ≡ false) × (⟦<Output<W> as Sink>⟧.failed output.old ≡ false) }
-    ensures done { IsDone (S.files (S.stock shelf.old)) S.Device.to_come S.Device.failed S.Draft.taken S.Draft.failed S.Draft.fate (task_of request.entry)
+    ensures done { SomeCalls (S.calls shelf.old) (S.calls shelf.new) (λ made.
+        IsDone (S.files (S.stock shelf.old)) S.Device.to_come S.Device.failed S.Draft.taken S.Draft.failed S.Draft.fate (task_of request.entry)
         (reader_of R.to_come R.failed input.old input.new)
-        (writer_of ⟦<Output<W> as Sink>⟧.taken ⟦<Output<W> as Sink>⟧.failed output.old output.new) result.outcome }
-    ensures called { CallsAtMost (S.calls shelf.old) (S.calls shelf.new) (calls_of (task_of request.entry)) }
+        (writer_of ⟦<Output<W> as Sink>⟧.taken ⟦<Output<W> as Sink>⟧.failed output.old output.new) made result.outcome) }
 {
     match request {
         Request::Run {
@@ -121,13 +121,13 @@ fn answer_into<S: Shelf, R: Source>(
 ) -> Told
     requires unread { R.reads input.old ≡ 0 }
     requires no_failure { R.failed input.old ≡ false }
-    ensures done { IsWithheld ((S.files (S.stock shelf.old)).withholds name.now) (reader_of R.to_come R.failed input.old input.new) result.outcome
-        ⊎ IsPut (S.files (S.stock shelf.old)) S.Draft.taken S.Draft.failed S.Draft.fate name.now (λ writer.
+    ensures done { SomeCalls (S.calls shelf.old) (S.calls shelf.new) (λ made.
+        (IsWithheld ((S.files (S.stock shelf.old)).withholds name.now) (reader_of R.to_come R.failed input.old input.new) result.outcome
+        × (made ≡ drafting name.now ∷ []))
+        ⊎ (IsPut (S.files (S.stock shelf.old)) S.Draft.taken S.Draft.failed S.Draft.fate name.now (λ writer.
         IsOver (S.files (S.stock shelf.old)) S.Device.to_come S.Device.failed (profile_of settings) (edition_of settings) command
         (option_map (λ name. name.now) file.entry) (reader_of R.to_come R.failed input.old input.new) writer result.outcome)
-        result.outcome }
-    ensures called { CallsAtMost (S.calls shelf.old) (S.calls shelf.new)
-        (drafting name.now ∷ opening_named (option_map (λ name. name.now) file.entry)) }
+        result.outcome × (made ≡ drafting name.now ∷ opening_named (option_map (λ name. name.now) file.entry)))) }
 {
     let mut draft = match shelf.draft(alloc, name) {
         Ok(draft) => draft,
@@ -181,12 +181,11 @@ fn compare_files<S: Shelf, R: Source, W: Write>(
 ) -> Told
     requires unread { R.reads input.old ≡ 0 }
     requires no_failure { (R.failed input.old ≡ false) × (⟦<Output<W> as Sink>⟧.failed output.old ≡ false) }
-    ensures done { IsDone (S.files (S.stock shelf.old)) S.Device.to_come S.Device.failed S.Draft.taken S.Draft.failed S.Draft.fate
+    ensures done { SomeCalls (S.calls shelf.old) (S.calls shelf.new) (λ made.
+        IsDone (S.files (S.stock shelf.old)) S.Device.to_come S.Device.failed S.Draft.taken S.Draft.failed S.Draft.fate
         (same_task comparison.form (profile_of comparison.settings) (edition_of comparison.settings) first.now (option_map (λ name. name.now) second.entry))
         (reader_of R.to_come R.failed input.old input.new)
-        (writer_of ⟦<Output<W> as Sink>⟧.taken ⟦<Output<W> as Sink>⟧.failed output.old output.new) result.outcome }
-    ensures called { CallsAtMost (S.calls shelf.old) (S.calls shelf.new)
-        (opening first.now ∷ opening_named (option_map (λ name. name.now) second.entry)) }
+        (writer_of ⟦<Output<W> as Sink>⟧.taken ⟦<Output<W> as Sink>⟧.failed output.old output.new) made result.outcome) }
 {
     let mut first = match shelf.open(first) {
         Ok(device) => device,
@@ -216,7 +215,7 @@ fn compare_input<S: Shelf, R: Source, W: Write>(
     ensures done { IsDone (S.files (S.stock shelf.old)) S.Device.to_come S.Device.failed S.Draft.taken S.Draft.failed S.Draft.fate
         (input_same_task comparison.form (profile_of comparison.settings) (edition_of comparison.settings) second.now)
         (reader_of R.to_come R.failed input.old input.new)
-        (writer_of ⟦<Output<W> as Sink>⟧.taken ⟦<Output<W> as Sink>⟧.failed output.old output.new) result.outcome }
+        (writer_of ⟦<Output<W> as Sink>⟧.taken ⟦<Output<W> as Sink>⟧.failed output.old output.new) (opening second.now ∷ []) result.outcome }
     ensures called { Calls (S.calls shelf.old) (S.calls shelf.new) (opening second.now ∷ []) }
 {
     match shelf.open(second) {

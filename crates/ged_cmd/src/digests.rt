@@ -4,8 +4,9 @@ ghost use Rattle.std.specs.Io.KnownBytes.{Keeps};
 ghost use Rattle.ged_tool.specs.Settings.{profile_of, edition_of};
 ghost use Rattle.ged_cmd.specs.Program.{AreDigested, IsDigested, IsNotOpened, SomeFile, graver as graver_of};
 ghost use Rattle.ged_cmd.specs.Program.{reader as reader_of, writer as writer_of};
-ghost use Rattle.ged_cmd.specs.Shelves.{Calls, CallsAtMost, opening_all};
+ghost use Rattle.ged_cmd.specs.Shelves.{Calls, SomeCalls};
 ghost use Rattle.ged_cmd.specs.Tasks.{file_named as file_named_of, is_input as is_input_word};
+ghost use Rattle.ged_cmd.specs.inner.Calling.{opening_all};
 ghost use Rattle.ged_cmd.specs.inner.Tasks.{name_or, names_of};
 
 use crate::commands::{flushed_told, not_opened};
@@ -35,11 +36,11 @@ pub(crate) fn tell_digests<S: Shelf, R: Source, W: Write, E: Write>(
     requires once { count_by is_input_word (names_of digests.files.now) ≤ 1 }
     requires unread { R.reads input.old ≡ 0 }
     requires no_failure { (R.failed input.old ≡ false) × (⟦<Output<W> as Sink>⟧.failed output.old ≡ false) }
-    ensures told { AreDigested (S.files (S.stock shelf.old)) S.Device.to_come S.Device.failed (profile_of digests.entry.settings)
+    ensures told { SomeCalls (S.calls shelf.old) (S.calls shelf.new) (λ made.
+        AreDigested (S.files (S.stock shelf.old)) S.Device.to_come S.Device.failed (profile_of digests.entry.settings)
         (edition_of digests.entry.settings) (names_of digests.entry.files.now)
         (reader_of R.to_come R.failed input.old input.new)
-        (writer_of ⟦<Output<W> as Sink>⟧.taken ⟦<Output<W> as Sink>⟧.failed output.old output.new) result }
-    ensures called { CallsAtMost (S.calls shelf.old) (S.calls shelf.new) (opening_all (names_of digests.entry.files.now)) }
+        (writer_of ⟦<Output<W> as Sink>⟧.taken ⟦<Output<W> as Sink>⟧.failed output.old output.new) made result) }
     ensures quiet { result ≡ Outcome.Done → Keeps (E.contents errors.old) (E.contents errors.new) }
 {
     let mut gravest = Outcome::Done;

@@ -1,11 +1,11 @@
 // The whole of the program behind its `main`: what the words of the command line ask for is done, and gives the status.
-ghost use Rattle.std.specs.Prelude.{◌≡◌, ◌≤◌, List, codes, false, IfOk, IsErr, MatchOption, MatchResult, [], map, option_and_then, option_map, string_bytes};
+ghost use Rattle.std.specs.Prelude.{◌≡◌, ◌≤◌, List, codes, false, IfOk, IsErr, MatchOption, [], map, option_and_then, option_map, string_bytes};
 ghost use Rattle.std.specs.Option.{option_map_or};
 ghost use Rattle.std.specs.Result.{result_ok};
 ghost use Rattle.std.specs.Io.KnownBytes.{Keeps};
 ghost use Rattle.clap.specs.Words.{Row, Text, subcommand_rows_of};
-ghost use Rattle.ged_cmd.specs.Shelves.{Calls, CallsAtMost, calls_of_any};
-ghost use Rattle.ged_cmd.specs.Tasks.{asked as task_asked, explains, is_set, task_of_match};
+ghost use Rattle.ged_cmd.specs.Shelves.{Calls, SomeCalls};
+ghost use Rattle.ged_cmd.specs.Tasks.{explains, is_set, task_of_match};
 ghost use Rattle.ged_faults.specs.Faults.{status_of};
 ghost use Rattle.ged_cmd.specs.inner.Obeying.{IsMistaken};
 ghost use Rattle.ged_cmd.specs.inner.Tasks.{IsReadOnce, wanted_task};
@@ -43,7 +43,8 @@ pub fn words_of(rt: &HostRuntime) -> io::Result<Vec<String>> {
 
 /// Does what the words ask for, and gives the program's status: 0 where the answer or the help was
 /// written, 1 for a fault of the file or two files that differ, 2 for a mistake in the words or where they can't be had, 3 for
-/// a file that is too long, a fault of a device, or want of memory from then on.
+/// a file that is too long, a fault of a device, or want of memory from then on. Memory is taken from `alloc` for what the words
+/// ask for, as the runs of ged_tool say, and for explanations.
 pub fn perform<S: Shelf, R: Source, W: Write, E: Write>(
     alloc: Global,
     shelf: &mut S,
@@ -53,16 +54,14 @@ pub fn perform<S: Shelf, R: Source, W: Write, E: Write>(
     requires unread { R.reads streams.old.input ≡ 0 }
     requires no_failure { (R.failed streams.old.input ≡ false)
         × (⟦<Output<W> as Sink>⟧.failed streams.old.output ≡ false) }
-    ensures performs { IfOk words (λ words. Performs (S.files (S.stock shelf.old)) S.Device.to_come S.Device.failed S.Draft.taken
-        S.Draft.failed S.Draft.fate (map string_bytes words.items)
+    ensures performs { IfOk words (λ words. SomeCalls (S.calls shelf.old) (S.calls shelf.new) (λ made.
+        Performs (S.files (S.stock shelf.old)) S.Device.to_come S.Device.failed S.Draft.taken S.Draft.failed S.Draft.fate
+        (map string_bytes words.items)
         (reader_of R.to_come R.failed streams.old.input streams.new.input)
         (writer_of ⟦<Output<W> as Sink>⟧.taken ⟦<Output<W> as Sink>⟧.failed streams.old.output streams.new.output)
-        result) }
-    ensures called { MatchResult words
-        (λ words. CallsAtMost (S.calls shelf.old) (S.calls shelf.new) (calls_of_any (task_asked (map string_bytes words.items))))
-        (λ _. Calls (S.calls shelf.old) (S.calls shelf.new) []) }
+        made result)) }
     ensures range { result ≤ 3 }
-    ensures unread { IsErr words → (result ≡ 2)
+    ensures unread { IsErr words → (result ≡ 2) × Calls (S.calls shelf.old) (S.calls shelf.new) []
         × IsUnread (reader_of R.to_come R.failed streams.old.input streams.new.input)
         × IsUnwritten (writer_of ⟦<Output<W> as Sink>⟧.taken ⟦<Output<W> as Sink>⟧.failed streams.old.output streams.new.output) }
     ensures quiet { result ≡ 0 → IfOk words (λ words. explains (map string_bytes words.items) ≡ false)
@@ -86,12 +85,12 @@ fn perform_words<S: Shelf, R: Source, W: Write, E: Write>(
     requires unread { R.reads streams.old.input ≡ 0 }
     requires no_failure { (R.failed streams.old.input ≡ false)
         × (⟦<Output<W> as Sink>⟧.failed streams.old.output ≡ false) }
-    ensures performs { Performs (S.files (S.stock shelf.old)) S.Device.to_come S.Device.failed S.Draft.taken S.Draft.failed S.Draft.fate
+    ensures performs { SomeCalls (S.calls shelf.old) (S.calls shelf.new) (λ made.
+        Performs (S.files (S.stock shelf.old)) S.Device.to_come S.Device.failed S.Draft.taken S.Draft.failed S.Draft.fate
         (map string_bytes words.now)
         (reader_of R.to_come R.failed streams.old.input streams.new.input)
         (writer_of ⟦<Output<W> as Sink>⟧.taken ⟦<Output<W> as Sink>⟧.failed streams.old.output streams.new.output)
-        result }
-    ensures called { CallsAtMost (S.calls shelf.old) (S.calls shelf.new) (calls_of_any (task_asked (map string_bytes words.now))) }
+        made result) }
     ensures range { result ≤ 3 }
     ensures quiet { result ≡ 0 → explains (map string_bytes words.now) ≡ false
         → Keeps (E.contents streams.old.errors) (E.contents streams.new.errors) }
@@ -116,13 +115,12 @@ fn obey_matches<S: Shelf, R: Source, W: Write, E: Write>(
         × (⟦<Output<W> as Sink>⟧.failed streams.old.output ≡ false) }
     ensures obeyed { MatchOption (option_and_then task_of_match (subcommand_rows_of matches.now))
         (IsMistaken (reader_of R.to_come R.failed streams.old.input streams.new.input)
-        (writer_of ⟦<Output<W> as Sink>⟧.taken ⟦<Output<W> as Sink>⟧.failed streams.old.output streams.new.output) result)
-        (λ task. (outcome : Outcome) × (result ≡ status_of outcome)
-        × IsDone (S.files (S.stock shelf.old)) S.Device.to_come S.Device.failed S.Draft.taken S.Draft.failed S.Draft.fate task
+        (writer_of ⟦<Output<W> as Sink>⟧.taken ⟦<Output<W> as Sink>⟧.failed streams.old.output streams.new.output) result
+        × Calls (S.calls shelf.old) (S.calls shelf.new) [])
+        (λ task. (outcome : Outcome) × (result ≡ status_of outcome) × SomeCalls (S.calls shelf.old) (S.calls shelf.new) (λ made.
+        IsDone (S.files (S.stock shelf.old)) S.Device.to_come S.Device.failed S.Draft.taken S.Draft.failed S.Draft.fate task
         (reader_of R.to_come R.failed streams.old.input streams.new.input)
-        (writer_of ⟦<Output<W> as Sink>⟧.taken ⟦<Output<W> as Sink>⟧.failed streams.old.output streams.new.output) outcome) }
-    ensures called { CallsAtMost (S.calls shelf.old) (S.calls shelf.new)
-        (calls_of_any (option_and_then task_of_match (subcommand_rows_of matches.now))) }
+        (writer_of ⟦<Output<W> as Sink>⟧.taken ⟦<Output<W> as Sink>⟧.failed streams.old.output streams.new.output) made outcome)) }
     ensures range { result ≤ 3 }
     ensures quiet { result ≡ 0
         → option_map_or (λ (found : Text × List Row). is_set (codes "explain") found.1) (subcommand_rows_of matches.now) false ≡ false
@@ -147,13 +145,12 @@ fn obey<S: Shelf, R: Source, W: Write, E: Write>(
         × (⟦<Output<W> as Sink>⟧.failed streams.old.output ≡ false) }
     ensures obeyed { MatchOption (option_map wanted_task (result_ok asked.entry.wanted))
         (IsMistaken (reader_of R.to_come R.failed streams.old.input streams.new.input)
-        (writer_of ⟦<Output<W> as Sink>⟧.taken ⟦<Output<W> as Sink>⟧.failed streams.old.output streams.new.output) result)
-        (λ task. (outcome : Outcome) × (result ≡ status_of outcome)
-        × IsDone (S.files (S.stock shelf.old)) S.Device.to_come S.Device.failed S.Draft.taken S.Draft.failed S.Draft.fate task
+        (writer_of ⟦<Output<W> as Sink>⟧.taken ⟦<Output<W> as Sink>⟧.failed streams.old.output streams.new.output) result
+        × Calls (S.calls shelf.old) (S.calls shelf.new) [])
+        (λ task. (outcome : Outcome) × (result ≡ status_of outcome) × SomeCalls (S.calls shelf.old) (S.calls shelf.new) (λ made.
+        IsDone (S.files (S.stock shelf.old)) S.Device.to_come S.Device.failed S.Draft.taken S.Draft.failed S.Draft.fate task
         (reader_of R.to_come R.failed streams.old.input streams.new.input)
-        (writer_of ⟦<Output<W> as Sink>⟧.taken ⟦<Output<W> as Sink>⟧.failed streams.old.output streams.new.output) outcome) }
-    ensures called { CallsAtMost (S.calls shelf.old) (S.calls shelf.new)
-        (calls_of_any (option_map wanted_task (result_ok asked.entry.wanted))) }
+        (writer_of ⟦<Output<W> as Sink>⟧.taken ⟦<Output<W> as Sink>⟧.failed streams.old.output streams.new.output) made outcome)) }
     ensures range { result ≤ 3 }
     ensures quiet { result ≡ 0 → asked.entry.explains ≡ false → Keeps (E.contents streams.old.errors) (E.contents streams.new.errors) }
     ensures usage { result ≡ 2 → Keeps (⟦<Output<W> as Sink>⟧.taken streams.old.output)

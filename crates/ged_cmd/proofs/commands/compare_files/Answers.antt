@@ -1,14 +1,24 @@
-use Rattle.std.proofs.Common.{ap, option_map}
+use Rattle.std.proofs.Common.{[], ◌∷◌, inl, inr, refl, rules}
 use Rattle.ged_cmd.specs.Shelves.{opening}
-use Rattle.ged_cmd.proofs.ShelfLemmas.{both_called}
+use Rattle.ged_cmd.proofs.ShelfLemmas.{called_on}
 use Rattle.ged_cmd.proofs.commands.compare_files.Goals as goal
 
-pub returns-in-Ok-open-clause-called : goal.returns-in-Ok-open-clause-called
-returns-in-Ok-open-clause-called g c =
-    both_called (g.S.Shelf.calls c.args.shelf.now) (g.S.Shelf.calls c.open.new.self) (g.S.Shelf.calls c.open-in-Some.new.self) (opening c.args.first.now)
-    (option_map (λ name. name.now) c.args.second) c.in-Some.name.now (ap (option_map (λ name. name.now)) c.in-Some.is) c.in-Ok.ensures.called c.in-Ok-open.ensures.called
+pub returns-in-Ok-open : goal.returns-in-Ok-open
+returns-in-Ok-open g c = record {
+  done = (
+    opening c.args.first.now ∷ opening c.in-Some.name.now ∷ [],
+    called_on (g.S.Shelf.calls c.args.shelf.now) (g.S.Shelf.calls c.open.new.self) (g.S.Shelf.calls c.open-in-Some.new.self) (opening c.args.first.now ∷ [])
+        (opening c.in-Some.name.now ∷ []) c.in-Ok.ensures.called c.in-Ok-open.ensures.called,
+    rw c.in-Some.is (search rules, inr (inr (search rules), refl)),
+  );
+}
 
-pub returns-clause-called : goal.returns-clause-called
-returns-clause-called g c =
-    both_called (g.S.Shelf.calls c.args.shelf.now) (g.S.Shelf.calls c.open.new.self) (g.S.Shelf.calls c.open-in-Some.new.self) (opening c.args.first.now)
-    (option_map (λ name. name.now) c.args.second) c.in-Some.name.now (ap (option_map (λ name. name.now)) c.in-Some.is) c.in-Ok.ensures.called c.in-Err-open.ensures.called
+pub returns : goal.returns
+returns g c = record {
+  done = (
+    opening c.args.first.now ∷ opening c.in-Some.name.now ∷ [],
+    called_on (g.S.Shelf.calls c.args.shelf.now) (g.S.Shelf.calls c.open.new.self) (g.S.Shelf.calls c.open-in-Some.new.self) (opening c.args.first.now ∷ [])
+        (opening c.in-Some.name.now ∷ []) c.in-Ok.ensures.called c.in-Err-open.ensures.called,
+    rw c.in-Some.is (search rules, inr (inl (search rules), refl)),
+  );
+}

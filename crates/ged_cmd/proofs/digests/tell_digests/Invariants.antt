@@ -3,7 +3,8 @@ use Rattle.std.specs.Io.KnownBytes.{Keeps}
 use Rattle.ged_tool.specs.Settings.{profile_of, edition_of}
 use Rattle.ged_faults.specs.declared.faults.Outcome.TheVariants.{Done}
 use Rattle.ged_cmd.specs.Program.{AreDigested, reader, writer}
-use Rattle.ged_cmd.specs.Shelves.{Calls, opening_all}
+use Rattle.ged_cmd.specs.Shelves.{Calls}
+use Rattle.ged_cmd.specs.inner.Calling.{opening_all}
 use Rattle.ged_cmd.specs.Tasks.{is_input}
 use Rattle.ged_cmd.specs.inner.Tasks.{names_of}
 use Rattle.ged_cmd.proofs.digests.tell_digests.Given as goal
@@ -14,7 +15,8 @@ invariant-loop-name g l = record {
   told : AreDigested (g.S.Shelf.files (g.S.Shelf.stock l.fn.shelf)) g.S.Device.Source.to_come g.S.Device.Source.failed (profile_of l.digests.settings)
       (edition_of l.digests.settings) (take l.name-index (names_of l.digests.files.now))
       (reader g.R.Source.to_come g.R.Source.failed l.fn.input l.input)
-      (writer (λ s. g.W.Write.contents s.device) (λ s. s.failed) l.fn.output l.output) l.gravest;
+      (writer (λ s. g.W.Write.contents s.device) (λ s. s.failed) l.fn.output l.output)
+      (opening_all (take l.name-index (names_of l.digests.files.now))) l.gravest;
   same : g.S.Shelf.stock l.shelf ≡ g.S.Shelf.stock l.fn.shelf;
   called : Calls (g.S.Shelf.calls l.fn.shelf) (g.S.Shelf.calls l.shelf) (opening_all (take l.name-index (names_of l.digests.files.now)));
   sound : l.output.failed ≡ false;

@@ -1,4 +1,4 @@
-use Rattle.std.proofs.Common.{◌≡◌, ℕ, Bool, List, [], Option, Some, None, MatchOption, ap, sym, inl, inr, map, option_and_then, string_bytes}
+use Rattle.std.proofs.Common.{rules, ◌≡◌, ℕ, Bool, List, [], Option, Some, None, MatchOption, refl, ap, sym, inl, inr, map, option_and_then, string_bytes}
 use Rattle.clap.specs.Words.{Text, fault_of}
 use Rattle.ged_faults.specs.Faults.{status_of}
 use Rattle.ged_faults.specs.declared.faults.Outcome.{Outcome}
@@ -6,23 +6,29 @@ use Rattle.ged_devices.specs.declared.drafts.Fate.{Fate}
 use Rattle.ged_cmd.specs.CommandLine.{gedtool}
 use Rattle.ged_cmd.specs.Program.{Files, IsDone, Performs, Reader, Writer}
 use Rattle.ged_cmd.specs.Tasks.{Task, asked, task_of_match}
+use Rattle.ged_cmd.specs.Shelves.{ShelfCall, Calls, SomeCalls}
 use Rattle.ged_cmd.specs.inner.Obeying.{IsMistaken}
+use Rattle.ged_cmd.proofs.ShelfLemmas.{none_called}
 use Rattle.ged_cmd.proofs.program.perform_words.Goals as goal
 
 -- words that clap takes: what they ask for is done, or they ask for nothing
 performed : {D T : Type 0} (files : Files D T) (to_come : D → Option (List ℕ)) (failed : D → Bool) (taken : T → Option (List ℕ)) (write_failed : T → Bool) (fate : T → Fate)
-    (words : List Text) (input : Reader) (writer : Writer) (status : ℕ) → fault_of gedtool words ≡ []
+    (words : List Text) (input : Reader) (writer : Writer) (before after : Option (List ShelfCall)) (status : ℕ) → fault_of gedtool words ≡ []
     → (task : Option Task) → asked words ≡ task
-    → MatchOption task (IsMistaken input writer status)
-    (λ t. (outcome : Outcome) × (status ≡ status_of outcome) × IsDone files to_come failed taken write_failed fate t input writer outcome)
-    → Performs files to_come failed taken write_failed fate words input writer status
-performed files to_come failed taken write_failed fate words input writer status faultless None nothing (unread, unwritten, two) =
-    inr (inr (faultless, nothing, unread, unwritten, two))
-performed files to_come failed taken write_failed fate words input writer status faultless (Some task) is (outcome, told, done) =
-    inr (inl (record { task = task; outcome = outcome; faultless = faultless; task_asked = is; done = done; told = told }))
+    → MatchOption task (IsMistaken input writer status × Calls before after [])
+    (λ t. (outcome : Outcome) × (status ≡ status_of outcome)
+    × SomeCalls before after (λ made. IsDone files to_come failed taken write_failed fate t input writer made outcome))
+    → SomeCalls before after (λ made. Performs files to_come failed taken write_failed fate words input writer made status)
+performed files to_come failed taken write_failed fate words input writer before after status faultless None nothing ((unread, unwritten, two), none) =
+    ([], none, inr (inr (faultless, nothing, unread, unwritten, refl, two)))
+performed files to_come failed taken write_failed fate words input writer before after status faultless (Some task) is (outcome, told, (made, called, done)) =
+    (made, called, inr (inl (record { task = task; outcome = outcome; faultless = faultless; task_asked = is; done = done; told = told })))
+
+pub returns-in-Err-clause-performs : goal.returns-in-Err-clause-performs
+returns-in-Err-clause-performs g c = ([], none_called _, inl (search rules, refl))
 
 pub returns-in-Ok-clause-performs : goal.returns-in-Ok-clause-performs
 returns-in-Ok-clause-performs g c =
     performed (g.S.Shelf.files (g.S.Shelf.stock c.args.shelf.now)) g.S.Device.Source.to_come g.S.Device.Source.failed g.S.Draft.Sink.taken g.S.Draft.Sink.failed g.S.Draft.Sink.fate
-    (map string_bytes c.args.words.now) _ _ c.obey_matches.result c.in-Ok.ensures.no_mistake _
+    (map string_bytes c.args.words.now) _ _ _ _ c.obey_matches.result c.in-Ok.ensures.no_mistake _
     (sym (ap (option_and_then task_of_match) c.in-Ok.ensures.matched)) c.obey_matches.ensures.obeyed
