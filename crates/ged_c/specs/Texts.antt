@@ -30,8 +30,8 @@ abbrev pub NameMeans : ℕ → Bytes → Bytes → Ended → Type 0
 NameMeans fault before after NotFound = (with_number fault named_faults ≡ None) × (after ≡ before)
 NameMeans fault before after ended = (named : Named) × (with_number fault named_faults ≡ Some named) × IsPut named.name before after ended
 
--- what one end of a call for a part of a meaning means: that part of the meaning of the fault with this number was put; or no fault has
--- the number, or no part has its
+-- what one end of a call for a part of a meaning means: that part of a meaning with this number, and with the name of its fault, was put;
+-- or no fault has the number, or no part has its
 abbrev pub PartMeans : ℕ → ℕ → Bytes → Bytes → Ended → Type 0
 PartMeans fault part before after NotFound = ((with_number fault named_faults ≡ None) ⊎ (last_part < part)) × (after ≡ before)
 PartMeans fault part before after ended = (meaning : Meaning) × (asked : Part) × (with_number fault named_faults ≡ Some (as_named meaning))

@@ -68,7 +68,7 @@ impl<'a> SpelledForm<'a> {
         length
     }
 
-    /// All the bytes in one vector. Takes memory where some are slices of the file.
+    /// All the bytes in one vector. Grows where some are slices of the file.
     pub fn into_bytes(self, alloc: Global) -> Result<Vec<u8>, AllocError>
         ensures { IfOk result (λ bytes. bytes.items ≡ self.entry) }
     {

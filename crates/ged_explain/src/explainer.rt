@@ -44,7 +44,7 @@ impl<'a, F: Forest> Explainer<'a, F> {
         }
     }
 
-    /// The lines that explain a notice, as [`crate::explain_notice`] gives them. Grows by the answer alone.
+    /// The lines that explain a notice, as [`crate::explain_notice`] gives them. Grows as that does.
     pub fn explain(
         &mut self,
         alloc: Global,

@@ -25,7 +25,8 @@ use std::alloc::{AllocError, Global};
 ///
 /// `bytes` are those of the file in which the fault was found; of any others the text has no meaning. Of a long line its first
 /// 120 columns or a few more are told; a byte that is not UTF-8 is told as `\xNN`, and a character that is not seen as `U+NNNN`.
-/// A fault that is not of the file is told as [`explain_device`] tells it, without a reason. Grows by the answer alone.
+/// A fault that is not of the file is told as [`explain_device`] tells it, without a reason. Grows by the answer, and by parts of it
+/// while it is put together.
 pub fn explain_fault(
     alloc: Global,
     bytes: &[u8],
@@ -40,7 +41,7 @@ pub fn explain_fault(
     }
 }
 
-/// The lines that explain a notice of an accepted file, as [`explain_fault`] gives those of a fault. Grows by the answer alone.
+/// The lines that explain a notice of an accepted file, as [`explain_fault`] gives those of a fault. Grows as that does.
 pub fn explain_notice(
     alloc: Global,
     bytes: &[u8],

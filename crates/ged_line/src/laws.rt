@@ -1,4 +1,5 @@
-// Laws of the definitions that the contracts of this crate cite. The functions do nothing: their contracts are proved.
+// Laws of the definitions that the contracts of this crate cite. Nobody needs to run the functions, which take no memory: their contracts
+// are proved.
 ghost use Rattle.ged_line.specs.Laws.{OneLine, IsLineOrFaulty, OneCut, OneListOfLines, SpellingSpells, WrittenIsRead};
 
 use crate::line::read::view_line;

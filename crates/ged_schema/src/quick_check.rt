@@ -38,7 +38,7 @@ pub(crate) struct Pass {
 }
 
 /// The rows of each context that ask for a structure, in the order of the contexts: bit k is set where row k, counted from 0, asks
-/// for one. The script tools/slots.py prints these numbers, and the proof computes each of them from the rows.
+/// for one. The script crates/ged_schema/tools/slots.py prints these numbers, and the proof computes each of them from the rows.
 static NEEDED: [u64; 34] = [
     0b1, 0b1, 0b1, 0, 0, 0, 0b1, 0, 0, 0, 0, 0, 0, 0b1, 0, 0, 0, 0, 0, 0, 0b1, 0, 0, 0b1, 0b1, 0,
     0b1, 0b1, 0b10, 0, 0, 0, 0, 0,

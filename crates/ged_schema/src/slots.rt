@@ -13,7 +13,7 @@ use ged_line::is_same_tag;
 
 /// At the slot of each row's tag, the number of the row in its context; 0 at the slots that no row has.
 ///
-/// A slot is the sum of the context's seed and of four bytes of the tag, each times a weight. The script tools/slots.py
+/// A slot is the sum of the context's seed and of four bytes of the tag, each times a weight. The script crates/ged_schema/tools/slots.py
 /// found weights and seeds: the contexts with the most rows first, each gets the least seed that puts none of its rows on
 /// a slot which keeps another number. Nothing rests on how they were found: `seed_of` promises that each row's number is
 /// kept at its slot, and the proof computes every one.

@@ -25,16 +25,15 @@ WEIGHTS = (1, 2, 4, 8, 16, 32, 64, 3, 5, 9, 17, 33, 65)
 WIDTH = 100
 
 
-def read_tables():
-    """The tags of each context's rows, by the context's name."""
+def read_rows():
+    """The rows of each context, by the context's name: which macro makes each, and its tag."""
     rows = {}
     for path in sorted((SOURCE / "tables").glob("*.rt")):
         for name, body in re.findall(r"static (\w+): \[Rule; \d+\] = \[(.*?)\];", path.read_text(), re.S):
-            rows[name] = re.findall(r'!\("(\w+)"', body)
-    arms = re.findall(r"Context::(\w+) => &(\w+),", (SOURCE / "tables.rt").read_text())
+            rows[name] = re.findall(r'(\w+)!\(\s*"(\w+)"', body)
+    names = dict(re.findall(r"Context::(\w+) => &(\w+),", (SOURCE / "tables.rt").read_text()))
     contexts = re.findall(r"^    (\w+),$", (SOURCE / "context.rt").read_text(), re.M)
-    named = dict(arms)
-    return {context: rows[named[context]] if context in named else [] for context in contexts}
+    return {context: rows[names[context]] if context in names else [] for context in contexts}
 
 
 def weigh(tag, weights):
@@ -85,14 +84,9 @@ def print_found(weights, seeds, slots, needed, tables):
     print_array("NEEDED:", [bin(needed[context]) if needed[context] else "0" for context in tables])
 
 
-def read_needed(contexts):
-    """The rows of each context that ask for a structure: a number with a bit for each of them."""
-    masks = {}
-    for path in sorted((SOURCE / "tables").glob("*.rt")):
-        for name, body in re.findall(r"static (\w+): \[Rule; \d+\] = \[(.*?)\];", path.read_text(), re.S):
-            masks[name] = sum(1 << number for number, macro in enumerate(re.findall(r'(\w+)!\(\s*"', body)) if macro == "one")
-    arms = dict(re.findall(r"Context::(\w+) => &(\w+),", (SOURCE / "tables.rt").read_text()))
-    return {context: masks[arms[context]] if context in arms else 0 for context in contexts}
+def needed_rows(rows):
+    """The rows that ask for a structure: a number with a bit for each of them."""
+    return sum(1 << number for number, (macro, _) in enumerate(rows) if macro == "one")
 
 
 def read_array(code, name):
@@ -118,8 +112,9 @@ def compare(seeds, slots, needed, tables):
 
 
 def main(words):
-    tables = read_tables()
-    needed = read_needed(tables)
+    rows = read_rows()
+    tables = {context: [tag for _, tag in rows[context]] for context in rows}
+    needed = {context: needed_rows(rows[context]) for context in rows}
     for weights in sorted(itertools.product(WEIGHTS, repeat=4), key=lambda four: (sum(w & (w - 1) > 0 for w in four), sum(four))):
         found = find_slots(tables, weights)
         if found is not None and words[1:] == ["--compare"]:

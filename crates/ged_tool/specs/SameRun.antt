@@ -1,5 +1,5 @@
 -- What the outcome of comparing two files means, for the bytes that came of each and those that were written.
-use Rattle.std.specs.Prelude.{◌≡◌, ℕ, ◌≤◌, Bool, true, false, [], ◌∷◌, ◌++◌, length, Option, Some, None, codes}
+use Rattle.std.specs.Prelude.{◌≡◌, ◌⊎◌, ℕ, ◌≤◌, Bool, true, false, [], ◌∷◌, ◌++◌, length, Option, Some, None, codes}
 use Rattle.std.specs.Io.{StartsWith}
 use Rattle.std.specs.Io.KnownBytes.{Consumes, Appends}
 use Rattle.ged_line.specs.Bytes.{Bytes, line_feed}
@@ -30,7 +30,7 @@ same_line true = codes "same" ++ line_feed ∷ []
 same_line false = codes "different" ++ line_feed ∷ []
 
 -- What a fault of one of the files says. The second is read only once the first came whole, and the files are judged only
--- once both came whole.
+-- once both came whole. Memory may be wanting for the first while it is read, or once both came.
 abbrev pub TellsOfFile : Profile → ℕ → Came → Came → Which → Fault → Type 0
 TellsOfFile profile limit first second which (InFile line kind) =
     IsAllOf limit first × IsAllOf limit second × IsSameRefusal profile first.bytes second.bytes which (InFile line kind)
@@ -38,7 +38,8 @@ TellsOfFile profile limit first second First TooLong = IsTooLong limit first.byt
 TellsOfFile profile limit first second Second TooLong = IsAllOf limit first × IsTooLong limit second.bytes
 TellsOfFile profile limit first second First ReadFailed = (length first.bytes ≤ limit) × (second.bytes ≡ [])
 TellsOfFile profile limit first second Second ReadFailed = IsAllOf limit first × (length second.bytes ≤ limit)
-TellsOfFile profile limit first second First (Memory error) = (length first.bytes ≤ limit) × (length second.bytes ≤ limit)
+TellsOfFile profile limit first second First (Memory error) =
+    ((length first.bytes ≤ limit) × (second.bytes ≡ [])) ⊎ (IsAllOf limit first × IsAllOf limit second)
 TellsOfFile profile limit first second Second (Memory error) = IsAllOf limit first × (length second.bytes ≤ limit)
 TellsOfFile profile limit first second which WriteFailed = ⊥
 

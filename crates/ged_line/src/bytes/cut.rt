@@ -73,7 +73,7 @@ fn end_behind_special(bytes: &[u8]) -> Option<usize>
     first_end(bytes)
 }
 
-/// The same, where some byte of the line may belong to a character that may not stand there.
+/// What [`cut_line`] answers, where some byte of the line may belong to a character that may not stand there.
 #[inline(always)]
 fn cut_special_line(text: &str) -> Cut<'_>
     requires { 0 < length text.now }

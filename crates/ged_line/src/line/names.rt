@@ -197,8 +197,9 @@ fn order_of_alike(tag: &str, other: &str) -> Ordering
     ensures { result ≡ order_of_tags tag.now other.now }
 {
     match (tag.as_bytes(), other.as_bytes()) {
-        ([first, a, ..], [second, b, ..]) if first == second && *first != b'G' && a != b => {
-            a.cmp(b)
+        ([first, second, ..], [other_first, other_second, ..])
+            if first == other_first && *first != b'G' && second != other_second => {
+            second.cmp(other_second)
         }
         _ => whole_order(tag, other),
     }
@@ -211,8 +212,9 @@ fn order_of_others(tag: &str, other: &str) -> Ordering
     ensures { result ≡ order_of_tags tag.now other.now }
 {
     match (tag.as_bytes(), other.as_bytes()) {
-        ([first, ..], [second, ..]) if first != second && *first != b'G' && *second != b'G' => {
-            first.cmp(second)
+        ([first, ..], [other_first, ..])
+            if first != other_first && *first != b'G' && *other_first != b'G' => {
+            first.cmp(other_first)
         }
         _ => order_of_alike(tag, other),
     }
@@ -222,7 +224,7 @@ fn order_of_others(tag: &str, other: &str) -> Ordering
 fn rank_of_number(number: u32) -> u64
     ensures { result ≡ number_rank number }
 {
-    if number == 0x4745_4443 {
+    if number == u32::from_be_bytes(*b"GEDC") {
         return 0;
     }
     u64::from(number) + 1

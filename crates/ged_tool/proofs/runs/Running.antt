@@ -29,7 +29,7 @@ first_told profile limit came left second_left (InFile line kind) h = absurd h
 first_told profile limit came left second_left TooLong h = (h, refl)
 first_told profile limit came left second_left ReadFailed h = (h, refl)
 first_told profile limit came left second_left WriteFailed h = absurd h
-first_told profile limit came left second_left (Memory error) h = (h, omega arith)
+first_told profile limit came left second_left (Memory error) h = inl (h, refl)
 
 second_told : (profile : Profile) (limit : ℕ) (first came : Bytes) (first_left left : Option Bytes) (fault : Fault) → IsWhole limit first first_left → StopsReading limit came fault
     → TellsOfFile profile limit (came_of first first_left) (came_of came left) Second fault
@@ -49,7 +49,7 @@ judged_told profile limit first second first_left second_left First ReadFailed w
 judged_told profile limit first second first_left second_left Second ReadFailed whole other h = absurd h.1
 judged_told profile limit first second first_left second_left First WriteFailed whole other h = absurd h
 judged_told profile limit first second first_left second_left Second WriteFailed whole other h = absurd h.1
-judged_told profile limit first second first_left second_left First (Memory error) whole other h = (whole.within, other.within)
+judged_told profile limit first second first_left second_left First (Memory error) whole other h = inr (whole, other)
 judged_told profile limit first second first_left second_left Second (Memory error) whole other h = (whole, other.within)
 
 -- nothing is kept of a file that did not come whole

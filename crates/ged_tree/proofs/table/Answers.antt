@@ -187,12 +187,6 @@ module _ (structures : List Shown) (further : List Further) (flat : IsListed str
         | inr few ↦ (let zero : count ≡ 0 = omega (arith, few) in rw zero (sym (nothing (further_lines (structure_at (flat_trees structures further) place).payload) (omega (arith, zero, many, ap (λ (xs : List Bytes). length xs) same)))))
       ]
 
-  pub flat_count_at : (place : ℕ) → place < length structures → further_at place (places_of further) ≡ length (further_lines (structure_at (flat_trees structures further) place).payload)
-  unfolding structure_at
-  flat_count_at place h =
-      let s = get_or structures place no_structure in
-      ap (λ (x : TableRow). x.further) (flat_at place s h (get_or_default structures place no_structure s h))
-
   pub flat_alone : (place : ℕ) (s : Shown) → place < length structures → s ≡ get_or structures place s → s.has_further ≡ false → length (further_lines (structure_at (flat_trees structures further) place).payload) ≡ 0
   unfolding structure_at
   flat_alone place s h e alone =

@@ -81,7 +81,7 @@ impl<'a> FurtherTable<'a> {
         ensures { (file : Bytes) → IfSome start (λ at. IsSliceAt file at text.now)
             → IfOk result (λ _. IsFurtherPut file self.old self.new after text.now) }
     {
-        if self.apart.len() == 0 {
+        if self.apart.is_empty() {
             if let Some(slice) = further_slice(after, start, text.len()) {
                 self.slices.push(slice)?;
                 return Ok(());

@@ -143,12 +143,7 @@ impl<'a> Flat<'a> {
         requires { place < trees_count self.now }
         ensures { result ≡ length (further_lines (structure_at self.now place).payload) }
     {
-        if !self.structures[place].has_further() {
-            return 0;
-        }
-        let start = self.further.before(place);
-        let end = self.further.before(place + 1);
-        end.saturating_sub(start)
+        self.further_lines_at(place).count()
     }
 
     /// The further lines of the payload at a place.
