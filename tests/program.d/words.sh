@@ -32,6 +32,7 @@ check_mistakes() {
 
 check_version() {
     local version
+    here "the version" rt || return
     version="gedtool $(<VERSION)\ncanonical form: editions 1 and 2\nproved by Rattle, logic $(rt --version | sed 's/.* logic //')"
     expect "the version" 0 "$version\n" "" ./gedtool --version
     expect "the version by a letter" 0 "$version\n" "" ./gedtool -V
