@@ -84,8 +84,8 @@ enum {
     GEDTOOL_EXAMPLE = 2  /* lines of a file that has it, with line feeds between them; for 24 to 27, a command that runs into it */
 };
 
-/* A byte order mark and the file's lines in their canonical spelling, at most 4 bytes more than the file; only faults 1 to 8 are
- * reported. */
+/* A byte order mark and the file's lines in their canonical spelling, at most 4 bytes more than the file. Of the faults of a file only 1
+ * to 8 are reported. The settings have to be valid, and change nothing. */
 uint32_t gedtool_lines(uint32_t settings, const uint8_t *file, size_t file_length,
                        uint8_t *room, size_t room_length, size_t *length, uint64_t *line);
 
