@@ -111,7 +111,7 @@ Examples:
 pub(crate) const SAME: Help = Help {
     about: "Say whether two files have the same canonical form",
     purpose: "Judge two files as 'check' does, and write 'same' if they have the same canonical form, and
-so hold the same records, those of their headers included; else write 'different'.",
+so hold the same header and the same records; else write 'different'.",
     more: "Profiles:
   A file with notices is accepted. With --strict each notice is a fault.
 
