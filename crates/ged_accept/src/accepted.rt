@@ -14,7 +14,6 @@ ghost use Rattle.ged_accept.specs.Accepted.{IsAccepted, FileFaultAt, IsRefusal, 
 ghost use Rattle.ged_accept.specs.inner.Accepting.{IsAcceptable};
 
 use crate::readers::Readers;
-use ged_document::{Document, document_of};
 use ged_faults::{Fault, FileFault};
 use ged_link::{Index, LinkFault, resolve_with};
 use ged_schema::{Coverage, LineWalk, Profile, check_walked};
@@ -48,13 +47,6 @@ impl<'a> Model for Accepted<'a> {
 }
 
 impl<'a> Accepted<'a> {
-    /// The document as nodes of its own. Grows.
-    pub fn document(&self, alloc: Global) -> Result<Document, AllocError>
-        ensures { IfOk result (λ document. document ≡ self.now) }
-    {
-        document_of(alloc, &self.flat)
-    }
-
     /// The index of the document's records. Takes no memory.
     pub fn index(&self) -> &Index
         ensures index { IsIndexOf self.now result.now }

@@ -1,5 +1,6 @@
 -- What the proofs of the crates above cite of this crate, and they cite nothing else of its proofs: laws, as functions in
--- src/ state them.
+-- src/ state them, and that the canonical spelling of a document is a file that has the document.
+pub use Rattle.ged_canon.proofs.theory.CanonFiles.{has_file}
 use Rattle.std.specs.Prelude.{◌≡◌, true}
 use Rattle.ged_tree.specs.Documents.{is_document}
 use Rattle.ged_link.specs.Links.{Resolved}

@@ -1,5 +1,6 @@
 pub mod Bare
 pub mod Brief
+pub mod CanonFiles
 pub mod Chains
 pub mod Editions
 pub mod Examples

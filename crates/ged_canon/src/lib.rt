@@ -4,7 +4,6 @@
 mod edition;
 mod laws;
 mod normal;
-mod owned;
 mod spelled;
 mod writer;
 
@@ -15,8 +14,6 @@ pub use laws::{
     steps_in_place, tidy_form_exists, tidy_form_is_unique,
 };
 pub use normal::{is_normal, is_normal_in};
-pub use owned::documents::{canonical, canonical_in};
-pub use owned::write::write_document;
 pub use spelled::SpelledForm;
 pub use spelled::reader::FormReader;
 pub use writer::document::{canonical_bytes, canonical_bytes_in, spell_canonical_in};

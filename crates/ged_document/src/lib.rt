@@ -4,7 +4,9 @@
 //! one. It is a [`Forest`](ged_tree::Forest), by which the calls of other crates read it.
 #![tactic(auto)]
 
+mod accepted;
 mod building;
+mod canon;
 mod copying;
 mod document;
 mod forest;
@@ -14,7 +16,9 @@ mod node;
 mod paths;
 mod walks;
 
+pub use accepted::ToDocument;
 pub use building::build;
+pub use canon::{canonical, canonical_in, write_document};
 pub use copying::document_of;
 pub use document::Document;
 pub use laws::{known_by_trees, one_place};

@@ -6,6 +6,7 @@ ghost use Rattle.ged_line.specs.Characters.{is_plain};
 ghost use Rattle.ged_line.specs.Lines.{is_line, line_parts};
 ghost use Rattle.ged_line.specs.Views.{held_value};
 ghost use Rattle.ged_tree.specs.Trees.{trees_of, structure_of};
+ghost use Rattle.ged_tree.specs.Documents.{is_document};
 ghost use Rattle.ged_tree.specs.inner.Walks.{HasLinesAt, HaveLinesAt};
 ghost use Rattle.ged_tree.specs.DocumentLines.{line_value, first_value, structure_lines, lines_of, document_lines};
 ghost use Rattle.ged_tree.specs.inner.DocumentParts.{continued};
@@ -20,7 +21,8 @@ use std::alloc::{AllocError, Global};
 
 /// The lines of a document, TRLR's at their end. Grows (FamilySearch GEDCOM 7.0, "Lines" and "Structures").
 pub fn to_lines(alloc: Global, document: &Document) -> Result<Vec<Line>, AllocError>
-    ensures { IfOk result (λ lines. lines.items ≡ document_lines document.now) }
+    ensures lines { IfOk result (λ lines. lines.items ≡ document_lines document.now) }
+    ensures document { is_document document.now ≡ true }
 {
     let mut lines = Vec::new(alloc);
     let (head, records) = document.parts();

@@ -2,8 +2,7 @@
 use crate::answers::Answer;
 use crate::by_trees::{accept_by_parts, canon_by_trees};
 use crate::feeding::is_fed;
-use ged_canon::write_document;
-use ged_document::Document;
+use ged_document::{Document, ToDocument, write_document};
 use ged_link::{Notice, NoticeKind};
 use ged_tool::{
     Accepted, Command, Fault, FileFault, Input, Outcome, Output, Settings, Which, accept,

@@ -4,8 +4,8 @@ ghost use Rattle.ged_schema.specs.Checked.{Checked};
 
 use crate::agreement::{Answered, Ways, answered, in_file};
 use crate::answers::Answer;
-use ged_canon::{Edition, canonical_bytes_in, canonical_in, write_document};
-use ged_document::{Document, build, to_lines};
+use ged_canon::{Edition, canonical_bytes_in};
+use ged_document::{Document, ToDocument, build, canonical_in, to_lines, write_document};
 use ged_line::read_lines;
 use ged_link::{Index, LinkFault, resolve};
 use ged_schema::check_as;

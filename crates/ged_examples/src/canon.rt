@@ -6,13 +6,12 @@ ghost use Rattle.ged_schema.specs.Checked.{Checked};
 use crate::answers::Answer;
 use crate::questions::{Question, document_of_file};
 use ged_canon::{
-    Edition, canonical, canonical_bytes, canonical_bytes_in, canonical_in, editions_agree,
-    editions_agree_in_place, equal_normal_forms, equal_tidy_forms, equivalence, is_normal,
-    is_normal_in, normal_form_exists, normal_form_is_accepted, normal_form_is_unique,
-    normal_form_of_tidy, steps, steps_in_place, tidy_bytes_in, tidy_form_exists,
-    tidy_form_is_unique, write_document,
+    Edition, canonical_bytes, canonical_bytes_in, editions_agree, editions_agree_in_place,
+    equal_normal_forms, equal_tidy_forms, equivalence, is_normal, is_normal_in, normal_form_exists,
+    normal_form_is_accepted, normal_form_is_unique, normal_form_of_tidy, steps, steps_in_place,
+    tidy_bytes_in, tidy_form_exists, tidy_form_is_unique,
 };
-use ged_document::Document;
+use ged_document::{Document, canonical, canonical_in, write_document};
 use ged_link::{Index, LinkFault, resolve};
 use ged_schema::check;
 use ged_tree::Forest;

@@ -2,6 +2,7 @@
 use crate::agreement::{Answered, answered_word, are_same, say_fault, written};
 use crate::answers::Answer;
 use ged_canon::canonical_bytes_in;
+use ged_document::ToDocument;
 use ged_tool::{Accepted, Fault, Feed, Settings};
 use std::alloc::{AllocError, Global};
 

@@ -3,6 +3,7 @@ use crate::agreement::{Answered, are_same, written};
 use crate::answers::Answer;
 use crate::growing::{say_made_document, say_made_fault, say_memory};
 use crate::growths::Marks;
+use ged_document::ToDocument;
 use ged_tool::{Fault, Feed, Settings};
 use std::alloc::Global;
 

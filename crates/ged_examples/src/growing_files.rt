@@ -8,8 +8,8 @@ use crate::growing::{
     say_made_bytes, say_made_document, say_made_fault, say_made_lines, say_made_notices, say_memory,
 };
 use crate::growths::Marks;
-use ged_canon::{canonical_bytes_in, canonical_in, write_document};
-use ged_document::{Document, document_of, to_lines};
+use ged_canon::canonical_bytes_in;
+use ged_document::{Document, ToDocument, canonical_in, document_of, to_lines, write_document};
 use ged_link::{Index, LinkFault, one_way, resolve};
 use ged_schema::unlisted;
 use ged_tool::{

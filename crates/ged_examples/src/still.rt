@@ -5,7 +5,7 @@ use crate::answers::Answer;
 use crate::growing::say_made_fault;
 use crate::growths::Marks;
 use ged_canon::{Edition, is_normal_in};
-use ged_document::Document;
+use ged_document::{Document, ToDocument};
 use ged_line::{LineFault, ParseFault, parse_line};
 use ged_link::Index;
 use ged_schema::check;

@@ -10,7 +10,6 @@ use Rattle.ged_line.specs.Spelling.{spelled_lines}
 use Rattle.ged_tree.specs.declared.payload.Payload.{Payload}
 use Rattle.ged_tree.specs.declared.payload.Payload.TheVariants.{Pointer, Text}
 use Rattle.ged_tree.specs.Trees.{Tree, Trees, none, tree, records_of, structure_of, trees_of}
-use Rattle.ged_document.specs.Records.{document_trees}
 use Rattle.ged_tree.specs.DocumentLines.{document_lines}
 use Rattle.ged_value.specs.Words.{words_of}
 use Rattle.ged_value.specs.Dates.{DateParts, gregorian}
@@ -45,6 +44,15 @@ pointer name = Pointer (codes name)
 abbrev has : String → Payload → List Tree → Tree
 has tag payload below = record { tag = codes tag; payload = payload; children = trees_of below }
 
+-- records, each with its identifier
+abbrev named : List (String × Tree) → Trees
+named [] = none
+named (r ∷ rs) = tree (structure_of (Some (codes r.0)) r.1) r.1.children (named rs)
+
+-- HEAD, and the records behind it
+abbrev headed : Tree → List (String × Tree) → Trees
+headed head records = tree (structure_of None head) head.children (named records)
+
 -- lines, each with a line feed
 abbrev lines : List String → Bytes
 lines [] = []
@@ -54,34 +62,34 @@ lines (l ∷ ls) = codes l ++ (line_feed ∷ lines ls)
 -- tags are no part of a document.
 
 abbrev of_one_program : Trees
-of_one_program = document_trees
+of_one_program = headed
     (has "HEAD" nothing (has "GEDC" nothing (has "VERS" (text "7.0") [] ∷ []) ∷ has "COPR" (text "The Braun family") [] ∷ []))
-    (record {
-      xref = Some (codes "I1");
-      node = has "INDI" nothing
+    ((
+      "I1",
+      has "INDI" nothing
           (has "NAME" (text "Anna /Weber/") (has "GIVN" (text "Anna") [] ∷ has "SURN" (text "Weber") [] ∷ [])
           ∷ has "SEX" (text "F") []
           ∷ has "BIRT" nothing (has "DATE" (text "3 MAY 1871") [] ∷ has "PLAC" (text "Ulm") [] ∷ [])
           ∷ has "FAMS" (pointer "F1") []
-          ∷ []);
-    }
-    ∷ record {
-      xref = Some (codes "I2");
-      node = has "INDI" nothing
+          ∷ []),
+    )
+    ∷ (
+      "I2",
+      has "INDI" nothing
           (has "NAME" (text "Karl /Braun/") []
           ∷ has "SEX" (text "M") []
           ∷ has "FAMS" (pointer "F1") []
-          ∷ []);
-    }
-    ∷ record {
-      xref = Some (codes "F1");
-      node = has "FAM" nothing
+          ∷ []),
+    )
+    ∷ (
+      "F1",
+      has "FAM" nothing
           (has "HUSB" (pointer "I2") []
           ∷ has "WIFE" (pointer "I1") []
           ∷ has "MARR" nothing (has "DATE" (text "BEF 1895") [] ∷ [])
           ∷ has "NOTE" (Text (codes "The register was lost." ∷ codes "A copy is in Stuttgart." ∷ [])) []
-          ∷ []);
-    }
+          ∷ []),
+    )
     ∷ [])
 
 lines_of_one_program : spelled_lines (document_lines of_one_program) ≡ lines (
@@ -96,34 +104,34 @@ unfolding digits
 lines_of_one_program = refl
 
 abbrev of_another_program : Trees
-of_another_program = document_trees
+of_another_program = headed
     (has "HEAD" nothing (has "COPR" (text "The Braun family") [] ∷ has "GEDC" nothing (has "VERS" (text "7.0") [] ∷ []) ∷ []))
-    (record {
-      xref = Some (codes "FAMILY");
-      node = has "FAM" nothing
+    ((
+      "FAMILY",
+      has "FAM" nothing
           (has "MARR" nothing (has "DATE" (text "BEF GREGORIAN 1895") [] ∷ [])
           ∷ has "NOTE" (Text (codes "The register was lost." ∷ codes "A copy is in Stuttgart." ∷ [])) []
           ∷ has "WIFE" (pointer "ANNA") []
           ∷ has "HUSB" (pointer "KARL") []
-          ∷ []);
-    }
-    ∷ record {
-      xref = Some (codes "ANNA");
-      node = has "INDI" nothing
+          ∷ []),
+    )
+    ∷ (
+      "ANNA",
+      has "INDI" nothing
           (has "BIRT" nothing (has "PLAC" (text "Ulm") [] ∷ has "DATE" (text "GREGORIAN 3 MAY 1871") [] ∷ [])
           ∷ has "NAME" (text "Anna /Weber/") (has "SURN" (text "Weber") [] ∷ has "GIVN" (text "Anna") [] ∷ [])
           ∷ has "FAMS" (pointer "FAMILY") []
           ∷ has "SEX" (text "F") []
-          ∷ []);
-    }
-    ∷ record {
-      xref = Some (codes "KARL");
-      node = has "INDI" nothing
+          ∷ []),
+    )
+    ∷ (
+      "KARL",
+      has "INDI" nothing
           (has "FAMS" (pointer "FAMILY") []
           ∷ has "NAME" (text "Karl /Braun/") []
           ∷ has "SEX" (text "M") []
-          ∷ []);
-    }
+          ∷ []),
+    )
     ∷ [])
 
 lines_of_another_program : spelled_lines (document_lines of_another_program) ≡ lines (
@@ -138,34 +146,34 @@ unfolding digits
 lines_of_another_program = refl
 
 abbrev canonical : Trees
-canonical = document_trees
+canonical = headed
     (has "HEAD" nothing (has "GEDC" nothing (has "VERS" (text "7.0") [] ∷ []) ∷ has "COPR" (text "The Braun family") [] ∷ []))
-    (record {
-      xref = Some (codes "X1");
-      node = has "FAM" nothing
+    ((
+      "X1",
+      has "FAM" nothing
           (has "HUSB" (pointer "X3") []
           ∷ has "MARR" nothing (has "DATE" (text "BEF 1895") [] ∷ [])
           ∷ has "NOTE" (Text (codes "The register was lost." ∷ codes "A copy is in Stuttgart." ∷ [])) []
           ∷ has "WIFE" (pointer "X2") []
-          ∷ []);
-    }
-    ∷ record {
-      xref = Some (codes "X2");
-      node = has "INDI" nothing
+          ∷ []),
+    )
+    ∷ (
+      "X2",
+      has "INDI" nothing
           (has "BIRT" nothing (has "DATE" (text "3 MAY 1871") [] ∷ has "PLAC" (text "Ulm") [] ∷ [])
           ∷ has "FAMS" (pointer "X1") []
           ∷ has "NAME" (text "Anna /Weber/") (has "GIVN" (text "Anna") [] ∷ has "SURN" (text "Weber") [] ∷ [])
           ∷ has "SEX" (text "F") []
-          ∷ []);
-    }
-    ∷ record {
-      xref = Some (codes "X3");
-      node = has "INDI" nothing
+          ∷ []),
+    )
+    ∷ (
+      "X3",
+      has "INDI" nothing
           (has "FAMS" (pointer "X1") []
           ∷ has "NAME" (text "Karl /Braun/") []
           ∷ has "SEX" (text "M") []
-          ∷ []);
-    }
+          ∷ []),
+    )
     ∷ [])
 
 lines_of_canonical : spelled_lines (document_lines canonical) ≡ lines (

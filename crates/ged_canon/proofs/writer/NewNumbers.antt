@@ -7,8 +7,6 @@ use Rattle.std.proofs.lemmas.Grind.{get_or-set_at}
 use Rattle.std.proofs.lemmas.List.{take-append-drop, take_more}
 use Rattle.ged_line.specs.Bytes.{Bytes}
 use Rattle.ged_tree.specs.Trees.{Trees, none, tree}
-use Rattle.ged_document.specs.Records.{record_trees}
-use Rattle.ged_document.specs.declared.node.RecordNode.{RecordNode}
 use Rattle.ged_link.specs.Links.{IsAmong, AreDistinct, xrefs, identifiers, IsRecordNumber}
 use Rattle.ged_link.specs.inner.Identifiers.{with_xref}
 use Rattle.ged_canon.specs.inner.Working.{number_among}
@@ -54,18 +52,6 @@ places_more d names name numbers place number are here only fresh inside counted
 
 -- names of records
 
-names_append : (rs qs : List RecordNode) → xrefs (record_trees (rs ++ qs)) ≡ xrefs (record_trees rs) ++ xrefs (record_trees qs)
-names_append [] qs = refl
-names_append (r ∷ rs) qs = ap (with_xref r.xref) (names_append rs qs) ∙ joined r.xref
-  where
-    joined : (x : Option Bytes) → with_xref x (xrefs (record_trees rs) ++ xrefs (record_trees qs)) ≡ with_xref x (xrefs (record_trees rs)) ++ xrefs (record_trees qs)
-    joined None = refl
-    joined (Some name) = refl
-
--- the names of so many records, and of one more
-pub names_more : (rs : List RecordNode) (n : ℕ) (r : RecordNode) → n < length rs → get_or rs n r ≡ r → xrefs (record_trees (take (n + 1) rs)) ≡ xrefs (record_trees (take n rs)) ++ with_xref r.xref []
-names_more rs n r inside is = ap (λ qs. xrefs (record_trees qs)) (take_more rs n r inside ∙ ap (λ q. take n rs ++ q ∷ []) is) ∙ names_append (take n rs) (r ∷ [])
-
 pub among_back : (xs ys : List Bytes) (name : Bytes) → IsAmong name ys → IsAmong name (xs ++ ys)
 among_back [] ys name k = k
 among_back (x ∷ xs) ys name k = inr (among_back xs ys name k)
@@ -83,20 +69,6 @@ distinct_apart (x ∷ xs) ys name h (inr k) j = distinct_apart xs ys name h.1 k 
 pub distinct_front : (xs ys : List Bytes) → AreDistinct (xs ++ ys) → AreDistinct xs
 distinct_front [] ys h = tt
 distinct_front (x ∷ xs) ys h = ((λ k. h.0 (among_front xs ys x k)), distinct_front xs ys h.1)
-
--- the name of a record is none of those before it
-pub fresh_name : (rs : List RecordNode) (n : ℕ) (r : RecordNode) (name : Bytes) → n < length rs → get_or rs n r ≡ r → r.xref ≡ Some name → AreDistinct (xrefs (record_trees rs)) → IsAmong name (xrefs (record_trees (take n rs))) → ⊥
-fresh_name rs n r name inside is here distinct k =
-    let front : AreDistinct (xrefs (record_trees (take (n + 1) rs))) = distinct_front (xrefs (record_trees (take (n + 1) rs))) (xrefs (record_trees (drop (n + 1) rs)))
-    (subst AreDistinct (ap (λ qs. xrefs (record_trees qs)) (sym (take-append-drop (n + 1) rs)) ∙ names_append (take (n + 1) rs) (drop (n + 1) rs)) distinct) in
-    distinct_apart (xrefs (record_trees (take n rs))) (name ∷ []) name (subst AreDistinct (names_more rs n r inside is ∙ ap (λ x. xrefs (record_trees (take n rs)) ++ with_xref x []) here) front) k (inl refl)
-
--- and is a name of the records
-pub name_among : (rs : List RecordNode) (n : ℕ) (r : RecordNode) (name : Bytes) → n < length rs → get_or rs n r ≡ r → r.xref ≡ Some name → IsAmong name (xrefs (record_trees rs))
-name_among rs n r name inside is here =
-    subst (IsAmong name) (sym (names_append (take (n + 1) rs) (drop (n + 1) rs)) ∙ ap (λ qs. xrefs (record_trees qs)) (take-append-drop (n + 1) rs))
-    (among_front (xrefs (record_trees (take (n + 1) rs))) (xrefs (record_trees (drop (n + 1) rs))) name
-    (subst (IsAmong name) (sym (names_more rs n r inside is ∙ ap (λ x. xrefs (record_trees (take n rs)) ++ with_xref x []) here)) (among_back (xrefs (record_trees (take n rs))) (name ∷ []) name (inl refl))))
 
 -- a name among identifiers has a number
 pub numbered_among : (xs : Trees) (name : Bytes) → IsAmong name (xrefs xs) → (number : ℕ) × (slice_get (identifiers xs) number ≡ Some (Some name))

@@ -8,8 +8,7 @@ use Rattle.std.proofs.lemmas.Cmp.{tied_itself}
 use Rattle.std.proofs.lemmas.Bool.{true≢false, cases_Bool}
 use Rattle.ged_line.specs.Bytes.{Bytes}
 use Rattle.ged_line.specs.Names.{tag_order}
-use Rattle.ged_tree.specs.Trees.{Structure, Trees, none, tree, structure_of, trees_of}
-use Rattle.ged_document.specs.Records.{record_trees}
+use Rattle.ged_tree.specs.Trees.{Structure, Trees, none, tree}
 use Rattle.ged_schema.specs.declared.context.Context.{Context}
 use Rattle.ged_schema.specs.Tables.{context_below}
 use Rattle.ged_canon.specs.declared.edition.Edition.{Edition}
@@ -184,13 +183,6 @@ module _ {A : Type 0} (structure : A → Structure) (below : A → Trees) (trees
 
   pub a_stable_sort_of_trees : (xs ys : List A) → IsSortedBy (before own_tag) ys → IsStableBy (before own_tag) xs ys → trees ys ≡ grouped (trees xs)
   a_stable_sort_of_trees xs ys h k = ap trees (a_stable_sort own_tag xs ys h k) ∙ all_put xs
-
--- the trees of nodes, and of records
-pub nodes_listed : AreListed (λ t. structure_of None t) (λ t. t.children) trees_of
-nodes_listed = record { nothing = refl; first = λ t ts. refl }
-
-pub records_listed : AreListed (λ r. structure_of r.xref r.node) (λ r. r.node.children) record_trees
-records_listed = record { nothing = refl; first = λ r rs. refl }
 
 pub grouped_is_sorted : (edition : Edition) (context : Context) (xs : Trees) → grouped (each_sorted edition context xs) ≡ sorted edition context xs
 grouped_is_sorted edition context none = refl

@@ -8,8 +8,7 @@ use Rattle.ged_line.specs.Bytes.{Bytes}
 use Rattle.ged_line.specs.Names.{tag_order}
 use Rattle.ged_tree.specs.declared.payload.Payload.{Payload}
 use Rattle.ged_tree.specs.declared.payload.Payload.TheVariants.{Void, Pointer, Text}
-use Rattle.ged_document.specs.declared.node.RecordNode.{RecordNode}
-use Rattle.ged_tree.specs.Trees.{Structure, Trees, none, tree, Tree}
+use Rattle.ged_tree.specs.Trees.{Structure, Trees, none, tree}
 use Rattle.ged_value.specs.Words.{words_of, joined}
 use Rattle.ged_value.specs.Default.{default_word, is_other}
 use Rattle.ged_value.specs.Zeros.{has_leading_zero, trim_zeros}
@@ -22,8 +21,8 @@ use Rattle.ged_schema.specs.Rows.{Row}
 use Rattle.ged_schema.specs.Tables.{row, context_below}
 use Rattle.ged_canon.specs.declared.edition.Edition.{Edition}
 use Rattle.ged_canon.specs.declared.edition.Edition.TheVariants.{First, Second}
-use Rattle.ged_canon.specs.Steps.{renamed_payload, renamed}
-use Rattle.ged_canon.specs.inner.StepParts.{with_payload, with_identifier, is_dated, is_numeric, renamed_xref}
+use Rattle.ged_canon.specs.Steps.{renamed}
+use Rattle.ged_canon.specs.inner.StepParts.{with_payload, with_identifier, is_dated, is_numeric}
 use Rattle.ged_canon.specs.Normal.{numbered}
 
 -- Use, as a test.
@@ -126,14 +125,6 @@ each_sorted edition context none = none
 each_sorted edition context (tree s below next) =
     tree (brief_structure edition context s) (sorted edition (context_below context s.tag) below) (each_sorted edition context next)
 
--- a tree in a context, its payload brief, with what stands below it in order
-abbrev pub placed : Edition → Context → Tree → Tree
-placed edition context t = record {
-  tag = t.tag;
-  payload = brief edition (row context t.tag) t.payload;
-  children = sorted edition (context_below context t.tag) t.children;
-}
-
 -- of a document, HEAD stays first
 abbrev pub sorted_document : Edition → Trees → Trees
 sorted_document edition none = none
@@ -161,18 +152,6 @@ pub record AreNumbersOf (d : Trees) (names : List Bytes) (numbers : List ℕ) : 
 -- so are they for a document that has this index
 abbrev pub IsNumberingOf : Trees → List Bytes → Index → List ℕ → Type 0
 IsNumberingOf d names index numbers = IsIndexOf d index × AreNumbersOf d names numbers
-
--- so are they for the document of an index
-abbrev pub IsNumbering : List Bytes → Index → List ℕ → Type 0
-IsNumbering names index numbers = (d : Trees) × IsNumberingOf d names index numbers
-
--- a tree with new names in its pointers
-abbrev pub renamed_tree : (Bytes → Bytes) → Tree → Tree
-renamed_tree new t = record { tag = t.tag; payload = renamed_payload new t.payload; children = renamed new t.children }
-
--- a record with a new identifier, and with new names in its pointers
-abbrev pub renamed_record : (Bytes → Bytes) → RecordNode → RecordNode
-renamed_record new r = record { xref = renamed_xref new r.xref; node = renamed_tree new r.node }
 
 abbrev pub numbered_document : Trees → Trees
 numbered_document d = renamed (number_of 1 (xrefs d)) d

@@ -43,33 +43,59 @@ fn has_leading_zero(word: &str) -> bool
     trim_zeros(word) != word
 }
 
-fn is_left_out(word: &str, without_calendar: bool) -> bool
-    ensures { result ≡ (without_calendar && bytes_eq word.now default_word) }
-{
-    without_calendar && word == "GREGORIAN"
+/// What payloads of a kind are written without.
+#[derive(Clone, Copy)]
+struct LeftOut {
+    /// The word of the default calendar.
+    calendar: bool,
+    /// Leading zeros.
+    zeros: bool,
 }
 
-/// Whether a word stays, where the default calendar's word is left out, or leading zeros are.
-fn is_brief_word(word: &str, without_calendar: bool, without_zeros: bool) -> bool
-    ensures { result ≡ tests_word without_calendar without_zeros word.now }
+/// What an edition leaves out in payloads at a place with this rule.
+#[inline(always)]
+fn left_out_at(edition: Edition, rule: &Rule) -> LeftOut
+    ensures calendar { result.calendar ≡ tests_calendar rule.now.kind }
+    ensures zeros { result.zeros ≡ (is_second edition && tests_integers rule.now.kind) }
 {
-    !is_left_out(word, without_calendar) && !(without_zeros && has_leading_zero(word))
+    let zeros = match edition {
+        Edition::First => false,
+        Edition::Second => has_integers(rule.kind),
+    };
+    LeftOut {
+        calendar: has_calendar(rule.kind),
+        zeros,
+    }
+}
+
+/// Whether a word is left out as a whole.
+fn is_left_out(word: &str, left_out: LeftOut) -> bool
+    ensures { result ≡ (left_out.calendar && bytes_eq word.now default_word) }
+{
+    left_out.calendar && word == "GREGORIAN"
+}
+
+/// Whether a word stays as it is.
+fn is_brief_word(word: &str, left_out: LeftOut) -> bool
+    ensures { result ≡ tests_word left_out.calendar left_out.zeros word.now }
+{
+    !is_left_out(word, left_out) && !(left_out.zeros && has_leading_zero(word))
 }
 
 /// Whether all words of a line stay. No word is read where none is left out, nor where only GREGORIAN is and no byte is a G.
-fn are_brief_words(line: &str, without_calendar: bool, without_zeros: bool) -> bool
-    ensures { result ≡ list_all (tests_word without_calendar without_zeros) (words_of line.now) }
+fn are_brief_words(line: &str, left_out: LeftOut) -> bool
+    ensures { result ≡ list_all (tests_word left_out.calendar left_out.zeros) (words_of line.now) }
 {
-    if !without_calendar && !without_zeros {
+    if !left_out.calendar && !left_out.zeros {
         return true;
     }
-    if !without_zeros && !line.as_bytes().contains(&b'G') {
+    if !left_out.zeros && !line.as_bytes().contains(&b'G') {
         return true;
     }
     let mut rest = Some(line);
     while let Some(left) = rest {
         let (word, behind) = first_word(left);
-        if !is_brief_word(word, without_calendar, without_zeros) {
+        if !is_brief_word(word, left_out) {
             return false;
         }
         rest = behind;
@@ -77,39 +103,26 @@ fn are_brief_words(line: &str, without_calendar: bool, without_zeros: bool) -> b
     true
 }
 
-#[inline(always)]
-fn leaves_zeros_out(edition: Edition, kind: Kind) -> bool
-    ensures { result ≡ (is_second edition && tests_integers kind) }
-{
-    match edition {
-        Edition::First => false,
-        Edition::Second => has_integers(kind),
-    }
-}
-
 /// Whether there are payloads at a place with this rule in which something can be left out.
 #[inline(always)]
 pub(crate) fn may_be_shortened(edition: Edition, rule: &Rule) -> bool
     ensures { result ≡ may_shorten edition (Some (as_row rule.now)) }
 {
-    has_calendar(rule.kind) || leaves_zeros_out(edition, rule.kind)
+    let left_out = left_out_at(edition, rule);
+    left_out.calendar || left_out.zeros
 }
 
 /// Whether nothing can be left out in a line of a payload at a place with this rule.
 pub(crate) fn is_brief_line(edition: Edition, rule: &Rule, line: &str) -> bool
     ensures { IsTrue result ↔ IsBrief edition (Some (as_row rule.now)) line.now }
 {
-    are_brief_words(
-        line,
-        has_calendar(rule.kind),
-        leaves_zeros_out(edition, rule.kind),
-    )
+    are_brief_words(line, left_out_at(edition, rule))
 }
 
-fn trimmed(word: &str, without_zeros: bool) -> &str
-    ensures { result.now ≡ (if without_zeros then trims_zeros word.now else word.now) }
+fn trimmed(word: &str, left_out: LeftOut) -> &str
+    ensures { result.now ≡ (if left_out.zeros then trims_zeros word.now else word.now) }
 {
-    if without_zeros {
+    if left_out.zeros {
         trim_zeros(word)
     } else {
         word
@@ -135,15 +148,14 @@ pub(crate) fn brief_line(
 ) -> Result<String, AllocError>
     ensures { IfOk result (λ brief. string_bytes brief ≡ spells_brief edition (Some (as_row rule.now)) line.now) }
 {
-    let without_calendar = has_calendar(rule.kind);
-    let without_zeros = leaves_zeros_out(edition, rule.kind);
+    let left_out = left_out_at(edition, rule);
     let mut brief = String::with_capacity(alloc, line.len())?;
     let mut is_first = true;
     let mut rest = Some(line);
     while let Some(left) = rest {
         let (word, behind) = first_word(left);
-        if !is_left_out(word, without_calendar) {
-            append_word(&mut brief, trimmed(word, without_zeros), is_first)?;
+        if !is_left_out(word, left_out) {
+            append_word(&mut brief, trimmed(word, left_out), is_first)?;
             is_first = false;
         }
         rest = behind;

@@ -1,17 +1,9 @@
 -- What is promised of canonical bytes holds.
-use Rattle.std.proofs.Common.{◌≡◌, ◌↔◌, true, List, [], ◌∷◌, refl, sym, ap, ◌∙◌, subst}
-use Rattle.std.specs.List.{AllByRecursion, list_all}
-use Rattle.std.proofs.lemmas.Bool.{and_parts}
+use Rattle.std.proofs.Common.{◌≡◌, ◌↔◌, sym, ap, ◌∙◌, subst}
 use Rattle.ged_line.specs.Bytes.{Bytes}
-use Rattle.ged_line.specs.Lines.{LineParts, is_line}
-use Rattle.ged_line.specs.Files.{FileText}
 use Rattle.ged_line.specs.Spelling.{file_of}
-use Rattle.ged_line.proofs.CallerLemmas.{written_is_read}
 use Rattle.ged_tree.specs.Trees.{Trees}
-use Rattle.ged_tree.specs.Documents.{is_document, HasLines}
 use Rattle.ged_tree.specs.DocumentLines.{document_lines}
-use Rattle.ged_tree.specs.Building.{HasFile}
-use Rattle.ged_tree.proofs.CallerLemmas.{are_lines}
 use Rattle.ged_schema.specs.declared.profile.Profile.{Profile}
 use Rattle.ged_schema.specs.declared.profile.Profile.TheVariants.{Lenient, Strict}
 use Rattle.ged_schema.specs.Profiles.{CheckedAs}
@@ -20,22 +12,11 @@ use Rattle.ged_canon.specs.declared.edition.Edition.TheVariants.{First, Second}
 use Rattle.ged_canon.specs.Steps.{Equivalent, done}
 use Rattle.ged_canon.specs.Normal.{Normal, IsNormalForm}
 use Rattle.ged_canon.specs.CanonText.{CanonText}
-use Rattle.ged_canon.proofs.CallerLemmas.{symmetric, transitive, normal_form_is_unique, document_kept, resolved_kept, checked_kept, no_notice_kept, one_second, normal_in_first}
+use Rattle.ged_canon.proofs.CallerLemmas.{symmetric, transitive, normal_form_is_unique, document_kept, resolved_kept, checked_kept, no_notice_kept, one_second, normal_in_first, has_file}
 use Rattle.ged_accept.specs.Accepted.{IsAccepted}
 use Rattle.ged_tool.specs.Canon.{IsCanon}
 use Rattle.ged_tool.specs.Headline.{IsOwnCanon, Headline, AgreesWithFirst}
 use Rattle.ged_accept.proofs.CallerLemmas.{one_of_file, of_document}
-
-each_line : (lines : List LineParts) → list_all is_line lines ≡ true → AllByRecursion (λ line. is_line line ≡ true) lines
-each_line [] h = tt
-each_line (line ∷ lines) h = let parts = and_parts (is_line line) (list_all is_line lines) h in (parts.0, each_line lines parts.1)
-
--- the canonical spelling of a document is a file with that document
-pub has_file : (d : Trees) (bytes : Bytes) → is_document d ≡ true → CanonText d bytes → HasFile d bytes
-has_file d bytes allowed spelled =
-    let has : HasLines d (document_lines d) = record { allowed = allowed; told = refl } in
-    let text = written_is_read (document_lines d) (each_line (document_lines d) (are_lines d (document_lines d) has).0) in
-    (allowed, subst (FileText (document_lines d)) (sym spelled) text)
 
 -- steps keep what a profile asks
 pub checked_on : (profile : Profile) (edition : Edition) (d e : Trees) → Equivalent edition d e → CheckedAs profile d → CheckedAs profile e

@@ -8,11 +8,11 @@ use Rattle.ged_canon.specs.Steps.{Equivalent, done}
 use Rattle.ged_canon.specs.Normal.{IsNormalForm}
 use Rattle.ged_canon.specs.CanonText.{CanonText}
 use Rattle.ged_canon.specs.Tidy.{EquivalentInPlace, Tidy}
-use Rattle.ged_canon.proofs.CallerLemmas.{document_kept, resolved_kept, in_place_symmetric, in_place_transitive, in_place_equivalent, tidy_form_is_unique, normal_form_of_tidy}
+use Rattle.ged_canon.proofs.CallerLemmas.{document_kept, resolved_kept, in_place_symmetric, in_place_transitive, in_place_equivalent, tidy_form_is_unique, normal_form_of_tidy, has_file}
 use Rattle.ged_accept.specs.Accepted.{IsAccepted}
 use Rattle.ged_tool.specs.Canon.{IsCanon}
 use Rattle.ged_tool.specs.Tidied.{IsTidied, IsOwnTidied, TidyIsPromised}
-use Rattle.ged_tool.proofs.calls.CanonLaws.{has_file, checked_on, one_accepted, one_spelling}
+use Rattle.ged_tool.proofs.calls.CanonLaws.{checked_on, one_accepted, one_spelling}
 use Rattle.ged_accept.proofs.CallerLemmas.{of_document}
 
 -- the tidy file is accepted with the tidy document

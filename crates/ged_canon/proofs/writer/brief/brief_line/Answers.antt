@@ -10,7 +10,7 @@ loop-rest-preserved-in_ok-append_word c =
     let word = c.first_word.result.0.now in
     let grown = c.in_ok-append_word.ensures ∙ ap (λ w. cond c.loop-rest.is_first (line ++ w) (line ++ 32 ∷ w)) c.trimmed.ensures in (
       before.0 ++ word ∷ [],
-      made_more c.has_calendar-without_calendar.result c.leaves_zeros_out-without_zeros.result before.0 word line c.loop-rest.is_first before.1
+      made_more c.left_out_at-left_out.result.calendar c.left_out_at-left_out.result.zeros before.0 word line c.loop-rest.is_first before.1
           (sym c.is_left_out.ensures ∙ c.if-not-is_left_out.true) (string_bytes c.append_word.new.line) grown,
       before.2 ∙ ap (λ words. before.0 ++ words) (ap words_left c.in-Some.is ∙ c.first_word.ensures) ∙ sym (append_assoc before.0 (word ∷ []) (words_left c.first_word.result.1)),
     )
@@ -20,7 +20,7 @@ loop-rest-preserved c =
     let before = c.loop-rest.invariant in
     let word = c.first_word.result.0.now in (
       before.0 ++ word ∷ [],
-      made_same c.has_calendar-without_calendar.result c.leaves_zeros_out-without_zeros.result before.0 word (string_bytes c.loop-rest.brief) c.loop-rest.is_first before.1
+      made_same c.left_out_at-left_out.result.calendar c.left_out_at-left_out.result.zeros before.0 word (string_bytes c.loop-rest.brief) c.loop-rest.is_first before.1
           (sym c.is_left_out.ensures ∙ c.if-not-is_left_out.false),
       before.2 ∙ ap (λ words. before.0 ++ words) (ap words_left c.in-Some.is ∙ c.first_word.ensures) ∙ sym (append_assoc before.0 (word ∷ []) (words_left c.first_word.result.1)),
     )

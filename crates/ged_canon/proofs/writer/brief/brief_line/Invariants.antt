@@ -8,7 +8,7 @@ use Rattle.ged_canon.proofs.writer.brief.brief_line.Given as goal
 -- the line is made of what is left of the words so far, which stand before the others
 abbrev pub invariant-loop-rest : goal.invariant-loop-rest
 invariant-loop-rest l =
-    (words : List Bytes) × MadeOf (string_bytes l.brief) l.is_first (left l.without_calendar l.without_zeros words) × (words_of l.line ≡ words ++ words_left l.rest)
+    (words : List Bytes) × MadeOf (string_bytes l.brief) l.is_first (left l.left_out.calendar l.left_out.zeros words) × (words_of l.line ≡ words ++ words_left l.rest)
 
 abbrev pub decreases-loop-rest : goal.decreases-loop-rest
 decreases-loop-rest l = length (words_left l.rest)

@@ -9,5 +9,5 @@ use Rattle.ged_canon.proofs.writer.brief.is_brief_line.Goals as goal
 pub returns : goal.returns
 returns c =
     let r = Some (as_row c.args.rule.now) in
-    let told = c.are_brief_words.ensures ∙ (λ i. list_all (is_brief_word (c.has_calendar.ensures i) (c.leaves_zeros_out.ensures i)) (words_of c.args.line.now)) in
+    let told = c.are_brief_words.ensures ∙ (λ i. list_all (is_brief_word (c.left_out_at.ensures.calendar i) (c.left_out_at.ensures.zeros i)) (words_of c.args.line.now)) in
     ((λ brief. brief_from c.args.edition r c.args.line.now (sym told ∙ brief)), (λ brief. told ∙ from_brief c.args.edition r c.args.line.now brief))
