@@ -83,7 +83,8 @@ pub struct NewFile<'a, F: Files> {
 
 impl<'a, F: Files> NewFile<'a, F> {
     /// A new file for the place of the one of this name. Nothing is created yet. Answers an error where no file can take that
-    /// place, and notes why: there is one that is no regular file, or may not be written; and where no memory was found. Grows.
+    /// place, and notes why: there is one that is no regular file, or may not be written, or no folder for one; or the name is one of an
+    /// open file, as `/dev/stdout`; and where no memory was found. Grows.
     pub fn new(
         alloc: Global,
         files: &'a F,
@@ -93,9 +94,11 @@ impl<'a, F: Files> NewFile<'a, F> {
         ensures no_failure { IfOk result (λ draft. draft.failed ≡ false) }
         ensures pending { IfOk result (λ draft. draft.fate ≡ Fate.Pending) }
     {
+        refuse_open_file(reason, name)?;
         let target = reason.noting(target_of(alloc, files, name))?;
         let kept = kept_of(files, reason, target.as_str())?;
         let folder = folder_of(alloc, target.as_str())?;
+        reason.noting(find_folder(files, folder.as_str()))?;
         let path = String::with_capacity(alloc, folder.len() + NAME_ROOM)?;
         Ok(NewFile {
             files,
@@ -277,6 +280,29 @@ impl<F: Files> Sink for NewFile<'_, F> {
     fn failed(&self) -> bool {
         self.failed
     }
+}
+
+/// Answers an error for a name under which the system shows a file that is open already: what such a link leads to is no place that
+/// the name was meant to name. Why is noted.
+fn refuse_open_file(reason: &Reason, name: &str) -> io::Result<()> {
+    let links = ["/dev/std", "/dev/fd/", "/proc/"];
+    if links
+        .iter()
+        .any(|link: &&str| -> bool { name.starts_with(*link) })
+    {
+        reason.note_own("a name of an open file");
+        return Err(io::Error::from(ErrorKind::Unsupported));
+    }
+    Ok(())
+}
+
+/// Answers an error where there is no folder of this path, of which the empty one is that of the current folder.
+fn find_folder<F: Files>(files: &F, folder: &str) -> io::Result<()> {
+    let path = if folder.is_empty() { "." } else { folder };
+    if fs::metadata(files, path)?.is_dir() {
+        return Ok(());
+    }
+    Err(io::Error::from(ErrorKind::NotADirectory))
 }
 
 /// The path of the file that a name is of: where it is of a symbolic link, the file that this leads to.

@@ -14,7 +14,7 @@ pub(crate) fn say_wrong_by_tables(
     told: &mut Explanation,
 ) {
     match kind {
-        FileFault::WrongVersion => say_version(own, told),
+        FileFault::WrongVersion => say_version(site, own, told),
         FileFault::BadPayload => say_payload(site, own, told),
         FileFault::TooMany => say_too_many(site, own, told),
         FileFault::Missing => say_missing(site, own, told),
@@ -22,14 +22,16 @@ pub(crate) fn say_wrong_by_tables(
     }
 }
 
-fn say_version(own: Step<'_>, told: &mut Explanation) {
+fn say_version(site: &Site<'_, '_>, own: Step<'_>, told: &mut Explanation) {
     told.say("this file says ");
     match own.value {
+        _ if site.is_continued(own) => told.say("a version of several lines"),
+        ValueView::Empty => told.say("no version"),
         ValueView::Text(_) => {
             told.say("version ");
             say_value(own.value, told);
         }
-        _ => told.say("no version"),
+        _ => say_value(own.value, told),
     }
     told.say("; gedtool reads 7.0");
 }

@@ -1,5 +1,5 @@
 -- How many further lines stand before a place.
-use Rattle.std.proofs.Common.{◌≡◌, ℕ, Bool, suc, zero, ◌+◌, ◌<◌, ◌≤◌, true, false, List, [], ◌∷◌, ◌++◌, length, map, get_or, refl, sym, ◌∙◌, ap, subst, arith, inl, inr, append_assoc, length-append}
+use Rattle.std.proofs.Common.{◌≡◌, ℕ, Bool, suc, zero, ◌+◌, ◌<◌, ◌≤◌, true, false, List, [], ◌∷◌, ◌++◌, length, map, get_or, ◌-◌, refl, sym, ◌∙◌, ap, subst, arith, inl, inr, append_assoc, length-append}
 use Rattle.std.specs.Prelude.{nat_le, if◌then◌else◌, Some, take, drop, slice_get}
 use Rattle.std.specs.List.{AllByRecursion}
 use Rattle.std.specs.List.Sorted.{IsNonDecreasingBy, IsPartitionPoint}
@@ -39,6 +39,22 @@ point_is place p [] (suc n) h point = absurd (omega arith)
 point_is place p (x ∷ xs) zero h point = rw (point.1 0 x (omega arith) (omega arith)) refl
 point_is place p (x ∷ xs) (suc n) h point =
     rw (point.0 0 x (omega arith) (omega arith)) (let more = point_is place p xs n (omega arith) (λ k d low high. point.0 (suc k) d (omega arith) (omega arith), λ k d low high. point.1 (suc k) d (omega arith) (omega arith)) in omega (arith, more))
+
+-- no more are counted than there are
+pub before_most : (p : ℕ) (places : List ℕ) → further_before p places ≤ length places
+before_most p [] = omega arith
+before_most p (a ∷ as') = elim (cases_Bool (nat_le a p)) [
+  | inl t ↦ rw t (let more = before_most p as' in omega (arith, more))
+  | inr f ↦ rw f (omega arith)
+]
+
+-- where the lines stand in order, those beside a number tell whether it is that of the lines before a place
+pub point_between : {A : Type 0} (place : A → ℕ) (p : ℕ) (lines : List A) (n : ℕ) → IsNonDecreasingBy place lines → n ≤ length lines
+    → ((d : A) → 0 < n → place (get_or lines (n - 1) d) ≤ p) → ((d : A) → n < length lines → p < place (get_or lines n d)) → n ≡ further_before p (map place lines)
+point_between place p lines n rising within before behind = point_is place p lines n within (
+  (λ k d l h. low (place (get_or lines k d)) p (let some : 0 < n = omega (arith, h) in let last = before d some in let least = rising k (n - 1) d (omega (arith, h)) (omega (arith, within, some)) in omega (arith, last, least))),
+  (λ k d l h. high (place (get_or lines k d)) p (let first = behind d (omega (arith, l, h)) in let least = rising n k d l h in omega (arith, first, least))),
+)
 
 -- where all of the first ones stand before a place, others may too, and where one of them does not, none of the others is counted
 pub before_behind : (p : ℕ) (xs ys : List ℕ) → further_before p xs ≡ length xs → further_before p (xs ++ ys) ≡ length xs + further_before p ys

@@ -1,8 +1,9 @@
 // The lines of a payload past the first.
-ghost use Rattle.std.specs.Prelude.{◌≡◌, ◌≤◌, ◌<◌, ◌+◌, ℕ, [], List, Some, IsSome, IfOk, IfSome, length, take, drop, nat_le, slice_get};
+ghost use Rattle.std.specs.Prelude.{◌≡◌, ◌≤◌, ◌<◌, ◌+◌, ◌-◌, ℕ, [], List, Some, IsSome, IsTrue, IfOk, IfSome, length, map, take, drop, nat_le, slice_get, slice_index_or};
 ghost use Rattle.std.specs.List.Sorted.{IsNonDecreasingBy};
 ghost use Rattle.ged_line.specs.Bytes.{Bytes};
 ghost use Rattle.ged_tree.specs.Rows.{further_before, further_of, places_of, texts_of, HasFurther};
+ghost use Rattle.ged_tree.specs.declared.forest.continuations.FurtherSlice.{FurtherSlice as AnySlice};
 ghost use Rattle.ged_tree.specs.inner.Tables.{IsFurtherPut, IsSliceAt};
 
 use std::alloc::{AllocError, Global};
@@ -25,6 +26,9 @@ const _: () = prove!(size_of::<FurtherSlice>() == 12);
 /// The greatest number that is kept of a slice.
 const GREATEST: usize = u32::MAX as usize;
 
+/// Of so many structures that follow each other it is kept which lines stand before them.
+const BLOCK: usize = 64;
+
 /// A line of a payload past the first whose text is kept as it is.
 #[derive(Clone, Copy)]
 pub(crate) struct FurtherApart<'a> {
@@ -36,6 +40,9 @@ pub(crate) struct FurtherApart<'a> {
 #[derive(Drop)]
 pub(crate) struct FurtherTable<'a> {
     slices: Vec<FurtherSlice>,
+    /// For each [`BLOCK`] of structures, up to the last one with a slice, about how many slices stand before its first structure: where to
+    /// look, so no clause speaks of it.
+    starts: Vec<u32>,
     /// Those from the first on that is no slice of the file, or has a number that is too large to be kept.
     apart: Vec<FurtherApart<'a>>,
 }
@@ -58,6 +65,62 @@ fn further_slice(after: usize, start: Option<usize>, length: usize) -> Option<Fu
     })
 }
 
+/// Keeps for each block up to that of a place how many slices there are, if nothing is kept of it yet.
+#[inline(always)]
+fn list_starts(starts: &mut Vec<u32>, place: usize, count: usize) -> Result<(), AllocError> {
+    for _ in starts.len()..place / BLOCK + 1 {
+        starts.push(count.min(GREATEST) as u32)?;
+    }
+    Ok(())
+}
+
+/// What is kept of a block, and where nothing is, the number of all slices.
+fn start_of(starts: &[u32], block: usize, count: usize) -> usize
+    ensures { result ≤ count }
+{
+    match starts.get(block) {
+        Some(start) => count.min(*start as usize),
+        None => count,
+    }
+}
+
+/// How many slices stand before the structure at a place, as a search of all of them tells.
+fn count_before(slices: &[FurtherSlice], place: usize) -> usize
+    ensures bound { result ≤ length slices.now }
+    ensures count { IsNonDecreasingBy (λ line. line.after) slices.now → result ≡ further_before place (map (λ line. line.after) slices.now) }
+{
+    slices.partition_point(
+        |line: &FurtherSlice| -> bool
+            ensures { result ≡ nat_le line.now.after place }
+        { line.after as usize <= place },
+    )
+}
+
+/// Whether the last of so many slices stands before the structure at a place; true where there is none.
+fn is_last_before(slices: &[FurtherSlice], place: usize, number: usize) -> bool
+    requires { number ≤ length slices.now }
+    ensures { IsTrue result → (d : AnySlice) → 0 < number → (slice_index_or slices.now (number - 1) d).after ≤ place }
+{
+    number == 0 || slices[number - 1].after as usize <= place
+}
+
+/// Whether the slice behind so many doesn't stand before the structure at a place; true where there is none.
+fn is_first_behind(slices: &[FurtherSlice], place: usize, number: usize) -> bool
+    requires { number ≤ length slices.now }
+    ensures { IsTrue result → (d : AnySlice) → number < length slices.now → place < (slice_index_or slices.now number d).after }
+{
+    number == slices.len() || slices[number].after as usize > place
+}
+
+/// Whether so many slices stand before the structure at a place, and no more.
+fn ends_before(slices: &[FurtherSlice], place: usize, number: usize) -> bool
+    requires order { IsNonDecreasingBy (λ line. line.after) slices.now }
+    requires within { number ≤ length slices.now }
+    ensures { IsTrue result → number ≡ further_before place (map (λ line. line.after) slices.now) }
+{
+    is_last_before(slices, place, number) && is_first_behind(slices, place, number)
+}
+
 impl<'a> FurtherTable<'a> {
     pub(crate) fn new(alloc: Global) -> FurtherTable<'a>
         ensures slices { result.slices.items ≡ [] }
@@ -65,6 +128,7 @@ impl<'a> FurtherTable<'a> {
     {
         FurtherTable {
             slices: Vec::new(alloc),
+            starts: Vec::new(alloc),
             apart: Vec::new(alloc),
         }
     }
@@ -83,12 +147,41 @@ impl<'a> FurtherTable<'a> {
     {
         if self.apart.is_empty() {
             if let Some(slice) = further_slice(after, start, text.len()) {
+                list_starts(&mut self.starts, after, self.slices.len())?;
                 self.slices.push(slice)?;
                 return Ok(());
             }
         }
         self.apart.push(FurtherApart { after, text })?;
         Ok(())
+    }
+
+    /// A number of slices, that of those before a place unless what is kept of its block is not exact.
+    fn about_before(&self, place: usize) -> usize
+        ensures { result ≤ length self.now.slices.items }
+    {
+        let count = self.slices.len();
+        let block = place / BLOCK;
+        let low = start_of(self.starts.as_slice(), block, count);
+        let high = start_of(self.starts.as_slice(), block + 1, count);
+        if low > high {
+            return count;
+        }
+        low + count_before(&self.slices[low..high], place)
+    }
+
+    /// How many slices stand before the structure at a place. Few are looked at.
+    fn slices_before(&self, place: usize) -> usize
+        requires { IsNonDecreasingBy (λ line. line.after) self.now.slices.items }
+        ensures bound { result ≤ length self.now.slices.items }
+        ensures count { result ≡ further_before place (map (λ line. line.after) self.now.slices.items) }
+    {
+        let slices = self.slices.as_slice();
+        let about = self.about_before(place);
+        if ends_before(slices, place, about) {
+            return about;
+        }
+        count_before(slices, place)
     }
 
     /// How many lines stand before the structure at a place.
@@ -98,11 +191,7 @@ impl<'a> FurtherTable<'a> {
         requires apart { IsNonDecreasingBy (λ line. line.after) self.now.apart.items }
         ensures { (file : Bytes) → result ≡ further_before place (places_of (further_of file self.now)) }
     {
-        let before = self.slices.partition_point(
-            |line: &FurtherSlice| -> bool
-                ensures { result ≡ nat_le line.now.after place }
-            { line.after as usize <= place },
-        );
+        let before = self.slices_before(place);
         if before < self.slices.len() {
             return before;
         }
