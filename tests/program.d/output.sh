@@ -55,6 +55,11 @@ check_places() {
     local at=$room/folder/a.ged canonical=$mark$smallest
     fill a.ged "$smallest"
     puts "a file in a folder that is missing" 3 "$unwritten" "a.ged:$smallest" ./gedtool canon -o "$room/folder/none/b.ged" "$at"
+    fill a.ged "$header"
+    puts "a folder that is missing, before the file is read" 3 "$unwritten" "a.ged:$header" ./gedtool canon -o "$room/folder/none/b.ged" "$at"
+    puts "a folder that is none" 3 "$unwritten" "a.ged:$header" ./gedtool canon -o "$at/b.ged" "$at"
+    fill a.ged "$smallest"
+    check_open_files
     puts "a file without a name" 3 "$unwritten" "a.ged:$smallest" ./gedtool canon -o "" "$at"
     mkdir -- "$room/folder/b"
     puts "a folder" 3 "$unwritten" "a.ged:${smallest}b:" ./gedtool canon -o "$room/folder/b" "$at"
@@ -66,6 +71,19 @@ check_places() {
     report "the link still leads there" b.ged "$(readlink -- "$room/folder/c.ged")"
     rm -- "$room/folder/b.ged"
     puts "a link that leads nowhere" 3 "$unwritten" "a.ged:${smallest}c.ged:" ./gedtool canon -o "$room/folder/c.ged" "$at"
+}
+
+# Names under which the system shows a file that is open: that file stays.
+check_open_files() {
+    local name at=$room/folder/a.ged
+    for name in /dev/stdout /dev/fd/1 /proc/self/fd/1; do
+        printf 'old\n' >"$room/log"
+        report "$name, where standard output is a file" "3: $unwritten: old" \
+            "$(./gedtool canon -o "$name" "$at" >>"$room/log" 2>"$room/told"; echo "$?: $(cat -- "$room/told"): $(cat -- "$room/log")")"
+    done
+    explained "a name of an open file, explained" 3 "" "$unwritten" "  file: /dev/stdout
+  reason: a name of an open file
+  cause: $(part_of 26 cause)" ./gedtool canon --explain -o /dev/stdout "$at"
 }
 
 # What is kept of a file that is replaced.

@@ -13,7 +13,8 @@ use Rattle.ged_faults.specs.declared.faults.Outcome.TheVariants.{Done, Different
 use Rattle.ged_cmd.specs.Shelves.{ShelfCall, opening}
 use Rattle.ged_cmd.specs.inner.Calling.{opening_all}
 use Rattle.ged_cmd.specs.Tasks.{is_input}
-use Rattle.ged_cmd.specs.Program.{AreDigested, and_file, and_input, and_nothing, Files, IsDigested, IsNotOpened, IsReadOn, IsWrittenOn, Reader, SomeFile, Writer, graver, read_in_all, written_in_all}
+use Rattle.ged_cmd.specs.Program.{AreDigested, and_file, and_input, and_nothing, Files, IsDigested, IsNotOpened, IsReadOn, IsWrittenOn, SomeFile, graver, read_in_all, written_in_all}
+use Rattle.ged_cmd.specs.Streams.{Reader, Writer}
 use Rattle.ged_cmd.specs.inner.Tasks.{names_of}
 
 -- a file's name, among the names of all

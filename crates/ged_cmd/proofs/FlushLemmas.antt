@@ -18,7 +18,8 @@ use Rattle.ged_faults.specs.declared.faults.Outcome.{Outcome}
 use Rattle.ged_faults.specs.declared.faults.Outcome.TheVariants.{Done, Different, Failed}
 use Rattle.ged_tool.specs.declared.runs.answer.Command.{Command}
 use Rattle.ged_tool.specs.Limits.{greatest_limit}
-use Rattle.ged_cmd.specs.Program.{Files, IsAnswerOf, IsCompared, IsOver, Reader, Writer, reader as reader_of}
+use Rattle.ged_cmd.specs.Program.{Files, IsAnswerOf, IsCompared, IsOver}
+use Rattle.ged_cmd.specs.Streams.{Reader, Writer, reader as reader_of}
 use Rattle.ged_cmd.specs.inner.Flushes.{IsFlushed}
 
 -- what a writer took stays taken where what it holds is kept

@@ -1,6 +1,6 @@
 -- A text as it is shown has no character that misleads.
 use Rattle.std.proofs.Common.{◌≡◌, ℕ, Bool, true, false, ◌||◌, List, [], ◌∷◌, ◌++◌, append-nil, codes, chars, encode_utf8, flat_map, refl, sym, subst, if◌then◌else◌, IfOk, Result, Ok, Err}
-use Rattle.std.specs.Str.{NonePass, NoCharPasses}
+use Rattle.std.specs.Str.{NonePass}
 use Rattle.std.proofs.lemmas.Str.{NoCharPasses-append, NoCharPasses-nil}
 use Rattle.ged_explain.specs.Characters.{misleads, is_blank, takes_no_room, is_unseen}
 use Rattle.ged_explain.specs.Showing.{IsSeen}

@@ -3,3 +3,4 @@ pub mod DigestLemmas
 pub mod FlushLemmas
 mod Harmless
 mod ShelfLemmas
+mod ToldLemmas

@@ -1,9 +1,10 @@
 -- What the program does, for the words, the files and the streams that it has.
-use Rattle.std.specs.Prelude.{◌≡◌, ◌≢◌, ◌↔◌, ◌⊎◌, ℕ, nat_lt, List, [], ◌∷◌, ◌++◌, Bool, true, false, ⊤, IsTrue, Option, Some, None, if◌then◌else◌}
+use Rattle.std.specs.Prelude.{◌≡◌, ◌≢◌, ◌↔◌, ◌⊎◌, ℕ, nat_lt, List, [], ◌∷◌, ◌++◌, Bool, true, false, ⊤, IsTrue, Option, Some, None, map, if◌then◌else◌}
 use Rattle.clap.specs.Words.{Text, fault_of}
 use Rattle.clap.specs.Kinds.{IsAmong}
 use Rattle.clap.specs.declared.error.kind.ErrorKind.{ErrorKind}
 use Rattle.clap.specs.declared.error.kind.ErrorKind.TheVariants.{DisplayHelp, DisplayVersion, OutOfMemory}
+use Rattle.std.specs.Io.KnownBytes.{Appends}
 use Rattle.ged_tool.specs.declared.Profile.{Profile}
 use Rattle.ged_tool.specs.declared.Edition.{Edition}
 use Rattle.ged_accept.specs.Accepted.{FileFaultAt}
@@ -24,31 +25,14 @@ use Rattle.ged_faults.specs.declared.faults.Outcome.{Outcome}
 use Rattle.ged_faults.specs.declared.faults.Outcome.TheVariants.{Done, Failed}
 use Rattle.ged_devices.specs.declared.drafts.Fate.{Fate}
 use Rattle.ged_devices.specs.declared.drafts.Fate.TheVariants.{Pending, Placed, Dropped}
+use Rattle.ged_explain.specs.Names.{Named, as_named}
+use Rattle.ged_explain.specs.declared.faults.Meaning.{Meaning}
 use Rattle.ged_cmd.specs.CommandLine.{gedtool}
+use Rattle.ged_cmd.specs.Streams.{Reader, Writer, reader, writer}
+use Rattle.ged_cmd.specs.Telling.{Tells, faults_asked, meanings_text}
 use Rattle.ged_cmd.specs.Shelves.{ShelfCall, drafting, opening, opening_named}
-use Rattle.ged_cmd.specs.Tasks.{Task, asked, digest, explain, input_same, is_input, run, same}
+use Rattle.ged_cmd.specs.Tasks.{Task, asked, digest, explain, explains, input_same, is_input, run, same}
 use Rattle.ged_tool.specs.Limits.{greatest_limit}
-
--- what was done with a reader: the bytes to come before and after, where it tells them, and whether it has failed
-pub record Reader : Type 0 where
-  pub to_come : Option (List ℕ)
-  pub left : Option (List ℕ)
-  pub failed : Bool
-
--- what was done with a writer: the bytes taken before and after, where it tells them, and whether it has failed
-pub record Writer : Type 0 where
-  pub taken : Option (List ℕ)
-  pub holds : Option (List ℕ)
-  pub failed : Bool
-
-module _ {D : Type 0} where
-  -- the reader between two states of a device, by what the device tells
-  abbrev pub reader : (D → Option (List ℕ)) → (D → Bool) → D → D → Reader
-  reader to_come failed old new = record { to_come = to_come old; left = to_come new; failed = failed new }
-
-  -- the writer between two states of a device
-  abbrev pub writer : (D → Option (List ℕ)) → (D → Bool) → D → D → Writer
-  writer taken failed old new = record { taken = taken old; holds = taken new; failed = failed new }
 
 abbrev pub IsUnread : Reader → Type 0
 IsUnread reader = (reader.left ≡ reader.to_come) × (reader.failed ≡ false)
@@ -87,9 +71,12 @@ pub record Files (D T : Type 0) : Type 1 where
   pub drafts : Text → T → Type 0
   pub withholds : Text → Fault → Type 0
 
--- nothing is read, and the outcome says whether the writer has failed
-abbrev pub IsExplained : Reader → Writer → Outcome → Type 0
-IsExplained input writer outcome = IsUnread input × (outcome ≡ (if writer.failed then Failed None WriteFailed else Done))
+-- Nothing is read, and the outcome says whether the writer has failed. Where it has not, what was asked for is printed: meanings of
+-- these faults, by their numbers and names.
+pub record IsExplained (named : Option Named) (input : Reader) (writer : Writer) (outcome : Outcome) : Type 0 where
+  pub unread : IsUnread input
+  pub told : outcome ≡ (if writer.failed then Failed None WriteFailed else Done)
+  pub printed : writer.failed ≡ false → (meanings : List Meaning) × (map as_named meanings ≡ faults_asked named) × Appends writer.taken writer.holds (meanings_text meanings)
 
 module _ {D : Type 0} where
   -- A file that was opened, and what was then done with it. `opens` says which devices the name of a file opens.
@@ -178,8 +165,8 @@ module _ {D T : Type 0} where
       × (fate left ≡ fate_of outcome)
 
   -- What the program does for a task, over the files of which `files` tells, and standard input, and the calls that it makes for
-  -- these files, each once: no file is opened where the one before could not be opened or replaced. Where the second file of a
-  -- comparison can't be opened, nothing is read of the first.
+  -- these files, each once: but for digests, no file is opened where the one before could not be opened or replaced. Where the second
+  -- file of a comparison can't be opened, nothing is read of the first.
   abbrev pub IsDone : Files D T → (to_come : D → Option (List ℕ)) → (failed : D → Bool)
       → (taken : T → Option (List ℕ)) → (write_failed : T → Bool) → (fate : T → Fate)
       → Task → (input : Reader) → Writer → (made : List ShelfCall) → Outcome → Type 0
@@ -204,7 +191,7 @@ module _ {D T : Type 0} where
       ⊎ SomeFile (files.opens second) to_come failed (λ file. IsCompared form profile edition input file output outcome))
       × (made ≡ opening second ∷ [])
   IsDone files to_come failed taken write_failed fate (explain named) input output made outcome =
-      IsExplained input output outcome × (made ≡ [])
+      IsExplained named input output outcome × (made ≡ [])
   IsDone files to_come failed taken write_failed fate (digest profile edition names) input output made outcome =
       AreDigested files to_come failed profile edition names input output made outcome
 
@@ -226,13 +213,14 @@ pub record IsRefused (words : List Text) (input : Reader) (writer : Writer) (sta
   pub told : status ≡ refusal_status kind writer.failed
 
 module _ {D T : Type 0} where
-  -- what the words ask for is done, and the status is the outcome's
-  pub record IsObeyed (files : Files D T) (to_come : D → Option (List ℕ)) (failed : D → Bool) (taken : T → Option (List ℕ)) (write_failed : T → Bool) (fate : T → Fate) (words : List Text) (input : Reader) (writer : Writer) (made : List ShelfCall) (status : ℕ) : Type 0 where
+  -- What the words ask for is done, and told as `Tells` says, and the status is the outcome's.
+  pub record IsObeyed (files : Files D T) (to_come : D → Option (List ℕ)) (failed : D → Bool) (taken : T → Option (List ℕ)) (write_failed : T → Bool) (fate : T → Fate) (words : List Text) (input : Reader) (writer errors : Writer) (made : List ShelfCall) (status : ℕ) : Type 0 where
     pub task : Task
     pub outcome : Outcome
     pub faultless : fault_of gedtool words ≡ []
     pub task_asked : asked words ≡ Some task
     pub done : IsDone files to_come failed taken write_failed fate task input writer made outcome
+    pub tells : Tells (explains words) task outcome errors
     pub told : status ≡ status_of outcome
 
   -- What the program does for the words of its command line. Words without a fault that ask for nothing are a mistake:
@@ -240,8 +228,8 @@ module _ {D T : Type 0} where
   -- Where words are refused or a mistake, no file is opened and no new one prepared.
   abbrev pub Performs : Files D T → (to_come : D → Option (List ℕ)) → (failed : D → Bool)
       → (taken : T → Option (List ℕ)) → (write_failed : T → Bool) → (fate : T → Fate)
-      → (words : List Text) → (input : Reader) → Writer → (made : List ShelfCall) → (status : ℕ) → Type 0
-  Performs files to_come failed taken write_failed fate words input writer made status =
+      → (words : List Text) → (input : Reader) → (writer errors : Writer) → (made : List ShelfCall) → (status : ℕ) → Type 0
+  Performs files to_come failed taken write_failed fate words input writer errors made status =
       (IsRefused words input writer status × (made ≡ []))
-      ⊎ IsObeyed files to_come failed taken write_failed fate words input writer made status
+      ⊎ IsObeyed files to_come failed taken write_failed fate words input writer errors made status
       ⊎ ((fault_of gedtool words ≡ []) × (asked words ≡ None) × IsUnread input × IsUnwritten writer × (made ≡ []) × (status ≡ 2))

@@ -2,7 +2,8 @@
 ghost use Rattle.std.specs.Prelude.{◌≡◌, ◌⊎◌, ◌∷◌, [], None, Some, false, option_map};
 ghost use Rattle.ged_tool.specs.Settings.{profile_of, edition_of};
 ghost use Rattle.ged_cmd.specs.inner.Flushes.{IsFlushed};
-ghost use Rattle.ged_cmd.specs.Program.{IsAnswered, IsCompared, IsDone, IsOver, IsPut, IsWithheld, fate_of, reader as reader_of, writer as writer_of};
+ghost use Rattle.ged_cmd.specs.Program.{IsAnswered, IsCompared, IsDone, IsOver, IsPut, IsWithheld, fate_of};
+ghost use Rattle.ged_cmd.specs.Streams.{reader as reader_of, writer as writer_of};
 ghost use Rattle.ged_cmd.specs.Shelves.{Calls, SomeCalls, drafting, opening, opening_named};
 ghost use Rattle.ged_cmd.specs.Tasks.{input_same as input_same_task, same as same_task};
 ghost use Rattle.ged_cmd.specs.inner.Tasks.{task_of};

@@ -3,7 +3,7 @@ ghost use Rattle.std.specs.Prelude.{◌≡◌, ◌≢◌, ◌≤◌, ◌⊎◌, 
 ghost use Rattle.std.specs.Io.KnownBytes.{Keeps};
 ghost use Rattle.ged_tool.specs.Settings.{profile_of, edition_of};
 ghost use Rattle.ged_cmd.specs.Program.{AreDigested, IsDigested, IsNotOpened, SomeFile, graver as graver_of};
-ghost use Rattle.ged_cmd.specs.Program.{reader as reader_of, writer as writer_of};
+ghost use Rattle.ged_cmd.specs.Streams.{reader as reader_of, writer as writer_of};
 ghost use Rattle.ged_cmd.specs.Shelves.{Calls, SomeCalls};
 ghost use Rattle.ged_cmd.specs.Tasks.{file_named as file_named_of, is_input as is_input_word};
 ghost use Rattle.ged_cmd.specs.inner.Calling.{opening_all};
@@ -19,7 +19,6 @@ use crate::words::{file_named, is_input};
 use ged_devices::{Output, Sink, Source};
 use ged_tool::{Fault, GREATEST_LIMIT, Outcome, Settings, Told, run_digest};
 use std::alloc::Global;
-use std::io;
 use std::io::Write;
 
 /// Tells the digest of each file on the output, and its fault, if it has one, on the errors; gives the gravest outcome. Once the
@@ -31,7 +30,7 @@ pub(crate) fn tell_digests<S: Shelf, R: Source, W: Write, E: Write>(
     explains: bool,
     input: &mut R,
     output: &mut Output<W>,
-    errors: &mut E,
+    errors: &mut Output<E>,
 ) -> Outcome
     requires once { count_by is_input_word (names_of digests.files.now) ≤ 1 }
     requires unread { R.reads input.old ≡ 0 }
@@ -41,7 +40,7 @@ pub(crate) fn tell_digests<S: Shelf, R: Source, W: Write, E: Write>(
         (edition_of digests.entry.settings) (names_of digests.entry.files.now)
         (reader_of R.to_come R.failed input.old input.new)
         (writer_of ⟦<Output<W> as Sink>⟧.taken ⟦<Output<W> as Sink>⟧.failed output.old output.new) made result) }
-    ensures quiet { result ≡ Outcome.Done → Keeps (E.contents errors.old) (E.contents errors.new) }
+    ensures quiet { result ≡ Outcome.Done → Keeps (⟦<Output<E> as Sink>⟧.taken errors.old) (⟦<Output<E> as Sink>⟧.taken errors.new) }
 {
     let mut gravest = Outcome::Done;
     for name in digests.files {
@@ -125,13 +124,12 @@ fn tell_outcome<E: Write>(
     explains: bool,
     told: &Told,
     reason: &str,
-    errors: &mut E,
+    errors: &mut Output<E>,
 )
-    ensures { told.now.outcome ≡ Outcome.Done → Keeps (E.contents errors.old) (E.contents errors.new) }
+    ensures { told.now.outcome ≡ Outcome.Done → Keeps (⟦<Output<E> as Sink>⟧.taken errors.old) (⟦<Output<E> as Sink>⟧.taken errors.new) }
 {
     if let Outcome::Failed { which: _, fault } = told.outcome {
-        // a line that can't be written changes no status
-        let _ = tell_after(name, &fault, errors);
+        tell_after(name, &fault, errors);
         if explains {
             let source = source_name(name, &fault);
             write_text(text_of(alloc, &told.bytes, fault, source, reason), errors);
@@ -152,7 +150,7 @@ fn source_name<'a>(word: &'a str, fault: &Fault) -> &'a str
 }
 
 /// Writes the line that tells a fault, after the name of the file that has it.
-fn tell_after<E: Write>(name: &str, fault: &Fault, errors: &mut E) -> io::Result<()> {
+fn tell_after<E: Write>(name: &str, fault: &Fault, errors: &mut Output<E>) {
     match fault {
         Fault::WriteFailed => tell(None, fault, errors),
         _ => tell_named(name, fault, errors),

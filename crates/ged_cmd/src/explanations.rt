@@ -1,15 +1,21 @@
 // Faults and notices in words, behind the line of a fault and the answer of check.
-ghost use Rattle.std.specs.Prelude.{◌≡◌, ◌≢◌, codes, false, option_map};
+ghost use Rattle.std.specs.Prelude.{◌≡◌, ◌≢◌, ◌++◌, [], Some, codes, decimal, true, false, option_map};
 ghost use Rattle.std.specs.Io.KnownBytes.{Keeps};
 ghost use Rattle.ged_faults.specs.Faults.{status_of};
+ghost use Rattle.ged_cmd.specs.Streams.{writer as writer_of};
+ghost use Rattle.ged_cmd.specs.Telling.{Tells, may_follow};
+ghost use Rattle.ged_cmd.specs.inner.Told.{Wrote, WroteSome};
 ghost use Rattle.ged_cmd.specs.inner.Tasks.{file_with_fault, file_written, name_or, task_of};
 
 use crate::names::{input_name, output_name, shown_name};
 use crate::tells::finish;
 use crate::words::Request;
+use ged_devices::{Output, Sink};
 use ged_explain::{Explainer, explain_device, explain_fault};
 use ged_tool::{Accepted, Command, Fault, Outcome, Settings, Told, Which, accept_as, notices};
 use std::alloc::{AllocError, Global};
+use std::fmt;
+use std::fmt::{Display, Formatter};
 use std::io::Write;
 
 /// The most notices that are explained, so that they can be read. How many are left out is told.
@@ -23,12 +29,14 @@ pub(crate) fn finish_told<E: Write>(
     explains: bool,
     told: &Told,
     reason: &str,
-    errors: &mut E,
+    errors: &mut Output<E>,
 ) -> u8
     ensures status { result ≡ status_of told.now.outcome }
-    ensures quiet { result ≡ 0 → explains ≡ false → Keeps (E.contents errors.old) (E.contents errors.new) }
+    ensures told { Tells explains (task_of request.entry) told.now.outcome
+        (writer_of ⟦<Output<E> as Sink>⟧.taken ⟦<Output<E> as Sink>⟧.failed errors.old errors.new) }
+    ensures quiet { result ≡ 0 → explains ≡ false → Keeps (⟦<Output<E> as Sink>⟧.taken errors.old) (⟦<Output<E> as Sink>⟧.taken errors.new) }
     ensures different { told.now.outcome ≡ Outcome.Different → explains ≡ false
-        → Keeps (E.contents errors.old) (E.contents errors.new) }
+        → Keeps (⟦<Output<E> as Sink>⟧.taken errors.old) (⟦<Output<E> as Sink>⟧.taken errors.new) }
 {
     let status = finish(&told.outcome, errors);
     if explains {
@@ -37,13 +45,20 @@ pub(crate) fn finish_told<E: Write>(
     status
 }
 
+/// Explains the outcome's fault, or the notices of `check`.
+#[tactic(auto, using(crate::proofs::ToldLemmas::nothing))]
 fn explain<E: Write>(
     alloc: Global,
     request: Request<'_>,
     told: &Told,
     reason: &str,
-    errors: &mut E,
-) {
+    errors: &mut Output<E>,
+)
+    ensures some { WroteSome (⟦<Output<E> as Sink>⟧.failed errors.old)
+        (writer_of ⟦<Output<E> as Sink>⟧.taken ⟦<Output<E> as Sink>⟧.failed errors.old errors.new) }
+    ensures none { may_follow true (task_of request.entry) told.now.outcome ≡ false → Wrote (⟦<Output<E> as Sink>⟧.failed errors.old)
+        (writer_of ⟦<Output<E> as Sink>⟧.taken ⟦<Output<E> as Sink>⟧.failed errors.old errors.new) [] }
+{
     match told.outcome {
         Outcome::Failed { which, fault } => {
             let name = name_of(request, which, fault);
@@ -129,7 +144,13 @@ fn file_of<'a>(request: Request<'a>, which: Option<Which>) -> Option<&'a str>
 }
 
 /// Explains the notices of a file that `check` has accepted.
-fn explain_done<E: Write>(alloc: Global, request: Request<'_>, bytes: &[u8], errors: &mut E) {
+#[tactic(auto, using(crate::proofs::ToldLemmas::nothing))]
+fn explain_done<E: Write>(alloc: Global, request: Request<'_>, bytes: &[u8], errors: &mut Output<E>)
+    ensures some { WroteSome (⟦<Output<E> as Sink>⟧.failed errors.old)
+        (writer_of ⟦<Output<E> as Sink>⟧.taken ⟦<Output<E> as Sink>⟧.failed errors.old errors.new) }
+    ensures none { may_follow true (task_of request.entry) Outcome.Done ≡ false → Wrote (⟦<Output<E> as Sink>⟧.failed errors.old)
+        (writer_of ⟦<Output<E> as Sink>⟧.taken ⟦<Output<E> as Sink>⟧.failed errors.old errors.new) [] }
+{
     if let Request::Run {
         command: Command::Check,
         settings,
@@ -143,25 +164,33 @@ fn explain_done<E: Write>(alloc: Global, request: Request<'_>, bytes: &[u8], err
     }
 }
 
+#[tactic(auto, using(crate::proofs::ToldLemmas::nothing))]
 fn explain_notices<E: Write>(
     alloc: Global,
     settings: Settings,
     bytes: &[u8],
     name: &str,
-    errors: &mut E,
-) {
+    errors: &mut Output<E>,
+)
+    ensures { WroteSome (⟦<Output<E> as Sink>⟧.failed errors.old)
+        (writer_of ⟦<Output<E> as Sink>⟧.taken ⟦<Output<E> as Sink>⟧.failed errors.old errors.new) }
+{
     if let Ok(accepted) = accept_as(alloc, settings, bytes) {
         explain_accepted(alloc, &accepted, bytes, name, errors);
     }
 }
 
+#[tactic(auto, using(crate::proofs::ToldLemmas::nothing))]
 fn explain_accepted<E: Write>(
     alloc: Global,
     accepted: &Accepted<'_>,
     bytes: &[u8],
     name: &str,
-    errors: &mut E,
-) {
+    errors: &mut Output<E>,
+)
+    ensures { WroteSome (⟦<Output<E> as Sink>⟧.failed errors.old)
+        (writer_of ⟦<Output<E> as Sink>⟧.taken ⟦<Output<E> as Sink>⟧.failed errors.old errors.new) }
+{
     let Ok(found) = notices(alloc, accepted) else {
         return;
     };
@@ -173,18 +202,40 @@ fn explain_accepted<E: Write>(
 }
 
 /// Tells how many more notices there are, if there are any.
-fn tell_more<E: Write>(more: usize, errors: &mut E) {
+#[tactic(auto, using(crate::proofs::ToldLemmas::nothing))]
+fn tell_more<E: Write>(more: usize, errors: &mut Output<E>)
+    ensures { WroteSome (⟦<Output<E> as Sink>⟧.failed errors.old)
+        (writer_of ⟦<Output<E> as Sink>⟧.taken ⟦<Output<E> as Sink>⟧.failed errors.old errors.new) }
+{
     // a line that can't be written changes no status
     let _ = match more {
         0 => Ok(()),
-        1 => writeln!(errors, "1 more notice is not explained"),
-        _ => writeln!(errors, "{more} more notices are not explained"),
+        1 => errors.print("1 more notice is not explained\n"),
+        _ => errors.print(MoreNotices { count: more }),
     };
 }
 
+/// How many notices are not explained.
+#[derive(Clone, Copy)]
+struct MoreNotices {
+    count: usize,
+}
+
+impl Display for MoreNotices {
+    ghost output = { λ more. Some (decimal more.count ++ codes " more notices are not explained\n") };
+
+    fn fmt<W: fmt::Write>(&self, f: &mut Formatter<W>) -> fmt::Result {
+        writeln!(f, "{} more notices are not explained", self.count)
+    }
+}
+
 /// Writes a text, if there is one. One that can't be written changes no status.
-pub(crate) fn write_text<E: Write>(text: Result<String, AllocError>, errors: &mut E) {
+#[tactic(auto, using(crate::proofs::ToldLemmas::nothing))]
+pub(crate) fn write_text<E: Write>(text: Result<String, AllocError>, errors: &mut Output<E>)
+    ensures { WroteSome (⟦<Output<E> as Sink>⟧.failed errors.old)
+        (writer_of ⟦<Output<E> as Sink>⟧.taken ⟦<Output<E> as Sink>⟧.failed errors.old errors.new) }
+{
     if let Ok(text) = text {
-        let _ = errors.write_all(text.as_bytes());
+        let _ = errors.print(text.as_str());
     }
 }

@@ -7,9 +7,11 @@ ghost use Rattle.clap.specs.Words.{Row, Text, subcommand_rows_of};
 ghost use Rattle.ged_cmd.specs.Shelves.{Calls, SomeCalls};
 ghost use Rattle.ged_cmd.specs.Tasks.{explains, is_set, task_of_match};
 ghost use Rattle.ged_faults.specs.Faults.{status_of};
+ghost use Rattle.ged_cmd.specs.Telling.{Tells};
 ghost use Rattle.ged_cmd.specs.inner.Obeying.{IsMistaken};
 ghost use Rattle.ged_cmd.specs.inner.Tasks.{IsReadOnce, wanted_task};
-ghost use Rattle.ged_cmd.specs.Program.{IsDone, IsUnread, IsUnwritten, Performs, reader as reader_of, writer as writer_of};
+ghost use Rattle.ged_cmd.specs.Program.{IsDone, IsUnread, IsUnwritten, Performs};
+ghost use Rattle.ged_cmd.specs.Streams.{reader as reader_of, writer as writer_of};
 
 use crate::commands::answer_request;
 use crate::digests::tell_digests;
@@ -32,7 +34,7 @@ pub struct Streams<R, W, E> {
     /// Standard output.
     pub output: Output<W>,
     /// Standard error.
-    pub errors: E,
+    pub errors: Output<E>,
 }
 
 /// The words of the command line, the program's name first. The error is that one isn't UTF-8, or that a growth was refused. Grows.
@@ -59,13 +61,14 @@ pub fn perform<S: Shelf, R: Source, W: Write, E: Write>(
         (map string_bytes words.items)
         (reader_of R.to_come R.failed streams.old.input streams.new.input)
         (writer_of ⟦<Output<W> as Sink>⟧.taken ⟦<Output<W> as Sink>⟧.failed streams.old.output streams.new.output)
+        (writer_of ⟦<Output<E> as Sink>⟧.taken ⟦<Output<E> as Sink>⟧.failed streams.old.errors streams.new.errors)
         made result)) }
     ensures range { result ≤ 3 }
     ensures unread { IsErr words → (result ≡ 2) × Calls (S.calls shelf.old) (S.calls shelf.new) []
         × IsUnread (reader_of R.to_come R.failed streams.old.input streams.new.input)
         × IsUnwritten (writer_of ⟦<Output<W> as Sink>⟧.taken ⟦<Output<W> as Sink>⟧.failed streams.old.output streams.new.output) }
     ensures quiet { result ≡ 0 → IfOk words (λ words. explains (map string_bytes words.items) ≡ false)
-        → Keeps (E.contents streams.old.errors) (E.contents streams.new.errors) }
+        → Keeps (⟦<Output<E> as Sink>⟧.taken streams.old.errors) (⟦<Output<E> as Sink>⟧.taken streams.new.errors) }
     ensures usage { result ≡ 2 → Keeps (⟦<Output<W> as Sink>⟧.taken streams.old.output)
         (⟦<Output<W> as Sink>⟧.taken streams.new.output) }
 {
@@ -90,10 +93,11 @@ fn perform_words<S: Shelf, R: Source, W: Write, E: Write>(
         (map string_bytes words.now)
         (reader_of R.to_come R.failed streams.old.input streams.new.input)
         (writer_of ⟦<Output<W> as Sink>⟧.taken ⟦<Output<W> as Sink>⟧.failed streams.old.output streams.new.output)
+        (writer_of ⟦<Output<E> as Sink>⟧.taken ⟦<Output<E> as Sink>⟧.failed streams.old.errors streams.new.errors)
         made result) }
     ensures range { result ≤ 3 }
     ensures quiet { result ≡ 0 → explains (map string_bytes words.now) ≡ false
-        → Keeps (E.contents streams.old.errors) (E.contents streams.new.errors) }
+        → Keeps (⟦<Output<E> as Sink>⟧.taken streams.old.errors) (⟦<Output<E> as Sink>⟧.taken streams.new.errors) }
     ensures usage { result ≡ 2 → Keeps (⟦<Output<W> as Sink>⟧.taken streams.old.output)
         (⟦<Output<W> as Sink>⟧.taken streams.new.output) }
 {
@@ -117,14 +121,17 @@ fn obey_matches<S: Shelf, R: Source, W: Write, E: Write>(
         (IsMistaken (reader_of R.to_come R.failed streams.old.input streams.new.input)
         (writer_of ⟦<Output<W> as Sink>⟧.taken ⟦<Output<W> as Sink>⟧.failed streams.old.output streams.new.output) result
         × Calls (S.calls shelf.old) (S.calls shelf.new) [])
-        (λ task. (outcome : Outcome) × (result ≡ status_of outcome) × SomeCalls (S.calls shelf.old) (S.calls shelf.new) (λ made.
+        (λ task. (outcome : Outcome) × (result ≡ status_of outcome)
+        × Tells (option_map_or (λ (found : Text × List Row). is_set (codes "explain") found.1) (subcommand_rows_of matches.now) false) task outcome
+        (writer_of ⟦<Output<E> as Sink>⟧.taken ⟦<Output<E> as Sink>⟧.failed streams.old.errors streams.new.errors)
+        × SomeCalls (S.calls shelf.old) (S.calls shelf.new) (λ made.
         IsDone (S.files (S.stock shelf.old)) S.Device.to_come S.Device.failed S.Draft.taken S.Draft.failed S.Draft.fate task
         (reader_of R.to_come R.failed streams.old.input streams.new.input)
         (writer_of ⟦<Output<W> as Sink>⟧.taken ⟦<Output<W> as Sink>⟧.failed streams.old.output streams.new.output) made outcome)) }
     ensures range { result ≤ 3 }
     ensures quiet { result ≡ 0
         → option_map_or (λ (found : Text × List Row). is_set (codes "explain") found.1) (subcommand_rows_of matches.now) false ≡ false
-        → Keeps (E.contents streams.old.errors) (E.contents streams.new.errors) }
+        → Keeps (⟦<Output<E> as Sink>⟧.taken streams.old.errors) (⟦<Output<E> as Sink>⟧.taken streams.new.errors) }
     ensures usage { result ≡ 2 → Keeps (⟦<Output<W> as Sink>⟧.taken streams.old.output)
         (⟦<Output<W> as Sink>⟧.taken streams.new.output) }
 {
@@ -147,12 +154,14 @@ fn obey<S: Shelf, R: Source, W: Write, E: Write>(
         (IsMistaken (reader_of R.to_come R.failed streams.old.input streams.new.input)
         (writer_of ⟦<Output<W> as Sink>⟧.taken ⟦<Output<W> as Sink>⟧.failed streams.old.output streams.new.output) result
         × Calls (S.calls shelf.old) (S.calls shelf.new) [])
-        (λ task. (outcome : Outcome) × (result ≡ status_of outcome) × SomeCalls (S.calls shelf.old) (S.calls shelf.new) (λ made.
+        (λ task. (outcome : Outcome) × (result ≡ status_of outcome) × Tells asked.entry.explains task outcome
+        (writer_of ⟦<Output<E> as Sink>⟧.taken ⟦<Output<E> as Sink>⟧.failed streams.old.errors streams.new.errors)
+        × SomeCalls (S.calls shelf.old) (S.calls shelf.new) (λ made.
         IsDone (S.files (S.stock shelf.old)) S.Device.to_come S.Device.failed S.Draft.taken S.Draft.failed S.Draft.fate task
         (reader_of R.to_come R.failed streams.old.input streams.new.input)
         (writer_of ⟦<Output<W> as Sink>⟧.taken ⟦<Output<W> as Sink>⟧.failed streams.old.output streams.new.output) made outcome)) }
     ensures range { result ≤ 3 }
-    ensures quiet { result ≡ 0 → asked.entry.explains ≡ false → Keeps (E.contents streams.old.errors) (E.contents streams.new.errors) }
+    ensures quiet { result ≡ 0 → asked.entry.explains ≡ false → Keeps (⟦<Output<E> as Sink>⟧.taken streams.old.errors) (⟦<Output<E> as Sink>⟧.taken streams.new.errors) }
     ensures usage { result ≡ 2 → Keeps (⟦<Output<W> as Sink>⟧.taken streams.old.output)
         (⟦<Output<W> as Sink>⟧.taken streams.new.output) }
 {

@@ -1,22 +1,26 @@
 // What standard error and the program's status tell.
-ghost use Rattle.std.specs.Prelude.{◌≡◌, ◌≢◌, false, if◌then◌else◌};
-ghost use Rattle.std.specs.Io.KnownBytes.{Keeps};
+ghost use Rattle.std.specs.Prelude.{◌≡◌, ◌≢◌, [], Some, false, IfSome, OnOk, if◌then◌else◌};
+ghost use Rattle.std.specs.Io.KnownBytes.{Appends, Keeps};
 ghost use Rattle.clap.specs.Words.{kind_of};
 ghost use Rattle.ged_devices.specs.Devices.{failed_after};
 ghost use Rattle.ged_faults.specs.Faults.{status_of};
-ghost use Rattle.ged_cmd.specs.Program.{IsUnwritten, refusal_status, writer as writer_of};
+ghost use Rattle.ged_cmd.specs.Program.{IsUnwritten, refusal_status};
+ghost use Rattle.ged_cmd.specs.Streams.{writer as writer_of};
+ghost use Rattle.ged_cmd.specs.Telling.{fault_line, told_of, which_head};
+ghost use Rattle.ged_cmd.specs.inner.Told.{Wrote};
 
 use crate::commands::failed;
 use crate::names::{ShownLines, ShownName};
 use crate::wanted::Mistake;
+use arrayvec::ArrayString;
 use clap::Error;
 use clap::error::ErrorKind;
 use ged_devices::{Failed, Output, Sink};
 use ged_explain::meaning_of;
 use ged_tool::{Fault, Outcome, Which};
 use std::alloc::AllocError;
-use std::fmt::{Display, Formatter};
-use std::io::{Cursor, Write};
+use std::fmt::{Display, Formatter, Write as _};
+use std::io::Write;
 use std::{fmt, io};
 
 /// The status for a mistake in the words of the command line.
@@ -56,78 +60,116 @@ const LINE_ROOM: usize = 80;
 const NAMED_LINE_ROOM: usize = 4_200;
 
 /// Tells the outcome's fault, if it has one, and gives the outcome's status.
-pub(crate) fn finish<E: Write>(outcome: &Outcome, errors: &mut E) -> u8
+pub(crate) fn finish<E: Write>(outcome: &Outcome, errors: &mut Output<E>) -> u8
     ensures status { result ≡ status_of outcome.now }
-    ensures quiet { result ≡ 0 → Keeps (E.contents errors.old) (E.contents errors.new) }
-    ensures different { outcome.now ≡ Outcome.Different → Keeps (E.contents errors.old) (E.contents errors.new) }
+    ensures told { Wrote (⟦<Output<E> as Sink>⟧.failed errors.old)
+        (writer_of ⟦<Output<E> as Sink>⟧.taken ⟦<Output<E> as Sink>⟧.failed errors.old errors.new) (told_of outcome.now) }
+    ensures quiet { result ≡ 0 → Keeps (⟦<Output<E> as Sink>⟧.taken errors.old) (⟦<Output<E> as Sink>⟧.taken errors.new) }
+    ensures different { outcome.now ≡ Outcome.Different
+        → Keeps (⟦<Output<E> as Sink>⟧.taken errors.old) (⟦<Output<E> as Sink>⟧.taken errors.new) }
 {
     if let Outcome::Failed { which, fault } = outcome {
-        // a line that can't be written changes no status
-        let _ = tell(*which, fault, errors);
+        tell(*which, fault, errors);
     }
     outcome.status()
 }
 
-/// Writes the line that tells a fault, by one write where the writer takes it whole. It takes no
-/// memory.
-pub(crate) fn tell<E: Write>(
+/// The line that tells a fault.
+#[derive(Clone, Copy)]
+struct FaultLine<'a> {
     which: Option<Which>,
-    fault: &Fault,
-    errors: &mut E,
-) -> io::Result<()> {
-    let mut line = Cursor::new([0; LINE_ROOM]);
-    write_line(which, fault, &mut line)?;
-    write_held(&line, errors)
+    fault: &'a Fault,
 }
 
-/// Writes what a room on the stack holds.
-fn write_held<const ROOM: usize, E: Write>(
-    held: &Cursor<[u8; ROOM]>,
-    errors: &mut E,
-) -> io::Result<()> {
-    let length = held.position() as usize;
-    errors.write_all(&held.get_ref()[..length.min(ROOM)])
+/// How the line of a fault of one of two files begins.
+fn head_of(which: Option<Which>) -> &'static str
+    ensures { result.now ≡ which_head which }
+{
+    match which {
+        None => "",
+        Some(Which::First) => "first file: ",
+        Some(Which::Second) => "second file: ",
+    }
+}
+
+impl Display for FaultLine<'_> {
+    ghost output = { λ l. Some (fault_line l.which l.fault.now) };
+
+    fn fmt<W: fmt::Write>(&self, f: &mut Formatter<W>) -> fmt::Result {
+        let head = head_of(self.which);
+        let number = self.fault.number();
+        let name = meaning_of(self.fault).name;
+        match self.fault {
+            Fault::InFile { line, kind: _ } => {
+                writeln!(f, "{head}fault {number} at line {line}: {name}")
+            }
+            _ => writeln!(f, "{head}fault {number}: {name}"),
+        }
+    }
+}
+
+/// The line that tells a fault after a name.
+#[derive(Clone, Copy)]
+struct NamedFaultLine<'a> {
+    name: ShownName<'a>,
+    line: FaultLine<'a>,
+}
+
+impl Display for NamedFaultLine<'_> {
+    fn fmt<W: fmt::Write>(&self, f: &mut Formatter<W>) -> fmt::Result {
+        write!(f, "{}: {}", self.name, self.line)
+    }
+}
+
+/// Writes the line that tells a fault, by one write where the writer takes it whole. It takes no
+/// memory.
+pub(crate) fn tell<E: Write>(which: Option<Which>, fault: &Fault, errors: &mut Output<E>)
+    ensures { Wrote (⟦<Output<E> as Sink>⟧.failed errors.old)
+        (writer_of ⟦<Output<E> as Sink>⟧.taken ⟦<Output<E> as Sink>⟧.failed errors.old errors.new) (fault_line which fault.now) }
+{
+    let room = ArrayString::<LINE_ROOM>::new();
+    write_at_once(&FaultLine { which, fault }, room, errors);
 }
 
 /// Writes the line that tells a fault after a name, by one write where the writer takes it whole and the name, as it is shown, is
 /// no longer than one of the system's. It takes no memory.
-pub(crate) fn tell_named<E: Write>(name: &str, fault: &Fault, errors: &mut E) -> io::Result<()> {
-    let mut line = Cursor::new([0; NAMED_LINE_ROOM]);
-    match write_named_line(name, fault, &mut line) {
-        Ok(()) => write_held(&line, errors),
-        Err(_) => write_named_line(name, fault, errors),
-    }
+pub(crate) fn tell_named<E: Write>(name: &str, fault: &Fault, errors: &mut Output<E>) {
+    let room = ArrayString::<NAMED_LINE_ROOM>::new();
+    let named = NamedFaultLine {
+        name: ShownName::new(name),
+        line: FaultLine { which: None, fault },
+    };
+    write_at_once(&named, room, errors);
 }
 
-fn write_named_line<W: Write>(name: &str, fault: &Fault, line: &mut W) -> io::Result<()> {
-    write!(line, "{}: ", ShownName::new(name))?;
-    write_line(None, fault, line)
-}
-
-fn write_line<W: Write>(which: Option<Which>, fault: &Fault, line: &mut W) -> io::Result<()> {
-    match which {
-        None => {}
-        Some(Which::First) => write!(line, "first file: ")?,
-        Some(Which::Second) => write!(line, "second file: ")?,
-    }
-    let number = fault.number();
-    match fault {
-        Fault::InFile { line: at, kind } => writeln!(line, "fault {number} at line {at}: {kind}"),
-        _ => writeln!(line, "fault {number}: {}", meaning_of(fault).name),
-    }
+/// Writes a text, by one write where the writer takes it whole and the room on the stack holds it. One that can't be written changes
+/// no status.
+fn write_at_once<const ROOM: usize, D: Display, E: Write>(
+    text: &D,
+    mut room: ArrayString<ROOM>,
+    errors: &mut Output<E>,
+)
+    requires { room.bytes ≡ [] }
+    ensures { IfSome (D.output text.now) (Wrote (⟦<Output<E> as Sink>⟧.failed errors.old)
+        (writer_of ⟦<Output<E> as Sink>⟧.taken ⟦<Output<E> as Sink>⟧.failed errors.old errors.new)) }
+{
+    let _ = match write!(room, "{text}") {
+        Ok(()) => errors.print(room.as_str()),
+        Err(_) => errors.print(text),
+    };
 }
 
 /// Prints help or the version on the output, or what is wrong with the words on the errors.
 pub(crate) fn refuse<W: Write, E: Write>(
     error: &Error,
     output: &mut Output<W>,
-    errors: &mut E,
+    errors: &mut Output<E>,
 ) -> u8
     requires { ⟦<Output<W> as Sink>⟧.failed output.old ≡ false }
     ensures status { result ≡ refusal_status (kind_of error.now) (⟦<Output<W> as Sink>⟧.failed output.new) }
     ensures unwritten { kind_of error.now ≢ ErrorKind.DisplayHelp → kind_of error.now ≢ ErrorKind.DisplayVersion
         → IsUnwritten (writer_of ⟦<Output<W> as Sink>⟧.taken ⟦<Output<W> as Sink>⟧.failed output.old output.new) }
-    ensures quiet { result ≡ 0 → Keeps (E.contents errors.old) (E.contents errors.new) }
+    ensures quiet { result ≡ 0 → Keeps (⟦<Output<E> as Sink>⟧.taken errors.old) (⟦<Output<E> as Sink>⟧.taken errors.new) }
     ensures usage { result ≡ 2 → Keeps (⟦<Output<W> as Sink>⟧.taken output.old) (⟦<Output<W> as Sink>⟧.taken output.new) }
 {
     if error.kind() == ErrorKind::OutOfMemory {
@@ -141,29 +183,23 @@ pub(crate) fn refuse<W: Write, E: Write>(
 
 /// Tells a mistake in the words, and gives the status of one. The words that it quotes are shown as names are; but a line feed that one
 /// of them has can't be told from those of the text.
-fn tell_mistake<D: Display, E: Write>(mistake: &D, errors: &mut E) -> u8
+fn tell_mistake<D: Display, E: Write>(mistake: &D, errors: &mut Output<E>) -> u8
     ensures { result ≡ 2 }
 {
-    // a text that can't be written changes no status
-    let _ = write_shown(mistake, errors);
+    let room = ArrayString::<NAMED_LINE_ROOM>::new();
+    write_at_once(&ShownLines::new(mistake), room, errors);
     USAGE_STATUS
 }
 
-/// Writes a text as it is shown, by one write where the writer takes it whole and it is no longer than a line with a name. It takes
-/// no memory.
-fn write_shown<D: Display, E: Write>(text: &D, errors: &mut E) -> io::Result<()> {
-    let mut shown = Cursor::new([0; NAMED_LINE_ROOM]);
-    match write!(shown, "{}", ShownLines::new(text)) {
-        Ok(()) => write_held(&shown, errors),
-        Err(_) => write!(errors, "{}", ShownLines::new(text)),
-    }
-}
-
 /// Prints help or the version, and gives the status: 0, or that of a fault of the output.
-fn tell_help<W: Write, E: Write>(error: &Error, output: &mut Output<W>, errors: &mut E) -> u8
+fn tell_help<W: Write, E: Write>(
+    error: &Error,
+    output: &mut Output<W>,
+    errors: &mut Output<E>,
+) -> u8
     requires { ⟦<Output<W> as Sink>⟧.failed output.old ≡ false }
     ensures status { result ≡ (if ⟦<Output<W> as Sink>⟧.failed output.new then 3 else 0) }
-    ensures quiet { result ≡ 0 → Keeps (E.contents errors.old) (E.contents errors.new) }
+    ensures quiet { result ≡ 0 → Keeps (⟦<Output<E> as Sink>⟧.taken errors.old) (⟦<Output<E> as Sink>⟧.taken errors.new) }
 {
     match print_all(error, output) {
         Ok(()) => 0,
@@ -177,14 +213,20 @@ pub(crate) fn print_all<D: Display + Drop, W: Write>(
     output: &mut Output<W>,
 ) -> Result<(), Failed>
     requires { ⟦<Output<W> as Sink>⟧.failed output.old ≡ false }
-    ensures { ⟦<Output<W> as Sink>⟧.failed output.new ≡ failed_after false result }
+    ensures failure { ⟦<Output<W> as Sink>⟧.failed output.new ≡ failed_after false result }
+    ensures bytes { OnOk result (IfSome (D.output text)
+        (Appends (⟦<Output<W> as Sink>⟧.taken output.old) (⟦<Output<W> as Sink>⟧.taken output.new))) }
 {
     output.print(text)?;
     output.flush()
 }
 
 /// Tells a mistake that clap doesn't know. The word is that of `explain`.
-pub(crate) fn refuse_words<E: Write>(mistake: Mistake, word: Option<&str>, errors: &mut E) -> u8
+pub(crate) fn refuse_words<E: Write>(
+    mistake: Mistake,
+    word: Option<&str>,
+    errors: &mut Output<E>,
+) -> u8
     ensures { result ≡ 2 }
 {
     let text = match mistake {
@@ -196,7 +238,7 @@ pub(crate) fn refuse_words<E: Write>(mistake: Mistake, word: Option<&str>, error
 }
 
 /// Tells that a word is of no fault.
-fn refuse_fault<E: Write>(word: &str, errors: &mut E) -> u8
+fn refuse_fault<E: Write>(word: &str, errors: &mut Output<E>) -> u8
     ensures { result ≡ 2 }
 {
     tell_mistake(&NoFault { word }, errors)
@@ -218,7 +260,7 @@ impl Display for NoFault<'_> {
 }
 
 /// Tells why the words of the command line can't be had.
-pub(crate) fn refuse_unread<E: Write>(error: &io::Error, errors: &mut E) -> u8
+pub(crate) fn refuse_unread<E: Write>(error: &io::Error, errors: &mut Output<E>) -> u8
     ensures { result ≡ 2 }
 {
     let text = match error.kind() {

@@ -16,7 +16,7 @@ fn main(rt: HostRuntime) -> ExitCode {
     let mut streams = Streams {
         input: Input::new(Noted::new(rt.stdin(), of_input)),
         output: Output::new(Noted::new(rt.stdout(), &reason)),
-        errors: rt.stderr(),
+        errors: Output::new(rt.stderr()),
     };
     let mut disk = Disk::new(&rt, &reason);
     let status = perform(rt.alloc(), &mut disk, words_of(&rt), &mut streams);

@@ -4,7 +4,7 @@ use Rattle.std.specs.Io.KnownBytes.{Keeps}
 use Rattle.ged_faults.specs.declared.faults.Fault.TheVariants.{WriteFailed}
 use Rattle.ged_faults.specs.declared.faults.Outcome.{Outcome}
 use Rattle.ged_faults.specs.declared.faults.Outcome.TheVariants.{Done, Different, Failed}
-use Rattle.ged_cmd.specs.Program.{Writer}
+use Rattle.ged_cmd.specs.Streams.{Writer}
 
 -- the bytes that the writer holds, if it tells them, stay, and so does whether it has failed
 abbrev pub IsKept : Writer → (failed_before : Bool) → Type 0

@@ -1,6 +1,7 @@
 -- Nothing here need be believed: only private contracts and proofs cite it.
 use Rattle.std.specs.Prelude.{◌≡◌, ℕ}
-use Rattle.ged_cmd.specs.Program.{IsUnread, IsUnwritten, Reader, Writer}
+use Rattle.ged_cmd.specs.Program.{IsUnread, IsUnwritten}
+use Rattle.ged_cmd.specs.Streams.{Reader, Writer}
 
 -- the words ask for nothing, which is a mistake
 abbrev pub IsMistaken : (input : Reader) → Writer → (status : ℕ) → Type 0

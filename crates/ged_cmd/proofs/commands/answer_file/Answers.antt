@@ -1,6 +1,7 @@
 use Rattle.std.proofs.Common.{refl, subst, sym, inr, option_map}
 use Rattle.ged_tool.specs.Settings.{profile_of, edition_of}
-use Rattle.ged_cmd.specs.Program.{IsOver, reader, writer}
+use Rattle.ged_cmd.specs.Program.{IsOver}
+use Rattle.ged_cmd.specs.Streams.{reader, writer}
 use Rattle.ged_cmd.proofs.commands.answer_file.Goals as goal
 
 -- the file that was opened is answered, and nothing is read of the input

@@ -1,7 +1,8 @@
 use Rattle.std.proofs.Common.{Bor, [], ap, arith, refl, rules, sym, subst, take, ◌≡◌, ◌∙◌, ◌+◌, false}
 use Rattle.std.proofs.KnownBytes.{Keeps-refl, Keeps-trans}
 use Rattle.clap.specs.Words.{Text}
-use Rattle.ged_cmd.specs.Program.{at_first, reader}
+use Rattle.ged_cmd.specs.Program.{at_first}
+use Rattle.ged_cmd.specs.Streams.{reader}
 use Rattle.ged_cmd.specs.inner.Calling.{opening_all}
 use Rattle.ged_cmd.specs.inner.Tasks.{names_of}
 use Rattle.ged_cmd.proofs.DigestLemmas.{all_done, all_names, all_told, one_more, still_unread, unread_before, whole_told}
@@ -18,7 +19,7 @@ loop-name-init g c = record {
   told = at_first (refl, c.requires.no_failure.0) (refl, c.requires.no_failure.1);
   sound = c.requires.no_failure.1;
   unread = λ none. (c.requires.unread, c.requires.no_failure.0);
-  quiet = λ done. Keeps-refl (g.E.Write.contents c.args.errors.now);
+  quiet = λ done. Keeps-refl (g.E.Write.contents c.args.errors.now.device);
 }
 
 pub tell_digest-told-requires-clause-unread : goal.tell_digest-told-requires-clause-unread

@@ -2,7 +2,8 @@ use Rattle.std.proofs.Common.{◌≡◌, false, count_by, take}
 use Rattle.std.specs.Io.KnownBytes.{Keeps}
 use Rattle.ged_tool.specs.Settings.{profile_of, edition_of}
 use Rattle.ged_faults.specs.declared.faults.Outcome.TheVariants.{Done}
-use Rattle.ged_cmd.specs.Program.{AreDigested, reader, writer}
+use Rattle.ged_cmd.specs.Program.{AreDigested}
+use Rattle.ged_cmd.specs.Streams.{reader, writer}
 use Rattle.ged_cmd.specs.Shelves.{Calls}
 use Rattle.ged_cmd.specs.inner.Calling.{opening_all}
 use Rattle.ged_cmd.specs.Tasks.{is_input}
@@ -22,5 +23,5 @@ invariant-loop-name g l = record {
   sound : l.output.failed ≡ false;
   unread : count_by is_input (take l.name-index (names_of l.digests.files.now)) ≡ 0
       → (g.R.Source.reads l.input ≡ 0) × (g.R.Source.failed l.input ≡ false);
-  quiet : l.gravest ≡ Done → Keeps (g.E.Write.contents l.fn.errors) (g.E.Write.contents l.errors);
+  quiet : l.gravest ≡ Done → Keeps (g.E.Write.contents l.fn.errors.device) (g.E.Write.contents l.errors.device);
 }

@@ -1,4 +1,4 @@
-use Rattle.std.proofs.Common.{◌≡◌, List, ℕ, rules, [], flat_map, ap, sym, ◌∙◌, chars}
+use Rattle.std.proofs.Common.{◌≡◌, rules, [], flat_map, ap, sym, ◌∙◌, chars}
 use Rattle.std.proofs.Output.{has_written_append, has_written_of_eq}
 use Rattle.std.proofs.lemmas.List.{flat_map_more, map-id}
 use Rattle.std.proofs.lemmas.Str.{IsUtf8-had}
