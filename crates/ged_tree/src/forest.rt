@@ -17,7 +17,7 @@ use crate::forest::payload::PayloadView;
 /// The structures of a document by their places, which count from 0 in the order of a file: HEAD stands at place 0, and
 /// TRLR at none. No call takes memory.
 ///
-/// One of nodes finds a place by a walk over them from the first one on; a [`crate::Flat`] has it at hand.
+/// A forest of nodes finds a place by a walk over them from the first one on; a [`crate::Flat`] has direct access.
 pub trait Forest {
     /// The document that it is seen as.
     ghost trees: { Self → Trees };

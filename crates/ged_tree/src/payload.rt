@@ -131,7 +131,7 @@ impl Payload {
         match self {
             Payload::Void => true,
             Payload::Pointer(name) => {
-                // An identifier needs no test: that it is one is what `as_str` tells.
+                // Read for the proof alone: by its contract the name is an identifier.
                 let _name = name.as_str();
                 true
             }
@@ -140,6 +140,7 @@ impl Payload {
     }
 }
 
+/// Whether the lines can be those of a text at a level.
 fn may_be_text(lines: &[Text], level: u8) -> bool
     ensures { result ≡ is_payload_at level (TextPayload lines.now) }
 {
@@ -150,6 +151,7 @@ fn may_be_text(lines: &[Text], level: u8) -> bool
     }
 }
 
+/// Whether no line has a line end or a banned character.
 fn are_plain(lines: &[Text]) -> bool
     ensures { result ≡ list_all tests_plain lines.now }
 {

@@ -196,8 +196,8 @@ impl<'f> Answer<'f> {
         Ok(())
     }
 
-    /// Appends a line whose value is a pointer with this name. A function of its own, so that the frequent way has no room for
-    /// a value to clear.
+    /// Appends a line whose value is a pointer with this name. A function of its own, so that the common path need not clear the
+    /// stack's room for a value.
     #[cold]
     #[inline(never)]
     pub(crate) fn push_named(

@@ -20,6 +20,7 @@ use ged_tree::{Forest, PayloadView};
 use ged_value::{Kind, first_word, trim_zeros};
 use std::alloc::{AllocError, Global};
 
+/// Whether a payload of the kind may begin with the name of a calendar.
 #[inline(always)]
 fn has_calendar(kind: Kind) -> bool
     ensures { result ≡ tests_calendar kind }
@@ -27,6 +28,7 @@ fn has_calendar(kind: Kind) -> bool
     matches!(kind, Kind::DateValue | Kind::DatePeriod)
 }
 
+/// Whether a payload of the kind may have numbers with leading zeros.
 #[inline(always)]
 fn has_integers(kind: Kind) -> bool
     ensures { result ≡ tests_integers kind }
@@ -37,6 +39,7 @@ fn has_integers(kind: Kind) -> bool
     )
 }
 
+/// Whether a word has leading zeros that the second edition leaves out.
 fn has_leading_zero(word: &str) -> bool
     ensures { result ≡ begins_with_zero word.now }
 {
@@ -119,6 +122,7 @@ pub(crate) fn is_brief_line(edition: Edition, rule: &Rule, line: &str) -> bool
     are_brief_words(line, left_out_at(edition, rule))
 }
 
+/// A word without the zeros that are left out.
 fn trimmed(word: &str, left_out: LeftOut) -> &str
     ensures { result.now ≡ (if left_out.zeros then trims_zeros word.now else word.now) }
 {

@@ -35,6 +35,7 @@ use std::alloc::{AllocError, Global};
 /// they have fewer.
 const STRUCTURES_PER_RECORD: usize = 16;
 
+/// Room for the records of a document that is too small for the other to count.
 const FEW_RECORDS: usize = 4;
 
 /// HEAD, and behind it the records in the order of their tags.
@@ -116,9 +117,8 @@ impl<'a, F: Forest> Writer<'a, '_, F> {
     }
 }
 
-/// The canonical form of a document that is as the structure tables ask, where the index is the document's: what
-/// [`crate::write_document`] gives for what [`crate::canonical_in`] makes. No tree is made, and a payload is copied only into
-/// what is answered.
+/// The canonical form of a document that is as the structure tables ask, where the index is the document's: the one spelling of its
+/// normal form. No tree is made, and a payload is copied only into what is answered.
 ///
 /// The file is the one that the document was read from, behind a byte order mark. Lines that stand in it as the form has them are
 /// slices of it: any other bytes give the same form, with fewer slices or none. Grows (FamilySearch GEDCOM 7.0, "Lines",

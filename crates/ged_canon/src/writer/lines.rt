@@ -42,8 +42,8 @@ pub(crate) fn put_identifier(number: usize, text: &mut String) -> Result<(), All
     Ok(())
 }
 
-/// What [`is_brief_at`] answers, where the kind doesn't tell it. A function of its own, so that the frequent way has no room
-/// for a payload to clear.
+/// What [`is_brief_at`] answers, where the kind doesn't tell it. A function of its own, so that the common path need not clear the
+/// stack's room for a payload.
 #[inline(never)]
 fn is_found_brief<F: Forest>(forest: &F, edition: Edition, rule: &Rule, place: usize) -> bool
     requires { place < trees_count (F.trees forest.now) }

@@ -45,7 +45,8 @@ fn rank_of_any(tag: &[u8]) -> u64
     high * 0x100_0000_0000 + low * 0x100 + (count + 1)
 }
 
-/// The rank of a tag: its first seven bytes, the first one highest, and its length. That of GEDC is the lowest.
+/// The rank of a tag: its first seven bytes, the first one highest, and as its last byte its length and one, which is 9 where it has more
+/// than seven. That of GEDC is the lowest.
 #[inline(always)]
 pub(crate) fn rank_of(tag: &str) -> u64
     ensures { result ≡ tag_rank tag.now }
@@ -56,7 +57,7 @@ pub(crate) fn rank_of(tag: &str) -> u64
             if number == u32::from_be_bytes(*b"GEDC") {
                 return 0;
             }
-            u64::from(number) * 0x1_0000_0000 + 5
+            u64::from(number) * 0x1_0000_0000 + (4 + 1)
         }
         bytes => rank_of_any(bytes),
     }
@@ -75,6 +76,7 @@ pub(crate) fn ranked_sibling(tag: &str, place: usize) -> RankedSibling<'_>
     }
 }
 
+/// The order of two tags of more than seven bytes.
 #[cold]
 #[inline(never)]
 fn order_of_long(tag: &str, other: &str) -> Ordering

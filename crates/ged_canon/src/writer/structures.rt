@@ -35,8 +35,8 @@ impl<'a, F: Forest> Writer<'a, '_, F> {
         Ok(())
     }
 
-    /// The same, where the forest has them all at once or one by one. A function of its own, so that the frequent way, which has
-    /// none, has no room for them to clear.
+    /// The same, where the forest has them all at once or one by one. A function of its own, so that the common path, on which
+    /// there are none, need not clear the stack's room for them.
     #[inline(never)]
     fn write_further(
         &self,

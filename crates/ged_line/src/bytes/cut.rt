@@ -63,8 +63,8 @@ pub(crate) fn cut_line(text: &str) -> Cut<'_>
     cut_special_line(text)
 }
 
-/// The first line end of bytes. A function of its own, whose answer is small, so that the frequent way has no room for a line to
-/// clear.
+/// The first line end of bytes. A function of its own, whose answer is small, so that the common path need not clear the stack's
+/// room for a line.
 #[cold]
 #[inline(never)]
 fn end_behind_special(bytes: &[u8]) -> Option<usize>

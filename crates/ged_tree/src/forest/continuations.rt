@@ -26,7 +26,7 @@ const _: () = prove!(size_of::<FurtherSlice>() == 12);
 /// The greatest number that is kept of a slice.
 const GREATEST: usize = u32::MAX as usize;
 
-/// Of so many structures that follow each other it is kept which lines stand before them.
+/// For each row of so many structures it is kept how many slices stand before its first one.
 const BLOCK: usize = 64;
 
 /// A line of a payload past the first whose text is kept as it is.
@@ -74,8 +74,8 @@ fn list_starts(starts: &mut Vec<u32>, place: usize, count: usize) -> Result<(), 
     Ok(())
 }
 
-/// What is kept of a block, and where nothing is, the number of all slices.
-fn start_of(starts: &[u32], block: usize, count: usize) -> usize
+/// How many slices are kept to stand before a block, and where nothing is kept, the number of all.
+fn slices_before_block(starts: &[u32], block: usize, count: usize) -> usize
     ensures { result ≤ count }
 {
     match starts.get(block) {
@@ -156,14 +156,15 @@ impl<'a> FurtherTable<'a> {
         Ok(())
     }
 
-    /// A number of slices, that of those before a place unless what is kept of its block is not exact.
+    /// How many slices stand before the structure at a place, as what is kept of its block tells. No clause says that this is exact, so
+    /// who asks has to test it.
     fn about_before(&self, place: usize) -> usize
         ensures { result ≤ length self.now.slices.items }
     {
         let count = self.slices.len();
         let block = place / BLOCK;
-        let low = start_of(self.starts.as_slice(), block, count);
-        let high = start_of(self.starts.as_slice(), block + 1, count);
+        let low = slices_before_block(self.starts.as_slice(), block, count);
+        let high = slices_before_block(self.starts.as_slice(), block + 1, count);
         if low > high {
             return count;
         }

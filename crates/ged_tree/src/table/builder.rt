@@ -154,7 +154,7 @@ impl<'a> TableBuilder<'a> {
             (λ fault. TellsLine fault lines spelled.now.line) }
     {
         let line = &spelled.line;
-        // That its parts are a line's is what `level` tells.
+        // Read for the proof alone: by its contract the parts are those of a line.
         let _level = line.level();
         self.count += 1;
         let role = match self.judge.role(line) {

@@ -6,10 +6,10 @@ ghost use Rattle.ged_tree.specs.declared.table.packed.KeptStructure.{KeptStructu
 
 use crate::table::packed::KeptStructure;
 
-/// How many levels a place is told for at once.
+/// For how many levels a place is told at once: by so many stores in `tell`.
 const AT_ONCE: usize = 4;
 
-/// Room for each level that a structure can keep, and for those that are told with the greatest.
+/// Room for the levels that a structure can keep in seven bits, 0 to 127, and for those that are told with the greatest.
 const ROOM: usize = 131;
 
 /// For each level the first place from some place on whose level is not greater.

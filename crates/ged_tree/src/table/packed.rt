@@ -64,7 +64,8 @@ impl KeptStructure {
         Some(self.tag_mark > 127)
     }
 
-    /// Where its tag begins in the file, in bytes, or in a file that is too long any other place; or `None` where that is not kept.
+    /// About where its tag begins in the file, in bytes: for a line that begins past the first 4 GiB it is another place. `None` where
+    /// that is not kept.
     #[inline(always)]
     pub(crate) fn start_of_rest(&self) -> Option<usize> {
         if self.tag_length() == 0 {

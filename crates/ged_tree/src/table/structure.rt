@@ -32,8 +32,8 @@ impl<'a> FlatStructure<'a> {
         }
     }
 
-    /// What [`FlatStructure::tag`] answers, from the line. A function of its own, so that the frequent way has no room for a
-    /// whole line to clear; so are the next two.
+    /// What [`FlatStructure::tag`] answers, from the line. A function of its own, so that the common path need not clear the
+    /// stack's room for a whole line; so are the next two.
     #[cold]
     #[inline(never)]
     fn tag_of_line(&self) -> &'a str
