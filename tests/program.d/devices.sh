@@ -20,6 +20,9 @@ check_devices() {
     expect "a directory" 3 "" "$unread" ./gedtool lines "$room"
     expect "a directory as the input" 3 "" "$unread" from "$room" ./gedtool check
     expect "a closed input" 3 "" "$unread" from_nothing ./gedtool lines
+    explained "a closed input, explained" 3 "" "$unread" "  file: standard input
+  reason: standard input is closed
+  cause: $(part_of 25 cause)" from_nothing ./gedtool lines --explain
     expect "a closed input by a name of its own" 3 "" "$unread" from_nothing ./gedtool lines /dev/stdin
     expect "a closed input by such a name as the first file" 3 "" "first file: $unread" from_nothing ./gedtool same /dev/stdin "$room/smallest.ged"
     expect "a closed input as the second file" 3 "" "second file: $unread" from_nothing ./gedtool same "$room/smallest.ged" -

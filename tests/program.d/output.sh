@@ -57,6 +57,7 @@ check_places() {
     puts "a file in a folder that is missing" 3 "$unwritten" "a.ged:$smallest" ./gedtool canon -o "$room/folder/none/b.ged" "$at"
     fill a.ged "$header"
     puts "a folder that is missing, before the file is read" 3 "$unwritten" "a.ged:$header" ./gedtool canon -o "$room/folder/none/b.ged" "$at"
+    puts "a file without a name, before the file is read" 3 "$unwritten" "a.ged:$header" ./gedtool canon -o "" "$at"
     puts "a folder that is none" 3 "$unwritten" "a.ged:$header" ./gedtool canon -o "$at/b.ged" "$at"
     fill a.ged "$smallest"
     check_open_files
@@ -76,7 +77,8 @@ check_places() {
 # Names under which the system shows a file that is open: that file stays.
 check_open_files() {
     local name at=$room/folder/a.ged
-    for name in /dev/stdout /dev/fd/1 /proc/self/fd/1; do
+    ln -sf -- /dev/stdout "$room/leads-to-output"
+    for name in /dev/stdout /dev/fd/1 /proc/self/fd/1 //dev/stdout /dev/../dev/stdout "$room/leads-to-output" "$room/log"; do
         printf 'old\n' >"$room/log"
         report "$name, where standard output is a file" "3: $unwritten: old" \
             "$(./gedtool canon -o "$name" "$at" >>"$room/log" 2>"$room/told"; echo "$?: $(cat -- "$room/told"): $(cat -- "$room/log")")"

@@ -27,7 +27,7 @@ check_mistakes() {
         "$(./gedtool same - - 2>&1 | grep ^Usage)"
     says "a mistake under another name" 2 "" "error: $unexpected 'b' found*Usage: gedtool lines [[]OPTIONS[]] $file*" by_another_name lines a b
     says "no command under another name" 2 "" "error: 'gedtool' requires a subcommand*Usage: gedtool <COMMAND>*" by_another_name
-    expect "a word that isn't text" 2 "" "error: the command line isn't UTF-8 text; a file with another name can be given as standard input" ./gedtool lines $'\xff'
+    expect "a word that isn't text" 2 "" "error: an argument is not UTF-8 text; a file with such a name can be read from standard input" ./gedtool lines $'\xff'
 }
 
 check_version() {

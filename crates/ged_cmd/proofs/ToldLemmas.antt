@@ -1,5 +1,5 @@
 -- What was written to standard error, one text after the other.
-use Rattle.std.proofs.Common.{◌≡◌, ◌+◌, ◌<◌, ap, flat_map, get_or, length, take, ℕ, Bool, true, false, List, [], ◌++◌, Option, Some, None, IfSome, Result, Ok, Err, append-nil, refl, sym, ◌∙◌, subst}
+use Rattle.std.proofs.Common.{◌≡◌, ◌+◌, ◌<◌, ap, flat_map, get_or, inl, inr, length, take, ℕ, Bool, true, false, List, [], ◌++◌, Option, Some, None, IfErr, IfOk, IfSome, Result, Ok, Err, append-nil, refl, sym, ◌∙◌, subst}
 use Rattle.std.specs.Prelude.{OnOk}
 use Rattle.ged_devices.specs.Devices.{failed_after}
 use Rattle.std.specs.Io.KnownBytes.{Appends}
@@ -10,7 +10,7 @@ use Rattle.ged_faults.specs.declared.faults.Outcome.{Outcome}
 use Rattle.ged_cmd.specs.Streams.{Writer, writer}
 use Rattle.ged_cmd.specs.Tasks.{Task, run, same, input_same, explain, digest}
 use Rattle.ged_cmd.specs.Telling.{told_of, may_follow, IsTold, Tells}
-use Rattle.ged_cmd.specs.inner.Told.{Wrote, WroteSome}
+use Rattle.ged_cmd.specs.inner.Told.{Wrote, WroteAny, WroteSome}
 
 -- what a print has appended where no write has failed
 pub printed : {X Y : Type 0} (before failed : Bool) (result : Result X Y) (taken holds : Option (List ℕ)) (seen text : List ℕ) → failed ≡ failed_after before result
@@ -21,6 +21,12 @@ printed before failed (Err y) taken holds seen text e wrote is sound = absurd (t
 pub if_some : (text : Option (List ℕ)) (P Q : List ℕ → Type 0) → ((bytes : List ℕ) → P bytes → Q bytes) → IfSome text P → IfSome text Q
 if_some None P Q more h = tt
 if_some (Some bytes) P Q more h = more bytes h
+
+-- a text that was written, or none
+pub wrote_any : {X Y : Type 0} (before : Bool) (w : Writer) (bytes : X → List ℕ) (Is : List ℕ → Type 0) (text : Result X Y) → IfOk text (λ t. Is (bytes t))
+    → IfOk text (λ t. Wrote before w (bytes t)) → IfErr text (λ _. Wrote before w []) → WroteAny before w Is
+wrote_any before w bytes Is (Ok t) is wrote none sound = ((wrote sound).0, (bytes t, inr is, (wrote sound).1))
+wrote_any before w bytes Is (Err y) is wrote none sound = ((none sound).0, ([], inl refl, (none sound).1))
 
 module _ {D : Type 0} (taken : D → Option (List ℕ)) (failed : D → Bool) where
   -- nothing was written

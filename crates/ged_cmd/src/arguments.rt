@@ -65,11 +65,11 @@ pub(crate) fn told_argument<'a>(alloc: Global, argument: Argument) -> Arg<'a>
     ensures { IsArg (rule_given argument) result }
 {
     match argument {
-        Argument::File => file_argument(alloc, FILE, help::OF_FILE),
+        Argument::File => optional_argument(alloc, FILE, help::OF_FILE),
         Argument::FirstFile => required_argument(alloc, FIRST_FILE, help::OF_FIRST_FILE),
-        Argument::SecondFile => file_argument(alloc, SECOND_FILE, help::OF_SECOND_FILE),
+        Argument::SecondFile => optional_argument(alloc, SECOND_FILE, help::OF_SECOND_FILE),
         Argument::Files => files_argument(alloc),
-        Argument::Fault => file_argument(alloc, FAULT, help::OF_FAULT),
+        Argument::Fault => optional_argument(alloc, FAULT, help::OF_FAULT),
         Argument::Strict => flag(alloc, STRICT, help::OF_STRICT),
         Argument::SecondEdition => flag(alloc, SECOND, help::OF_SECOND),
         Argument::KeepNames => flag(alloc, KEEP_NAMES, help::OF_KEEP_NAMES),
@@ -100,7 +100,7 @@ fn output_option<'a>(alloc: Global) -> Arg<'a>
 }
 
 /// An argument that may be left out.
-fn file_argument<'a>(alloc: Global, name: &'a str, help: &'a str) -> Arg<'a>
+fn optional_argument<'a>(alloc: Global, name: &'a str, help: &'a str) -> Arg<'a>
     ensures { IsArg (new_rule name.entry.now) result }
 {
     Arg::new(alloc, name).help(help)

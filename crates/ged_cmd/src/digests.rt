@@ -8,6 +8,7 @@ ghost use Rattle.ged_cmd.specs.Shelves.{Calls, SomeCalls};
 ghost use Rattle.ged_cmd.specs.Tasks.{file_named as file_named_of, is_input as is_input_word};
 ghost use Rattle.ged_cmd.specs.inner.Calling.{opening_all};
 ghost use Rattle.ged_cmd.specs.inner.Tasks.{name_or, names_of};
+ghost use Rattle.ged_cmd.specs.inner.Told.{Wrote, named_line, named_told};
 
 use crate::commands::{flushed_told, not_opened};
 use crate::digest_words::Digests;
@@ -126,7 +127,9 @@ fn tell_outcome<E: Write>(
     reason: &str,
     errors: &mut Output<E>,
 )
-    ensures { told.now.outcome ≡ Outcome.Done → Keeps (⟦<Output<E> as Sink>⟧.taken errors.old) (⟦<Output<E> as Sink>⟧.taken errors.new) }
+    ensures quiet { told.now.outcome ≡ Outcome.Done → Keeps (⟦<Output<E> as Sink>⟧.taken errors.old) (⟦<Output<E> as Sink>⟧.taken errors.new) }
+    ensures line { explains ≡ false → Wrote (⟦<Output<E> as Sink>⟧.failed errors.old)
+        (writer_of ⟦<Output<E> as Sink>⟧.taken ⟦<Output<E> as Sink>⟧.failed errors.old errors.new) (named_told name.now told.now.outcome) }
 {
     if let Outcome::Failed { which: _, fault } = told.outcome {
         tell_after(name, &fault, errors);
@@ -150,7 +153,10 @@ fn source_name<'a>(word: &'a str, fault: &Fault) -> &'a str
 }
 
 /// Writes the line that tells a fault, after the name of the file that has it.
-fn tell_after<E: Write>(name: &str, fault: &Fault, errors: &mut Output<E>) {
+fn tell_after<E: Write>(name: &str, fault: &Fault, errors: &mut Output<E>)
+    ensures { Wrote (⟦<Output<E> as Sink>⟧.failed errors.old)
+        (writer_of ⟦<Output<E> as Sink>⟧.taken ⟦<Output<E> as Sink>⟧.failed errors.old errors.new) (named_line name.now fault.now) }
+{
     match fault {
         Fault::WriteFailed => tell(None, fault, errors),
         _ => tell_named(name, fault, errors),

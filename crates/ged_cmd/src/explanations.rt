@@ -1,10 +1,11 @@
 // Faults and notices in words, behind the line of a fault and the answer of check.
-ghost use Rattle.std.specs.Prelude.{◌≡◌, ◌≢◌, ◌++◌, [], Some, codes, decimal, true, false, option_map};
+ghost use Rattle.std.specs.Prelude.{◌≡◌, ◌≢◌, ◌++◌, [], Some, codes, decimal, string_bytes, true, false, option_map, IfErr, IfOk};
 ghost use Rattle.std.specs.Io.KnownBytes.{Keeps};
 ghost use Rattle.ged_faults.specs.Faults.{status_of};
 ghost use Rattle.ged_cmd.specs.Streams.{writer as writer_of};
 ghost use Rattle.ged_cmd.specs.Telling.{Tells, may_follow};
-ghost use Rattle.ged_cmd.specs.inner.Told.{Wrote, WroteSome};
+ghost use Rattle.ged_cmd.specs.inner.Names.{IsHarmless, shown_text};
+ghost use Rattle.ged_cmd.specs.inner.Told.{Explains, Wrote, WroteExplanation, WroteSome};
 ghost use Rattle.ged_cmd.specs.inner.Tasks.{file_with_fault, file_written, name_or, task_of};
 
 use crate::names::{input_name, output_name, shown_name};
@@ -56,6 +57,9 @@ fn explain<E: Write>(
 )
     ensures some { WroteSome (⟦<Output<E> as Sink>⟧.failed errors.old)
         (writer_of ⟦<Output<E> as Sink>⟧.taken ⟦<Output<E> as Sink>⟧.failed errors.old errors.new) }
+    ensures fault { WroteExplanation (⟦<Output<E> as Sink>⟧.failed errors.old)
+        (writer_of ⟦<Output<E> as Sink>⟧.taken ⟦<Output<E> as Sink>⟧.failed errors.old errors.new) (task_of request.entry)
+        told.now.bytes.items reason.now told.now.outcome }
     ensures none { may_follow true (task_of request.entry) told.now.outcome ≡ false → Wrote (⟦<Output<E> as Sink>⟧.failed errors.old)
         (writer_of ⟦<Output<E> as Sink>⟧.taken ⟦<Output<E> as Sink>⟧.failed errors.old errors.new) [] }
 {
@@ -76,7 +80,9 @@ pub(crate) fn text_of(
     fault: Fault,
     name: &str,
     reason: &str,
-) -> Result<String, AllocError> {
+) -> Result<String, AllocError>
+    ensures { IfOk result (λ text. Explains (shown_text name.now) bytes.now fault reason.now (string_bytes text)) }
+{
     let shown = shown_name(alloc, name)?;
     match fault {
         Fault::ReadFailed | Fault::WriteFailed => {
@@ -164,6 +170,7 @@ fn explain_done<E: Write>(alloc: Global, request: Request<'_>, bytes: &[u8], err
     }
 }
 
+/// Explains the first notices of an accepted file. It is judged once more for that, since a run keeps of a file only its bytes.
 #[tactic(auto, using(crate::proofs::ToldLemmas::nothing))]
 fn explain_notices<E: Write>(
     alloc: Global,
@@ -172,6 +179,7 @@ fn explain_notices<E: Write>(
     name: &str,
     errors: &mut Output<E>,
 )
+    requires { IsHarmless name.now }
     ensures { WroteSome (⟦<Output<E> as Sink>⟧.failed errors.old)
         (writer_of ⟦<Output<E> as Sink>⟧.taken ⟦<Output<E> as Sink>⟧.failed errors.old errors.new) }
 {
@@ -180,6 +188,7 @@ fn explain_notices<E: Write>(
     }
 }
 
+/// Explains the first notices of a file that was judged.
 #[tactic(auto, using(crate::proofs::ToldLemmas::nothing))]
 fn explain_accepted<E: Write>(
     alloc: Global,
@@ -188,6 +197,7 @@ fn explain_accepted<E: Write>(
     name: &str,
     errors: &mut Output<E>,
 )
+    requires { IsHarmless name.now }
     ensures { WroteSome (⟦<Output<E> as Sink>⟧.failed errors.old)
         (writer_of ⟦<Output<E> as Sink>⟧.taken ⟦<Output<E> as Sink>⟧.failed errors.old errors.new) }
 {
@@ -232,7 +242,11 @@ impl Display for MoreNotices {
 /// Writes a text, if there is one. One that can't be written changes no status.
 #[tactic(auto, using(crate::proofs::ToldLemmas::nothing))]
 pub(crate) fn write_text<E: Write>(text: Result<String, AllocError>, errors: &mut Output<E>)
-    ensures { WroteSome (⟦<Output<E> as Sink>⟧.failed errors.old)
+    ensures text { IfOk text (λ text. Wrote (⟦<Output<E> as Sink>⟧.failed errors.old)
+        (writer_of ⟦<Output<E> as Sink>⟧.taken ⟦<Output<E> as Sink>⟧.failed errors.old errors.new) (string_bytes text)) }
+    ensures none { IfErr text (λ _. Wrote (⟦<Output<E> as Sink>⟧.failed errors.old)
+        (writer_of ⟦<Output<E> as Sink>⟧.taken ⟦<Output<E> as Sink>⟧.failed errors.old errors.new) []) }
+    ensures some { WroteSome (⟦<Output<E> as Sink>⟧.failed errors.old)
         (writer_of ⟦<Output<E> as Sink>⟧.taken ⟦<Output<E> as Sink>⟧.failed errors.old errors.new) }
 {
     if let Ok(text) = text {

@@ -14,7 +14,7 @@ pub(crate) struct Help {
 pub(crate) const PROGRAM: Help = Help {
     about: "Read FamilySearch GEDCOM 7.0 files",
     purpose: "Read FamilySearch GEDCOM 7.0 files: report what is wrong with a file and where, write
-the one canonical form of a file, and say whether two files hold the same records.",
+the one canonical form of a file, and say whether two files hold the same header and records.",
     more: "Exit status:
   0  The answer was written; of same: the files are the same.
   1  A file has a fault; of same also: the files differ.
@@ -25,7 +25,7 @@ the one canonical form of a file, and say whether two files hold the same record
 Examples:
   gedtool check family.ged            What is wrong with the file, or its notices
   gedtool check --explain family.ged  The same, and in words why, and what to do
-  gedtool same one.ged another.ged    Whether the two hold the same records
+  gedtool same one.ged another.ged    Whether the two are the same
   gedtool help canon                  More about a command",
 };
 
@@ -63,7 +63,8 @@ Exit status:
 
 Examples:
   gedtool check family.ged
-  gedtool check --strict --explain family.ged",
+  gedtool check --strict --explain family.ged
+  for f in *.ged; do gedtool check \"$f\"; done",
 };
 
 pub(crate) const SHOW: Help = Help {
@@ -88,8 +89,8 @@ Examples:
 pub(crate) const CANON: Help = Help {
     about: "Write a file in its canonical form",
     purpose: "Judge a file as 'check' does, and write an accepted one in its canonical form, which all
-files that hold the same records share: structures in order, cross-reference identifiers
-renamed, unused ones left out, lines spelled alike.",
+files that hold the same header and the same records share: structures in order,
+cross-reference identifiers renamed, unused ones left out, lines spelled alike.",
     more: "Profiles:
   A file with notices is accepted. With --strict each notice is a fault.
 
@@ -134,8 +135,8 @@ Examples:
 pub(crate) const DIGEST: Help = Help {
     about: "Write the digest of the canonical form of each file",
     purpose: "Judge each file as 'check' does, and write the SHA-256 of its canonical form and its name, in
-the format of sha256sum. Files that hold the same records have the same digest. A file that
-is not accepted is reported, and the next one is read.",
+the format of sha256sum. Files that hold the same header and the same records have the same
+digest. A file that is not accepted is reported, and the next one is read.",
     more: "Profiles:
   A file with notices is accepted. With --strict each notice is a fault.
 
@@ -190,4 +191,4 @@ pub(crate) const OF_KEEP_NAMES: &str = "Leave identifiers as they are";
 
 pub(crate) const OF_OUTPUT: &str = "Write the answer to this file, whole or not at all";
 
-pub(crate) const OF_EXPLAIN: &str = "Explain a fault, and the notices of check, on standard error";
+pub(crate) const OF_EXPLAIN: &str = "Explain in words, on standard error";

@@ -8,7 +8,7 @@ ghost use Rattle.ged_cmd.specs.Shelves.{Calls, ShelfCall, drafting, opening};
 use ged_devices::{Failed, Fate, Input, NewFile, Noted, Reason, Sink, Source};
 use ged_tool::Fault;
 use std::alloc::{AllocError, Global};
-use std::fs::File;
+use std::fs::{File, OpenFile};
 use std::io;
 use std::io::ErrorKind;
 use std::rt::Files;
@@ -113,7 +113,13 @@ impl<'a, F: Files> Shelf for Disk<'a, F> {
 
     fn open(&mut self, name: &str) -> Result<Input<Noted<'a, F::File>>, Failed> {
         match File::open(self.files, name) {
-            Ok(file) => Ok(Input::new(Noted::new(file, self.reason))),
+            Ok(file) => {
+                let size = match file.metadata() {
+                    Ok(metadata) => metadata.len(),
+                    Err(_) => 0,
+                };
+                Ok(Input::expecting(Noted::new(file, self.reason), size))
+            }
             Err(error) => {
                 self.reason.note(&error);
                 Err(Failed)

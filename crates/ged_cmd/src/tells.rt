@@ -1,5 +1,5 @@
 // What standard error and the program's status tell.
-ghost use Rattle.std.specs.Prelude.{◌≡◌, ◌≢◌, [], Some, false, IfSome, OnOk, if◌then◌else◌};
+ghost use Rattle.std.specs.Prelude.{◌≡◌, ◌≢◌, ◌++◌, [], None, Some, codes, false, IfSome, OnOk, if◌then◌else◌};
 ghost use Rattle.std.specs.Io.KnownBytes.{Appends, Keeps};
 ghost use Rattle.clap.specs.Words.{kind_of};
 ghost use Rattle.ged_devices.specs.Devices.{failed_after};
@@ -7,6 +7,7 @@ ghost use Rattle.ged_faults.specs.Faults.{status_of};
 ghost use Rattle.ged_cmd.specs.Program.{IsUnwritten, refusal_status};
 ghost use Rattle.ged_cmd.specs.Streams.{writer as writer_of};
 ghost use Rattle.ged_cmd.specs.Telling.{fault_line, told_of, which_head};
+ghost use Rattle.ged_cmd.specs.inner.Names.{shown_text};
 ghost use Rattle.ged_cmd.specs.inner.Told.{Wrote};
 
 use crate::commands::failed;
@@ -116,6 +117,8 @@ struct NamedFaultLine<'a> {
 }
 
 impl Display for NamedFaultLine<'_> {
+    ghost output = { λ l. Some (shown_text l.name.name.now ++ (codes ": " ++ fault_line l.line.which l.line.fault.now)) };
+
     fn fmt<W: fmt::Write>(&self, f: &mut Formatter<W>) -> fmt::Result {
         write!(f, "{}: {}", self.name, self.line)
     }
@@ -133,7 +136,11 @@ pub(crate) fn tell<E: Write>(which: Option<Which>, fault: &Fault, errors: &mut O
 
 /// Writes the line that tells a fault after a name, by one write where the writer takes it whole and the name, as it is shown, is
 /// no longer than one of the system's. It takes no memory.
-pub(crate) fn tell_named<E: Write>(name: &str, fault: &Fault, errors: &mut Output<E>) {
+pub(crate) fn tell_named<E: Write>(name: &str, fault: &Fault, errors: &mut Output<E>)
+    ensures { Wrote (⟦<Output<E> as Sink>⟧.failed errors.old)
+        (writer_of ⟦<Output<E> as Sink>⟧.taken ⟦<Output<E> as Sink>⟧.failed errors.old errors.new)
+        (shown_text name.now ++ (codes ": " ++ fault_line None fault.now)) }
+{
     let room = ArrayString::<NAMED_LINE_ROOM>::new();
     let named = NamedFaultLine {
         name: ShownName::new(name),
@@ -159,7 +166,7 @@ fn write_at_once<const ROOM: usize, D: Display, E: Write>(
     };
 }
 
-/// Prints help or the version on the output, or what is wrong with the words on the errors.
+/// Prints help or the version on the output, or what is wrong with the words on the errors, and gives the status.
 pub(crate) fn refuse<W: Write, E: Write>(
     error: &Error,
     output: &mut Output<W>,
@@ -232,13 +239,13 @@ pub(crate) fn refuse_words<E: Write>(
     let text = match mistake {
         Mistake::TwoInputs => TWO_INPUTS,
         Mistake::InputTwice => INPUT_TWICE,
-        Mistake::NoFault => return refuse_fault(word.unwrap_or(""), errors),
+        Mistake::NoFault => return refuse_word(word.unwrap_or(""), errors),
     };
     tell_mistake(&text, errors)
 }
 
 /// Tells that a word is of no fault.
-fn refuse_fault<E: Write>(word: &str, errors: &mut Output<E>) -> u8
+fn refuse_word<E: Write>(word: &str, errors: &mut Output<E>) -> u8
     ensures { result ≡ 2 }
 {
     tell_mistake(&NoFault { word }, errors)
@@ -266,7 +273,7 @@ pub(crate) fn refuse_unread<E: Write>(error: &io::Error, errors: &mut Output<E>)
     let text = match error.kind() {
         io::ErrorKind::OutOfMemory => "error: out of memory\n",
         _ =>
-            "error: the command line isn't UTF-8 text; a file with another name can be given as standard input\n",
+            "error: an argument is not UTF-8 text; a file with such a name can be read from standard input\n",
     };
     tell_mistake(&text, errors)
 }

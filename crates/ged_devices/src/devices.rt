@@ -29,6 +29,12 @@ pub trait Source {
         ensures failure { failed self.new ≡ failed_after (failed self.old) result }
         ensures bytes { ReadConsumes (to_come self.old) (to_come self.new) result buf.new };
 
+    /// How many bytes are thought to come, as the size of a file says; 0 where nothing says it. So much room is made before the first
+    /// read, and more where more comes.
+    fn expected(&self) -> u64 {
+        0
+    }
+
     /// How often `read` was called.
     fn reads(&self) -> u64
         ensures { result ≡ reads self.now };

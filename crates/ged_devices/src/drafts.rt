@@ -2,7 +2,7 @@
 ghost use Rattle.std.specs.Prelude.{◌≡◌, ◌≢◌, ◌+◌, ◌*◌, ◌/◌, ◌%◌, bit_and, None, false, string_bytes, IfOk, IsNone, IsSome, OnOk, OnErr};
 ghost use Rattle.std.specs.Io.{WritesAtMost};
 ghost use Rattle.ged_devices.specs.Devices.{failed_after};
-ghost use Rattle.ged_devices.specs.Paths.{IsBeside, IsFolderOf, new_path};
+ghost use Rattle.ged_devices.specs.Paths.{IsBeside, IsFolderOf, is_open_name as is_open_name_of, new_path};
 
 use crate::devices::{Failed, Sink};
 use crate::reasons::Reason;
@@ -83,18 +83,19 @@ pub struct NewFile<'a, F: Files> {
 
 impl<'a, F: Files> NewFile<'a, F> {
     /// A new file for the place of the one of this name. Nothing is created yet. Answers an error where no file can take that
-    /// place, and notes why: there is one that is no regular file, or may not be written, or no folder for one; or the name is one of an
-    /// open file, as `/dev/stdout`; and where no memory was found. Grows.
+    /// place, and notes why: there is one that is no regular file, or may not be written, or no folder for one; or the name is empty, or
+    /// one of an open file, as `/dev/stdout`; and where no memory was found. Grows.
     pub fn new(
         alloc: Global,
         files: &'a F,
         reason: &'a Reason,
         name: &str,
     ) -> io::Result<NewFile<'a, F>>
+        ensures name { OnOk result (is_open_name_of name.now ≡ false) }
         ensures no_failure { IfOk result (λ draft. draft.failed ≡ false) }
         ensures pending { IfOk result (λ draft. draft.fate ≡ Fate.Pending) }
     {
-        refuse_open_file(reason, name)?;
+        refuse_name(reason, name)?;
         let target = reason.noting(target_of(alloc, files, name))?;
         let kept = kept_of(files, reason, target.as_str())?;
         let folder = folder_of(alloc, target.as_str())?;
@@ -282,16 +283,25 @@ impl<F: Files> Sink for NewFile<'_, F> {
     }
 }
 
-/// Answers an error for a name under which the system shows a file that is open already: what such a link leads to is no place that
-/// the name was meant to name. Why is noted.
-fn refuse_open_file(reason: &Reason, name: &str) -> io::Result<()> {
-    let links = ["/dev/std", "/dev/fd/", "/proc/"];
-    if links
-        .iter()
-        .any(|link: &&str| -> bool { name.starts_with(*link) })
-    {
-        reason.note_own("a name of an open file");
+/// Whether a name begins as those do under which the system shows files that are open already.
+fn is_open_name(name: &str) -> bool
+    ensures { result ≡ is_open_name_of name.now }
+{
+    let name = name.as_bytes();
+    name.starts_with(b"/dev/std") || name.starts_with(b"/dev/fd/") || name.starts_with(b"/proc/")
+}
+
+/// Answers an error for a name that no new file can have: the empty one; and one under which the system shows files that are open
+/// already, since the file to which it leads is not the one that was meant. Why is noted.
+fn refuse_name(reason: &Reason, name: &str) -> io::Result<()>
+    ensures { OnOk result (is_open_name_of name.now ≡ false) }
+{
+    if is_open_name(name) {
+        reason.note_words("a name of an open file");
         return Err(io::Error::from(ErrorKind::Unsupported));
+    }
+    if name.is_empty() {
+        return reason.noting(Err(io::Error::from(ErrorKind::NotFound)));
     }
     Ok(())
 }
@@ -321,8 +331,8 @@ fn give_permissions<F: OpenFile>(file: &F, kept: Kept) -> io::Result<()> {
     file.set_permissions(Permissions::from_mode(kept.mode_for(group)))
 }
 
-/// What a new file keeps of the file of this path, or `None` where there is none. One that is no regular file, or may not be
-/// written, is an error, so that no device is replaced, and no file that is protected. Why is noted.
+/// What a new file keeps of the file of this path, or `None` where there is none. One that is no regular file, may not be written, or is
+/// written to as standard output is an error, so that no device is replaced, no file that is protected, and no log. Why is noted.
 fn kept_of<F: Files>(files: &F, reason: &Reason, path: &str) -> io::Result<Option<Kept>> {
     let Some(metadata) = reason.noting(metadata_of(files, path))? else {
         return Ok(None);
@@ -332,7 +342,11 @@ fn kept_of<F: Files>(files: &F, reason: &Reason, path: &str) -> io::Result<Optio
     }
     if !metadata.is_file() {
         // the system may answer an error of this kind for other reasons
-        reason.note_own("not a regular file");
+        reason.note_words("not a regular file");
+        return Err(io::Error::from(ErrorKind::Unsupported));
+    }
+    if is_output(files, &metadata) {
+        reason.note_words("standard output or standard error goes there");
         return Err(io::Error::from(ErrorKind::Unsupported));
     }
     reason.noting(OpenOptions::new().write(true).open(files, path))?;
@@ -340,6 +354,18 @@ fn kept_of<F: Files>(files: &F, reason: &Reason, path: &str) -> io::Result<Optio
         mode: metadata.permissions().mode(),
         group: metadata.gid(),
     }))
+}
+
+/// Whether a file is what standard output or standard error goes to, under whatever name.
+fn is_output<F: Files>(files: &F, file: &Metadata) -> bool {
+    for name in ["/dev/fd/1", "/dev/fd/2"] {
+        if let Ok(open) = fs::metadata(files, name) {
+            if open.dev() == file.dev() && open.ino() == file.ino() {
+                return true;
+            }
+        }
+    }
+    false
 }
 
 /// What the system tells of the file of this path, or `None` where there is none.

@@ -9,6 +9,7 @@ use std::io::Read;
 #[derive(Drop)]
 pub struct Input<R> {
     device: R,
+    expected: u64,
     reads: u64,
     failed: bool,
 }
@@ -20,8 +21,19 @@ impl<R: Read> Input<R> {
         ensures no_failure { ⟦<Input<R> as Source>⟧.failed result ≡ false }
         ensures to_come { ⟦<Input<R> as Source>⟧.to_come result ≡ R.remaining device }
     {
+        Input::expecting(device, 0)
+    }
+
+    /// An input that was not read from yet, and is thought to give so many bytes. It gives what the device gives, however much that is.
+    /// Takes no memory.
+    pub fn expecting(device: R, expected: u64) -> Input<R>
+        ensures unread { ⟦<Input<R> as Source>⟧.reads result ≡ 0 }
+        ensures no_failure { ⟦<Input<R> as Source>⟧.failed result ≡ false }
+        ensures to_come { ⟦<Input<R> as Source>⟧.to_come result ≡ R.remaining device }
+    {
         Input {
             device,
+            expected,
             reads: 0,
             failed: false,
         }
@@ -44,6 +56,10 @@ impl<R: Read> Source for Input<R> {
                 Err(Failed)
             }
         }
+    }
+
+    fn expected(&self) -> u64 {
+        self.expected
     }
 
     fn reads(&self) -> u64 {

@@ -34,8 +34,8 @@ impl Reason {
         answered
     }
 
-    /// Keeps a reason that is none of the system's. Takes no memory.
-    pub(crate) fn note_own(&self, words: &'static str) {
+    /// Keeps a reason that is none of the system's, in words. Takes no memory.
+    pub fn note_words(&self, words: &'static str) {
         self.words.set(words);
     }
 
@@ -59,6 +59,9 @@ fn words_of(kind: ErrorKind) -> &'static str {
         ErrorKind::FilesystemLoop => "too many symbolic links",
         ErrorKind::InvalidFilename => "file name too long",
         ErrorKind::BrokenPipe => "broken pipe",
+        ErrorKind::WouldBlock => "not ready now",
+        ErrorKind::TimedOut => "no answer in time",
+        ErrorKind::ResourceBusy => "in use",
         ErrorKind::AlreadyExists =>
             "all names for a new file are taken: remove .gedtool-0.new to .gedtool-99.new",
         _ => "",

@@ -1,6 +1,6 @@
 // Characters that are not shown as they are.
 ghost use Rattle.std.specs.Prelude.{◌≡◌, not};
-ghost use Rattle.ged_explain.specs.Characters.{is_blank as is_blank_code, is_unseen, misleads, takes_no_room as takes_no_room_code};
+ghost use Rattle.ged_explain.specs.Characters.{is_blank as is_blank_code, is_no_character as is_no_character_code, is_unseen, misleads, takes_no_room as takes_no_room_code};
 
 /// Whether a character leaves what stands around it as it is: it ends no line, controls no terminal, and does not turn the direction
 /// of a text. The name of a file may have any of these: a space other than the one of ASCII, or a character that is not seen, is a fair
@@ -42,7 +42,16 @@ fn is_blank(character: char) -> bool
             | '\u{3000}'
             | '\u{3164}'
             | '\u{FFA0}'
+            | '\u{13441}'..='\u{13442}'
+            | '\u{1D159}'
     )
+}
+
+/// Whether a code is no character in any version of Unicode.
+fn is_no_character(character: char) -> bool
+    ensures { result ≡ is_no_character_code character }
+{
+    matches!(character, '\u{FDD0}'..='\u{FDEF}') || u32::from(character) % 0x1_0000 >= 0xFFFE
 }
 
 fn takes_no_room(character: char) -> bool
@@ -60,9 +69,8 @@ fn takes_no_room(character: char) -> bool
             | '\u{FE00}'..='\u{FE0F}'
             | '\u{FEFF}'
             | '\u{FFF0}'..='\u{FFFB}'
-            | '\u{FFFE}'..='\u{FFFF}'
             | '\u{1BCA0}'..='\u{1BCA3}'
             | '\u{1D173}'..='\u{1D17A}'
             | '\u{E0000}'..='\u{E0FFF}'
-    )
+    ) || is_no_character(character)
 }

@@ -140,7 +140,7 @@ pub(crate) static MEANINGS: [Meaning; 29] = [
         number: 20,
         name: "BadPayload",
         title: "The value is not of the kind that belongs there.",
-        cause: "A date, an age or a word was written as people or older versions write it, or the month has no such day. Words of a date are English and in capital letters; other words go into a PHRASE below it, so INT 1900 (about) is 1900 with PHRASE about; the value of an age, or of the date of an event or citation, may then be empty. An event has Y or nothing, its date in DATE below it, a description in TYPE; that it did not happen is 1 NO DEAT. Older versions wrote 1648/49 for BET 1648 AND 1649, B.C. for BCE, FRENCH R for FRENCH_R, CHILD for < 8y, INFANT for < 1y and STILLBORN for 0y, with a PHRASE. NOTE with a pointer is SNOTE now, SOUR and OBJE are pointers, another name is a second NAME, not ALIA.",
+        cause: "A date, an age or a word was written as people or older versions write it, the month has no such day, or blanks stand before or behind the value. Words of a date are English and in capital letters; other words go into a PHRASE below it, so INT 1900 (about) is 1900 with PHRASE about; the value of an age, or of the date of an event or citation, may then be empty. An event has Y or nothing, its date in DATE below it, a description in TYPE; that it did not happen is 1 NO DEAT. Older versions wrote 1648/49 for BET 1648 AND 1649, B.C. for BCE, FRENCH R for FRENCH_R, CHILD for < 8y, INFANT for < 1y and STILLBORN for 0y, with a PHRASE. NOTE with a pointer is SNOTE now, SOUR and OBJE are pointers, another name is a second NAME, not ALIA.",
         example: "1 BIRT\n2 DATE 3 Mai 1871    <- here",
     },
     Meaning {
@@ -182,7 +182,7 @@ pub(crate) static MEANINGS: [Meaning; 29] = [
         number: 26,
         name: "WriteFailed",
         title: "The answer could not be written.",
-        cause: "The disk is full, or the program that was reading the answer has ended; or the file that -o names is in a folder that is missing or may not be written, may not be written itself, or is no regular file.",
+        cause: "The disk is full, or the program that was reading the answer has ended; or the file that -o names is in a folder that is missing or may not be written, may not be written itself, is no regular file, or is one that standard output goes to, as /dev/stdout.",
         example: "gedtool canon tree.ged > /dev/full",
     },
     Meaning {
@@ -203,7 +203,7 @@ pub(crate) static MEANINGS: [Meaning; 29] = [
         number: 29,
         name: "UnlistedTag",
         title: "A tag that does not begin with _ stands where the structure tables do not list it.",
-        cause: "An older version of GEDCOM had the tag there, or the program that wrote the file uses it in its own way. AFN is EXID with a TYPE now, a NOTE that is a record is SNOTE, FONE and ROMN are TRAN with LANG, and the text of a CONC is joined to the line before. What has no such tag goes into a NOTE, or to a tag that begins with _, as a program's own tags do.",
+        cause: "An older version of GEDCOM had the tag there, or the program that wrote the file uses it in its own way. AFN is EXID with a TYPE now, a NOTE that is a record is SNOTE, FONE and ROMN are TRAN with LANG, the text of a CONC is joined to the line before, and CHAR and a FORM below GEDC are left out. What has no such tag goes into a NOTE, or to a tag that begins with _, as a program's own tags do.",
         example: "0 @I7@ INDI\n1 AFN 1234    <- here",
     },
 ];

@@ -12,7 +12,12 @@ fn main(rt: HostRuntime) -> ExitCode {
     let reason = Reason::new();
     // why what is held can't be read says nothing of standard input
     let untold = Reason::new();
-    let of_input = if held.is_some() { &untold } else { &reason };
+    let of_input = if held.is_some() {
+        reason.note_words("standard input is closed");
+        &untold
+    } else {
+        &reason
+    };
     let mut streams = Streams {
         input: Input::new(Noted::new(rt.stdin(), of_input)),
         output: Output::new(Noted::new(rt.stdout(), &reason)),

@@ -56,6 +56,6 @@ complete -c gedtool -n '__gedtool_command check show canon same digest' -l stric
 complete -c gedtool -n '__gedtool_command canon same digest' -l second -d 'Use the second edition, which leaves out leading zeros too'
 complete -c gedtool -n '__gedtool_command canon same' -l keep-names -d 'Leave identifiers as they are'
 complete -c gedtool -n '__gedtool_command lines show canon' -r -F -s o -l output -d 'Write the answer to this file, whole or not at all'
-complete -c gedtool -n '__gedtool_command lines check show canon same digest' -l explain -d 'Explain a fault, and the notices of check, on standard error'
+complete -c gedtool -n '__gedtool_command lines check show canon same digest' -l explain -d 'Explain in words, on standard error'
 complete -c gedtool -n 'not __gedtool_command help' -s h -l help -d 'Print help'
 complete -c gedtool -n __gedtool_begins -s V -l version -d 'Print version'

@@ -1,5 +1,5 @@
 // One run: read the whole file, make the whole answer, write it.
-ghost use Rattle.std.specs.Prelude.{◌≡◌, ◌+◌, ◌≤◌, ◌↔◌, false, IsTrue, IfOk, IfErr, IsErrOf, vec_len};
+ghost use Rattle.std.specs.Prelude.{◌≡◌, ◌+◌, ◌≤◌, ◌↔◌, false, IsTrue, IfOk, IfErr, IsErrOf, [], vec_len};
 ghost use Rattle.std.specs.Io.KnownBytes.{Consumes};
 ghost use Rattle.ged_line.specs.Bytes.{Bytes};
 ghost use Rattle.ged_tool.specs.Limits.{greatest_limit, greatest_read};
@@ -123,9 +123,8 @@ pub(crate) fn read_whole<R: Source>(
         × Consumes (R.to_come reader.old) (R.to_come reader.new) came
         × StopsReading limit came fault) }
 {
-    let mut bytes = Vec::new(alloc);
-    let mut chunk = match make_chunk(alloc) {
-        Ok(chunk) => chunk,
+    let (mut bytes, mut chunk) = match make_room(alloc, reader.expected(), limit) {
+        Ok(room) => room,
         Err(error) => return Err(Fault::Memory(error)),
     };
     for _ in 0..=limit {
@@ -149,10 +148,14 @@ pub(crate) fn read_whole<R: Source>(
 /// The most bytes that one call of read is asked for.
 const CHUNK: usize = 131072;
 
-/// Room for one call of read. What came is copied from here, so that the vector that holds the file is never filled
-/// with zeros, and only as much of it is touched as came.
-fn make_chunk(alloc: Global) -> Result<Vec<u8>, AllocError>
-    ensures { IfOk result (λ chunk. vec_len chunk ≡ greatest_read) }
+/// An empty vector with room for the bytes that are thought to come, if these are no more than the limit, and room for one call of read.
+/// What came is copied from there, so that the vector that holds the file is never filled with zeros, and only as much of it is touched
+/// as came.
+fn make_room(alloc: Global, expected: u64, limit: u64) -> Result<(Vec<u8>, Vec<u8>), AllocError>
+    ensures { IfOk result (λ room. (room.0.items ≡ []) × (vec_len room.1 ≡ greatest_read)) }
 {
-    vec![in alloc; 0; CHUNK]
+    let first = if expected <= limit { expected } else { 0 };
+    let bytes = Vec::with_capacity(alloc, first as usize)?;
+    let chunk = vec![in alloc; 0; CHUNK]?;
+    Ok((bytes, chunk))
 }

@@ -73,7 +73,7 @@ loop-name-preserved g c =
           (sym (digest.ensures.named is).0) (c.loop-name.invariant.unread before);
       quiet = λ is.
           let (was, now) = all_done c.loop-name.gravest digest.result.outcome c.graver-gravest.result c.graver-gravest.ensures is in
-          Keeps-trans _ _ _ (c.loop-name.invariant.quiet was) (c.tell_outcome.ensures now);
+          Keeps-trans _ _ _ (c.loop-name.invariant.quiet was) (c.tell_outcome.ensures.quiet now);
     }
 
 pub returns-clause-told : goal.returns-clause-told
