@@ -29,8 +29,8 @@ pub trait Source {
         ensures failure { failed self.new ≡ failed_after (failed self.old) result }
         ensures bytes { ReadConsumes (to_come self.old) (to_come self.new) result buf.new };
 
-    /// How many bytes are thought to come, as the size of a file says; 0 where nothing says it. So much room is made before the first
-    /// read, and more where more comes.
+    /// How many bytes are thought to come, as the size of a file says; 0 where nothing says it. A run makes so much room before the first
+    /// read, but none where it is more than the limit; and more where more comes.
     fn expected(&self) -> u64 {
         0
     }

@@ -60,9 +60,9 @@ impl Kept {
     }
 }
 
-/// A new file of the system, which is to take the place of another. It is created by its first write, beside the other one, and
-/// keeps the permissions of that, but for those of a group that is not its own. Once it is placed or given up nothing more is done to
-/// the disk, since another program may have a file of that name by then.
+/// A new file of the system, which is to take the place of another. It is created by its first write, or when it is placed if nothing was
+/// written, beside the other one, and keeps the permissions of that, but for those of a group that is not its own. Once it is placed or
+/// given up nothing more is done to the disk, since another program may have a file of that name by then.
 #[derive(Drop)]
 pub struct NewFile<'a, F: Files> {
     files: &'a F,
@@ -83,8 +83,8 @@ pub struct NewFile<'a, F: Files> {
 
 impl<'a, F: Files> NewFile<'a, F> {
     /// A new file for the place of the one of this name. Nothing is created yet. Answers an error where no file can take that
-    /// place, and notes why: there is one that is no regular file, or may not be written, or no folder for one; or the name is empty, or
-    /// one of an open file, as `/dev/stdout`; and where no memory was found. Grows.
+    /// place, and notes why: there is one that is no regular file, or may not be written, or that standard output or standard error goes
+    /// to, or no folder for one; or the name is empty, or one of an open file, as `/dev/stdout`; and where no memory was found. Grows.
     pub fn new(
         alloc: Global,
         files: &'a F,

@@ -1,5 +1,5 @@
 // How bytes are written in rows.
-use crate::answers::Answer;
+use ged_examples_answers::Answer;
 use std::alloc::Global;
 use std::io::Write;
 

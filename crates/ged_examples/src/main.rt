@@ -2,47 +2,11 @@
 //! is no part of `gedtool`.
 #![tactic(auto)]
 
-mod agreement;
-mod answers;
-mod by_trees;
-mod canon;
-mod devices;
-mod digests;
 mod escapes;
-mod explaining;
-mod fakes;
-mod feeding;
-mod forests;
-mod forms;
-mod growing;
-mod growing_answers;
-mod growing_explained;
-mod growing_feeds;
-mod growing_files;
-mod growing_lines;
-mod growths;
-mod large;
-mod laws;
-mod lines;
-mod links;
-mod made;
-mod nodes;
-mod parts;
-mod questions;
-mod ranges;
-mod respelling;
 mod rows;
-mod still;
-mod tables;
-mod trees;
-mod values;
-mod ways;
-mod whole;
 
-use answers::Answer;
-use growths::{Marks, refuse_growths};
+use ged_examples_growths::{Marks, refuse_growths};
 use rows::{Tally, ask_rows};
-use std::alloc::Global;
 use std::io::Write;
 use std::process::ExitCode;
 use std::{env, fs, io};
@@ -84,19 +48,4 @@ fn refuse_growths_of(rt: &HostRuntime, call: &str, names: &[String]) -> io::Resu
     refuse_growths(rt.alloc(), call, files.as_slice(), &mut marks);
     marks.finish()?;
     Ok(ExitCode::SUCCESS)
-}
-
-/// Answers a call on an argument; false where no module has a call of this name.
-fn answer_call(alloc: Global, call: &str, argument: &[u8], answer: &mut Answer) -> bool {
-    lines::answer(alloc, call, argument, answer)
-        || laws::answer(call, argument, answer)
-        || trees::answer(alloc, call, argument, answer)
-        || values::answer(alloc, call, argument, answer)
-        || tables::answer(alloc, call, argument, answer)
-        || questions::answer(alloc, call, argument, answer)
-        || canon::answer(alloc, call, argument, answer)
-        || forms::answer(alloc, call, argument, answer)
-        || whole::answer(alloc, call, argument, answer)
-        || devices::answer(alloc, call, argument, answer)
-        || explaining::answer(alloc, call, argument, answer)
 }

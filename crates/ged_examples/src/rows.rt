@@ -1,7 +1,6 @@
 // Rows of data, each of which says what a call answers about a file or an argument.
-use crate::answer_call;
-use crate::answers::Answer;
 use crate::escapes::{escape, unescape};
+use ged_examples_answers::Answer;
 use std::alloc::Global;
 
 /// How many rows were asked, how many were answered otherwise, and what tells each of these.
@@ -74,6 +73,12 @@ fn read_row(line: &str) -> Option<Row<'_>> {
         argument,
         wanted,
     })
+}
+
+/// Answers a call on an argument; false where no library has a call of this name.
+fn answer_call(alloc: Global, call: &str, argument: &[u8], answer: &mut Answer) -> bool {
+    ged_examples_parts::answer_call(alloc, call, argument, answer)
+        || ged_examples_whole::answer_call(alloc, call, argument, answer)
 }
 
 /// Asks a row's call, and says what is wrong with its texts, its name or its answer.

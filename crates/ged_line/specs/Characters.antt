@@ -5,8 +5,8 @@ use Rattle.std.specs.List.{list_any}
 use Rattle.std.specs.Str.{is_utf8, chars}
 use Rattle.ged_line.specs.Bytes.{Bytes}
 
--- a character that may not stand in a line: a control character other than tab (those of the line ends too),
--- U+007F, U+FFFE or U+FFFF
+-- a character that may not stand in a line: a control character below U+0020 other than tab (those of the line ends too), U+007F,
+-- U+FFFE or U+FFFF
 abbrev pub is_banned : ℕ → Bool
 is_banned c = (nat_lt c 0x20 && not (c == 0x09)) || c == 0x7F || c == 0xFFFE || c == 0xFFFF
 

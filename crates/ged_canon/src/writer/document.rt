@@ -118,7 +118,8 @@ impl<'a, F: Forest> Writer<'a, '_, F> {
 }
 
 /// The canonical form of a document that is as the structure tables ask, where the index is the document's: the one spelling of its
-/// normal form. No tree is made, and a payload is copied only into what is answered.
+/// normal form. No tree is made. A payload that is respelt is made in a text of its own first; any other is copied only into what is
+/// answered.
 ///
 /// The file is the one that the document was read from, behind a byte order mark. Lines that stand in it as the form has them are
 /// slices of it: any other bytes give the same form, with fewer slices or none. Grows (FamilySearch GEDCOM 7.0, "Lines",

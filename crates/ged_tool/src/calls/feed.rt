@@ -63,7 +63,7 @@ impl Feed {
         // A fault that was told is told again, and nothing is taken in.
         ensures again { IfSome self.old.told (λ fault. IsErrOf result fault × (self.new ≡ self.old)) }
 
-        // A piece is taken in where no whole line has a fault with it, and refused where one has.
+        // The answer is Ok where no whole line has a fault with the piece, and that fault where one has; both take it in.
         ensures takes { IfOk result (λ _. self.new ≡ record { bytes = self.old.bytes ++ piece.now; told = None }) }
         ensures faultless { IfOk result (λ _. (line : ℕ) (kind : FileFault) → ¬ (WholeLinesFaultAt self.new.bytes line kind)) }
         ensures refuses { self.old.told ≡ None → IfErr result (RefusesPiece self.old piece.now self.new) }

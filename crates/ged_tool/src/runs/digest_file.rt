@@ -25,8 +25,8 @@ use std::alloc::Global;
 /// with a backslash. So a line is a file, whatever its name.
 ///
 /// `limit`, the devices, the calls, the bytes that are kept and the outcome are as in [`run_told`](crate::run_told); InFile
-/// comes where the file is not accepted. Memory is taken for the file and 131,072 bytes to read it by, for its document and index,
-/// for what its canonical form has that the file has not, and for the line and its digits.
+/// comes where the file is not accepted. Memory is taken for the file as by that call, for its document and index, for what its canonical
+/// form has that the file has not, and for the line and its digits.
 pub fn run_digest<R: Source, W: Sink>(
     alloc: Global,
     settings: Settings,

@@ -111,6 +111,9 @@ fn tell_further(structures: &mut Vec<KeptStructure>)
     structures[count - 1] = structure;
 }
 
+/// Fewer bytes than most files have to a line.
+const USUAL_LINE: usize = 20;
+
 /// A table that takes lines, and the judge of the next one.
 #[derive(Drop)]
 pub(crate) struct TableBuilder<'a> {
@@ -137,6 +140,17 @@ impl<'a> TableBuilder<'a> {
             apart: Vec::new(alloc),
             further: FurtherTable::new(alloc),
         }
+    }
+
+    /// The same, with room for the structures of a file whose lines have [`USUAL_LINE`] bytes: a vector that grows to its size moves with each
+    /// growth, and most of the pages that it then gets are small ones. Grows.
+    pub(crate) fn with_room(alloc: Global, file: &'a str) -> Result<TableBuilder<'a>, AllocError>
+        ensures lines { IfOk result (λ table. HoldsLines table []) }
+        ensures file { IfOk result (λ table. table.file.now ≡ file.now) }
+    {
+        let mut table = TableBuilder::new(alloc, file);
+        table.structures.reserve(file.len() / USUAL_LINE)?;
+        Ok(table)
     }
 
     /// Takes one more line, and tells what it is, or answers the lowest fault that stands at it. `start` tells where in the builder's

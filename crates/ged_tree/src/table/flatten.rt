@@ -1,11 +1,12 @@
 // The flat table of a file.
-ghost use Rattle.std.specs.Prelude.{◌++◌, ◌∷◌, IfOk, IfErr, OnOk, [], List};
+ghost use Rattle.std.specs.Prelude.{◌≡◌, ◌++◌, ◌∷◌, IfOk, IfErr, OnOk, [], List};
 ghost use Rattle.ged_line.specs.Bytes.{Bytes};
 ghost use Rattle.ged_line.specs.Lines.{LineParts};
 ghost use Rattle.ged_line.specs.Pieces.{IsBehindMark};
 ghost use Rattle.ged_tree.specs.Building.{HasFile, TellsFile};
 ghost use Rattle.ged_tree.specs.DocumentLines.{document_lines};
 ghost use Rattle.ged_tree.specs.inner.Judging.{HasRole};
+ghost use Rattle.ged_tree.specs.inner.Tables.{HoldsLines};
 
 use crate::fault::{BuildFault, TreeAt, TreeFault};
 use crate::judge::LineRole;
@@ -87,7 +88,25 @@ fn flatten_text<'a, R: LineReader>(
     ensures fault { (file : Bytes) → IsBehindMark file text.now → IfErr result (λ fault. TellsFile fault file) }
     ensures read { IfOk result (λ flat. R.has_read reader.old [] → R.has_read reader.new (document_lines flat)) }
 {
-    let mut table = TableBuilder::new(alloc, text);
+    match TableBuilder::with_room(alloc, text) {
+        Ok(table) => flatten_into(alloc, table, text, reader),
+        Err(error) => Err(BuildFault::Memory(error)),
+    }
+}
+
+/// The same, into a table that holds no lines yet.
+fn flatten_into<'a, R: LineReader>(
+    alloc: Global,
+    mut table: TableBuilder<'a>,
+    text: &'a str,
+    reader: &mut R,
+) -> Result<Flat<'a>, BuildFault>
+    requires lines { HoldsLines table [] }
+    requires file { table.file.now ≡ text.now }
+    ensures document { (file : Bytes) → IsBehindMark file text.now → IfOk result (λ flat. HasFile flat file) }
+    ensures fault { (file : Bytes) → IsBehindMark file text.now → IfErr result (λ fault. TellsFile fault file) }
+    ensures read { IfOk result (λ flat. R.has_read reader.old [] → R.has_read reader.new (document_lines flat)) }
+{
     let mut rest = text;
     while let Some((line, after)) = first_line(rest) {
         let start = text.len() - rest.len();

@@ -12,8 +12,8 @@ invariant-loop-after g l =
     record {
       run : IsRunOfTrees trees l.place l.end;
       ahead : l.start ≤ l.place;
-      told : l.out.items ++ shown l.level l.context (trees_between trees l.place l.end)
-          ≡ l.fn.out.items ++ shown l.level l.context (trees_between trees l.start l.end);
+      told : l.out.items ++ shown l.level l.fn.context (trees_between trees l.place l.end)
+          ≡ l.fn.out.items ++ shown l.level l.fn.context (trees_between trees l.start l.end);
     }
 
 abbrev pub decreases-loop-after : goal.decreases-loop-after
