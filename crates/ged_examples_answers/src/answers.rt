@@ -14,6 +14,7 @@ pub struct Answer {
 }
 
 impl Answer {
+    /// Nothing is said yet, and memory was not wanting. Takes no memory.
     pub fn new(alloc: Global) -> Answer {
         Answer {
             bytes: Vec::new(alloc),
@@ -39,6 +40,7 @@ impl Answer {
         self.as_slice()
     }
 
+    /// Whether memory was wanting, for a call or for the bytes.
     pub fn lacks_memory(&self) -> bool {
         self.lacks_memory
     }
@@ -62,21 +64,25 @@ impl Answer {
         self.lacks_memory = self.lacks_memory || other.lacks_memory;
     }
 
+    /// Appends bytes. Grows, as all that say something do.
     pub fn say_bytes(&mut self, bytes: &[u8]) {
         let done = self.bytes.extend_from_slice(bytes);
         self.note(done);
     }
 
+    /// Appends a text.
     pub fn say(&mut self, text: &str) {
         self.say_bytes(text.as_bytes());
     }
 
+    /// Appends a number by its decimal digits.
     pub fn say_number(&mut self, number: u64) {
         if write!(self.bytes, "{number}").is_err() {
             self.lacks_memory = true;
         }
     }
 
+    /// Appends a number, or `None`.
     pub fn say_optional(&mut self, number: Option<u64>) {
         match number {
             Some(number) => self.say_number(number),
@@ -84,10 +90,12 @@ impl Answer {
         }
     }
 
+    /// Appends `true` or `false`.
     pub fn say_truth(&mut self, truth: bool) {
         self.say(if truth { "true" } else { "false" });
     }
 
+    /// Appends `Less`, `Equal` or `Greater`.
     pub fn say_order(&mut self, order: Ordering) {
         self.say(match order {
             Ordering::Less => "Less",

@@ -3,7 +3,9 @@
 /// A call by its name, and the word behind the `/` in it.
 #[derive(Clone, Copy)]
 pub struct Question<'a> {
+    /// What stands before the `/`, or all where there is none.
     pub name: &'a str,
+    /// What stands behind it, or nothing.
     pub word: &'a str,
 }
 
