@@ -1,18 +1,18 @@
 // Whether a document is normal.
-ghost use Rattle.std.specs.Prelude.{◌<◌, ◌↔◌, Some, IsTrue, ◌≡◌};
+ghost use Rattle.std.specs.Prelude.{◌↔◌, IsTrue};
 ghost use Rattle.ged_tree.specs.Runs.{IsRunOfTrees, trees_between};
 ghost use Rattle.ged_link.specs.Indexes.{IsIndexOf};
 ghost use Rattle.ged_canon.specs.declared.edition.Edition.TheVariants.{First};
-ghost use Rattle.ged_canon.specs.Normal.{AreNormal, Normal, numbered};
+ghost use Rattle.ged_canon.specs.Normal.{AreNormal, Normal};
 ghost use Rattle.ged_canon.specs.inner.Working.{HaveOwnNumbers};
 
 use crate::edition::Edition;
 use crate::writer::brief::is_brief_at;
+use crate::writer::numbers::is_numbered;
 use crate::writer::order::are_in_order;
 use ged_link::Index;
 use ged_schema::{Context, lookup_name};
 use ged_tree::{Forest, end_of_all, next_in_run};
-use itoa::Buffer;
 
 /// Whether the payloads of a run's structures and of those below them are brief, and what stands below each of them is in
 /// the order of tags.
@@ -67,18 +67,6 @@ pub fn is_normal<F: Forest>(forest: &F, index: &Index) -> bool
     ensures { IsTrue result ↔ Normal First (F.trees forest.now) }
 {
     is_normal_in(Edition::First, forest, index)
-}
-
-/// Whether a name is X and the number.
-fn is_numbered(name: &str, number: usize) -> bool
-    requires { 0 < number }
-    ensures { IsTrue result ↔ (name.now ≡ numbered number) }
-{
-    let mut buffer = Buffer::new();
-    match name.strip_prefix('X') {
-        Some(digits) => digits == buffer.format(number),
-        None => false,
-    }
 }
 
 /// Whether the identifiers of the records, which are a run, are X1, X2, and so on, and a pointer names each.

@@ -1,9 +1,10 @@
 -- Lines that stand in a file as they are written.
-use Rattle.std.proofs.Common.{◌≡◌, ◌<◌, ◌+◌, ◌-◌, ◌++◌, ◌∷◌, [], ◌==◌, Bool, true, false, cond, eqb-true, refl, None, ℕ, suc, length, take, drop, slice_range, decimal, codes, sym, ap, ◌∙◌, append_assoc, slice_index_or, arith}
-use Rattle.std.proofs.lemmas.List.{take_more}
+use Rattle.std.proofs.Common.{◌≡◌, ◌<◌, ◌+◌, ◌-◌, ◌++◌, ◌∷◌, [], ◌==◌, Bool, true, false, cond, eqb-true, refl, None, Some, ℕ, suc, length, take, drop, slice_range, decimal, codes, sym, ap, ◌∙◌, append_assoc, slice_index_or, arith}
+use Rattle.std.proofs.lemmas.List.{take_more, take-append-drop, length-append}
+use Rattle.std.proofs.Math.Seq.{take-append-add}
 use Rattle.std.proofs.lemmas.Fmt.{decimal_digit}
 use Rattle.ged_line.specs.Bytes.{Bytes}
-use Rattle.ged_line.specs.Lines.{line_parts, doubled}
+use Rattle.ged_line.specs.Lines.{line_parts, doubled, xref_part}
 use Rattle.ged_line.specs.Spelling.{spelling}
 use Rattle.ged_tree.specs.DocumentLines.{line_value}
 
@@ -26,6 +27,30 @@ line_kept file line behind rest start level at low begins found =
     found_at file line start (2 + length rest + 1) _ at ((λ i. take (count i) (begins i)) ∙ (λ i. (48 + level) ∷ 32 ∷ found i))
     ∙ (λ i. sym (decimal_digit level low) i ++ (32 ∷ (rest ++ 10 ∷ [])))
     ∙ sym (append_assoc (decimal level) (32 ∷ rest) (10 ∷ []))
+
+-- bytes that begin with an identifier and a space
+pub xref_found : (bytes named closed spaced behind name : Bytes) → bytes ≡ 64 ∷ named → take (length name) named ≡ name → closed ≡ drop (length name) named
+    → closed ≡ 64 ∷ spaced → spaced ≡ 32 ∷ behind → bytes ≡ xref_part (Some name) ++ behind
+xref_found bytes named closed spaced behind name begins same left ends follows =
+    begins
+    ∙ ap (λ xs. 64 ∷ xs)
+    (sym (take-append-drop (length name) named)
+    ∙ (λ i. same i ++ (sym left ∙ ends ∙ ap (λ xs. 64 ∷ xs) follows) i)
+    ∙ sym (append_assoc name (64 ∷ 32 ∷ []) behind))
+
+-- the line of a record with an identifier
+pub record_kept : (file line named behind name rest : Bytes) (start : ℕ) → line ≡ drop start file → line ≡ 48 ∷ 32 ∷ named → named ≡ xref_part (Some name) ++ behind
+    → take (length rest + 1) behind ≡ rest ++ 10 ∷ []
+    → slice_range file start (start + (length name + 5 + length rest + 1)) ≡ (decimal 0 ++ 32 ∷ (xref_part (Some name) ++ rest)) ++ 10 ∷ []
+record_kept file line named behind name rest start at begins identified found =
+    let xref = xref_part (Some name) in
+    let count : length name + 5 + length rest + 1 ≡ length (48 ∷ 32 ∷ xref) + (length rest + 1) = omega (arith, length-append name (64 ∷ 32 ∷ [])) in
+    found_at file line start (length name + 5 + length rest + 1) _ at
+    ((λ i. take (count i) ((begins ∙ ap (λ xs. 48 ∷ 32 ∷ xs) identified) i))
+    ∙ take-append-add (48 ∷ 32 ∷ xref) behind (length rest + 1)
+    ∙ ap (λ xs. (48 ∷ 32 ∷ xref) ++ xs) found)
+    ∙ ap (λ xs. 48 ∷ 32 ∷ xs) (sym (append_assoc xref rest (10 ∷ [])))
+    ∙ (λ i. (sym (decimal_digit 0 (omega arith)) i ++ 32 ∷ (xref ++ rest)) ++ 10 ∷ [])
 
 -- a CONT line without a text
 pub cont_alone : (file line behind value text : Bytes) (place level : ℕ) → line ≡ drop place file → level < 10 → length text ≡ 0

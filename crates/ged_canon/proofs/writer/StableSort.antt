@@ -1,5 +1,5 @@
 -- What std's stable sort by tag leaves, as trees: the trees put in one at a time.
-use Rattle.std.proofs.Common.{◌≡◌, ◌≢◌, suc, ◌+◌, zero-le, Bool, true, false, cond, not, ◌&&◌, List, [], ◌∷◌, map, filter, None, refl, sym, ap, ◌∙◌, subst, ◌⊎◌, inl, inr, ⊎_elim, arith}
+use Rattle.std.proofs.Common.{◌≡◌, ◌≢◌, suc, ◌+◌, zero-le, Bool, true, false, cond, not, ◌&&◌, List, [], ◌∷◌, map, filter, refl, sym, ap, ◌∙◌, subst, ◌⊎◌, inl, inr, ⊎_elim, arith}
 use Rattle.std.specs.List.Sorted.{IsSortedBy, IsStableBy, ties}
 use Rattle.std.specs.Ordering.{is_lt, ordering_reverse}
 use Rattle.std.specs.declared.cmp.Ordering.{Ordering}

@@ -124,7 +124,7 @@ impl<'f> Answer<'f> {
     }
 
     /// Appends a line that has this level and identifier, and this rest, which begins with its tag and may stand in the file at
-    /// this place, in bytes. Where the whole line does, and has no identifier, it is kept.
+    /// this place, in bytes. Where the whole line does, it is kept.
     #[inline(always)]
     pub(crate) fn push_rest(
         &mut self,
@@ -136,18 +136,16 @@ impl<'f> Answer<'f> {
         requires { level ≤ 99 }
         ensures { OnOk result (self.new ≡ self.old ++ ((decimal level ++ space ∷ (xref_part (option_copied xref.entry) ++ rest.now)) ++ line_feed ∷ [])) }
     {
-        if xref.is_none() {
-            if let Some((start, end)) = kept_line(self.file, level, rest, place) {
-                if self.end == start {
-                    self.end = end;
-                    return Ok(());
-                }
-                let before = mem::replace(&mut self.start, self.end);
-                self.pieced.place(self.file, before, self.end)?;
-                self.start = start;
+        if let Some((start, end)) = kept_line(self.file, level, xref, rest, place) {
+            if self.end == start {
                 self.end = end;
                 return Ok(());
             }
+            let before = mem::replace(&mut self.start, self.end);
+            self.pieced.place(self.file, before, self.end)?;
+            self.start = start;
+            self.end = end;
+            return Ok(());
         }
         self.push_head_and_rest(level, xref, rest)
     }

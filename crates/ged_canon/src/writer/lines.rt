@@ -4,7 +4,7 @@ ghost use Rattle.std.specs.Option.{option_copied};
 ghost use Rattle.ged_line.specs.Bytes.{Bytes, line_feed};
 ghost use Rattle.ged_line.specs.Lines.{Pointer, is_line, line_parts};
 ghost use Rattle.ged_line.specs.Spelling.{spelling, spelled_lines};
-ghost use Rattle.ged_tree.specs.Trees.{Trees, trees_count};
+ghost use Rattle.ged_tree.specs.Trees.{trees_count};
 ghost use Rattle.ged_tree.specs.declared.payload.Payload.TheVariants.{Pointer as PointerPayload};
 ghost use Rattle.ged_tree.specs.DocumentLines.{line_value, first_value};
 ghost use Rattle.ged_tree.specs.Laws.{own_line};
@@ -21,7 +21,7 @@ ghost use Rattle.ged_canon.specs.inner.Writing.{row_of, brief_sibling, renamed_s
 use crate::edition::Edition;
 use crate::writer::answer::{Answer, text_value};
 use crate::writer::brief::{brief_line, is_brief_at, may_be_shortened};
-use crate::writer::numbers::new_number_at;
+use crate::writer::numbers::{is_kept_name, new_number_at};
 use crate::writer::plan::{Plan, Work, Writer};
 use crate::writer::siblings::Sibling;
 use ged_line::ValueView;
@@ -69,35 +69,6 @@ fn is_kept<F: Forest>(forest: &F, edition: Edition, rule: Option<&Rule>, place: 
 }
 
 impl Plan<'_> {
-    /// Appends the own line of a structure whose payload is a pointer with this name. The cursor moves on from pointer to
-    /// pointer.
-    #[inline(always)]
-    fn write_pointer(
-        &self,
-        level: u8,
-        xref: Option<&str>,
-        sibling: Sibling<'_>,
-        name: &str,
-        work: &mut Work<'_, '_>,
-    ) -> Result<(), AllocError>
-        requires { is_line (line_parts level (option_copied xref) sibling.tag.now (Pointer name.now)) ≡ true }
-        ensures kept { OnOk result (work.new.siblings.items ≡ work.old.siblings.items) }
-        ensures lines { (d : Trees) → (structure_at d sibling.entry.place).payload ≡ PointerPayload name.now →
-            Writes d self.now result work.old.answer work.new.answer (λ new. line_parts level (option_copied xref.entry) sibling.entry.tag.now (Pointer (new name.now)) ∷ []) }
-    {
-        let number = new_number_at(
-            self.index,
-            self.numbers,
-            sibling.place,
-            name,
-            &mut work.pointers,
-        );
-        if number == 0 {
-            return work.answer.push_named(level, xref, sibling.tag, name);
-        }
-        work.answer.push_numbered(level, xref, sibling.tag, number)
-    }
-
     /// Appends the own line of a structure at a place with this rule, whose payload is a text of this line alone. What can be
     /// left out is left out.
     fn write_text(
@@ -124,7 +95,31 @@ impl Plan<'_> {
 }
 
 impl<F: Forest> Writer<'_, '_, F> {
-    /// Appends the own line of a structure whose payload is a pointer.
+    /// Appends the own line of a structure whose pointer keeps this name: as it stands, where the forest has it in one text. Cold, so that
+    /// the path of pointers that are renamed stays the short one.
+    #[cold]
+    #[inline(never)]
+    fn write_kept_reference(
+        &self,
+        level: u8,
+        xref: Option<&str>,
+        sibling: Sibling<'_>,
+        name: &str,
+        answer: &mut Answer<'_>,
+    ) -> Result<(), AllocError>
+        requires within { StandsIn (F.trees self.now.forest.now) sibling }
+        requires names { (structure_at (F.trees self.now.forest.now) sibling.place).payload ≡ PointerPayload name.now }
+        requires stands { is_line (line_parts level (option_copied xref) sibling.tag.now (Pointer name.now)) ≡ true }
+        ensures { OnOk result (answer.new ≡ answer.old ++ (spelling (line_parts level (option_copied xref.entry) sibling.entry.tag.now (Pointer name.now)) ++ line_feed ∷ [])) }
+    {
+        let Some(rest) = self.forest.rest_of_line(sibling.place) else {
+            return answer.push_named(level, xref, sibling.tag, name);
+        };
+        let place = self.forest.start_of_rest(sibling.place);
+        answer.push_rest(level, xref, rest, place)
+    }
+
+    /// Appends the own line of a structure whose payload is a pointer. The cursor moves on from pointer to pointer.
     #[inline(always)]
     fn write_reference(
         &self,
@@ -133,7 +128,7 @@ impl<F: Forest> Writer<'_, '_, F> {
         sibling: Sibling<'_>,
         work: &mut Work<'_, '_>,
     ) -> Result<(), AllocError>
-        requires within { sibling.place < trees_count (F.trees self.now.forest.now) }
+        requires within { StandsIn (F.trees self.now.forest.now) sibling }
         requires points { is_pointer (structure_at (F.trees self.now.forest.now) sibling.place).payload ≡ true }
         requires stands { is_line (line_parts level (option_copied xref) sibling.tag.now (first_value (structure_at (F.trees self.now.forest.now) sibling.place).payload)) ≡ true }
         ensures kept { OnOk result (work.new.siblings.items ≡ work.old.siblings.items) }
@@ -143,7 +138,17 @@ impl<F: Forest> Writer<'_, '_, F> {
         let PayloadView::Pointer(name) = self.forest.payload(sibling.place) else {
             unreachable!()
         };
-        self.plan.write_pointer(level, xref, sibling, name, work)
+        let number = new_number_at(
+            self.plan.index,
+            self.plan.numbers,
+            sibling.place,
+            name,
+            &mut work.pointers,
+        );
+        if is_kept_name(name, number) {
+            return self.write_kept_reference(level, xref, sibling, name, &mut work.answer);
+        }
+        work.answer.push_numbered(level, xref, sibling.tag, number)
     }
 
     /// Appends the own line of a structure at a place with this rule, whose payload is no pointer.
@@ -176,8 +181,8 @@ impl<F: Forest> Writer<'_, '_, F> {
         }
     }
 
-    /// Appends the own line of a structure at a place with this rule. A line that stays as it is is copied, where the forest has
-    /// it in one text.
+    /// Appends the own line of a structure at a place with this rule. Where nothing in it changes it is appended as it stands, if the
+    /// forest has it in one text.
     #[inline(always)]
     pub(crate) fn write_own(
         &self,

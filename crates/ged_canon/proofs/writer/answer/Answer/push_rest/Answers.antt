@@ -1,6 +1,4 @@
-use Rattle.std.proofs.Common.{◌≡◌, ◌++◌, ◌∷◌, [], ◌∙◌, ap, sym, decimal, slice_range, rules, arith}
-use Rattle.std.specs.Option.{option_copied}
-use Rattle.ged_line.specs.Lines.{xref_part}
+use Rattle.std.proofs.Common.{◌++◌, ◌∙◌, ap, slice_range, arith}
 use Rattle.ged_canon.specs.SpelledForms.{joined_runs}
 use Rattle.ged_canon.proofs.writer.RunsKept.{goes_on}
 use Rattle.ged_canon.proofs.writer.answer.Answer.push_rest.Goals as goal
@@ -9,9 +7,7 @@ pub returns-then-self-start : goal.returns-then-self-start
 returns-then-self-start c =
     let file = c.self.inside.file.now in
     let end = c.in-Some.end in
-    let none : xref_part (option_copied c.args.xref) ≡ [] = search rules in
     goes_on file c.args.self.now (joined_runs file c.self.inside.pieced.runs.items c.self.inside.pieced.made.items) c.self.inside.start c.self.inside.end end
     c.self.invariant.1 (omega (arith, c.in-Some.ensures.order, c.if-self-start.true)) c.self.view_is
     ∙ ap (λ xs. c.args.self.now ++ xs)
-    (ap (λ n. slice_range file n end) c.if-self-start.true ∙ c.in-Some.ensures.line
-    ∙ ap (λ name. (decimal c.args.level ++ 32 ∷ (name ++ c.args.rest.now)) ++ 10 ∷ []) (sym none))
+    (ap (λ n. slice_range file n end) c.if-self-start.true ∙ c.in-Some.ensures.line)

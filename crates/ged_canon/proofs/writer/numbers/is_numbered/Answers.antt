@@ -1,9 +1,8 @@
-use Rattle.std.proofs.Common.{◌≡◌, ◌∷◌, ◌∙◌, ap, lit<}
-use Rattle.std.specs.Str.{bytes_eq}
+use Rattle.std.proofs.Common.{◌≡◌, ◌∷◌, lit<}
 use Rattle.std.proofs.lemmas.Bool.{false≢true}
 use Rattle.std.proofs.lemmas.Str.Pattern.{strip_prefix_char}
 use Rattle.ged_canon.proofs.NumberTests.{numbered_is}
-use Rattle.ged_canon.proofs.normal.is_numbered.Goals as goal
+use Rattle.ged_canon.proofs.writer.numbers.is_numbered.Goals as goal
 
 pub returns-in-None : goal.returns-in-None
 returns-in-None c =
@@ -13,4 +12,4 @@ returns-in-None c =
 pub returns-in-Some : goal.returns-in-Some
 returns-in-Some c =
     let cut : c.args.name.now ≡ 88 ∷ c.in-Some.digits.now = rw c.in-Some.is at (strip_prefix_char 88 c.args.name.now c.strip_prefix.result c.strip_prefix.ensures.cases (lit< tt)) in
-    numbered_is c.args.name.now c.in-Some.digits.now c.args.number c.eq.result cut (c.eq.ensures ∙ ap (bytes_eq c.in-Some.digits.now) c.format.ensures.text) c.requires c.ranges.number.fits
+    numbered_is c.args.name.now c.in-Some.digits.now c.args.number c.is_decimal.result cut c.is_decimal.ensures c.requires c.ranges.number.fits

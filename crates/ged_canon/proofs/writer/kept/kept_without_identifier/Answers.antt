@@ -1,7 +1,7 @@
 use Rattle.std.proofs.Common.{◌-◌, length, take, drop, rules, arith}
 use Rattle.std.proofs.lemmas.List.{take_rest}
 use Rattle.ged_canon.proofs.writer.KeptLines.{line_kept}
-use Rattle.ged_canon.proofs.writer.kept.kept_line.Goals as goal
+use Rattle.ged_canon.proofs.writer.kept.kept_without_identifier.Goals as goal
 
 pub returns-clause-line : goal.returns-clause-line
 returns-clause-line c =
