@@ -40,6 +40,11 @@ as_a_guest() {
     fi
 }
 
+# with_room_for_a_block COMMAND..: runs a command that may write no file longer than a block, whose writes fail beyond that.
+with_room_for_a_block() {
+    (trap '' XFSZ && ulimit -f 1 && "$@")
+}
+
 # The C compiler that is here: the one that CC names or cc, or else that of the Rattle toolchain.
 c_compiler() {
     command -v "${CC:-cc}" && return

@@ -29,6 +29,10 @@ check_output() {
     puts "lines of standard input into a file" 0 "" "a.ged:$canonical" from "$at" ./gedtool lines "-o$at"
     puts "show into a file" 0 "" "a.ged:${canonical}into.ged:$shown_header" ./gedtool show --output="$into" --strict "$at"
     puts "a name without a folder" 0 "" "a.ged:${canonical}b.ged:${canonical}into.ged:$shown_header" in_folder "$tool" canon a.ged -o b.ged
+    fill a.ged "$smallest"
+    puts "lines, of which all but the mark are the file's, into a file" 0 "" "a.ged:${smallest}into.ged:$canonical" ./gedtool lines -o "$into" "$at"
+    check_long_answer
+    fill a.ged "$with_returns"
     expect "canon into -" 0 "$canonical" "" ./gedtool canon -o - "$at"
     fill a.ged "$header" into.ged old
     for command in show canon; do
@@ -48,6 +52,17 @@ check_output() {
     mistaken "unexpected argument '-o' found" "check [[]OPTIONS[]] [[]FILE[]]" check -o a b
     says "no file behind -o" 2 "" "error: a value is required for '--output <FILE>'*" ./gedtool canon -o
     mistaken "the argument '--output <FILE>' cannot be used multiple times" "canon" canon -o a -o b
+}
+
+# An answer that is written in several pieces.
+check_long_answer() {
+    local at=$room/folder/a.ged into=$room/folder/into.ged
+    {
+        printf "$header"
+        seq -f '0 @I%.0f@ INDI' 20000
+        printf "$end"
+    } >"$at"
+    report "a long answer into a file" "0: $(./gedtool canon "$at" | md5sum)" "$(./gedtool canon -o "$into" "$at"; echo "$?: $(md5sum <"$into")")"
 }
 
 # What can't be replaced, and what is through a link.
@@ -83,6 +98,9 @@ check_open_files() {
         report "$name, where standard output is a file" "3: $unwritten: old" \
             "$(./gedtool canon -o "$name" "$at" >>"$room/log" 2>"$room/told"; echo "$?: $(cat -- "$room/told"): $(cat -- "$room/log")")"
     done
+    printf 'old\n' >"$room/log"
+    report "a file that standard error goes to" "3: old
+$unwritten" "$(./gedtool canon -o "$room/log" "$at" 2>>"$room/log"; echo "$?: $(cat -- "$room/log")")"
     explained "a name of an open file, explained" 3 "" "$unwritten" "  file: /dev/stdout
   reason: a name of an open file
   cause: $(part_of 26 cause)" ./gedtool canon --explain -o /dev/stdout "$at"
@@ -116,12 +134,16 @@ check_taken_names() {
     fill a.ged "$smallest" .gedtool-0.new mine
     puts "a name that is taken" 0 "" "a.ged:${smallest}b.ged:$canonical.gedtool-0.new:mine" ./gedtool canon -o "$room/folder/b.ged" "$at"
     fill a.ged "$smallest"
-    for ((number = 0; number < 100; number++)); do
+    for ((number = 0; number < 99; number++)); do
         put "folder/.gedtool-$number.new" ""
     done
     for number in "$room/folder"/.*.new; do
         names+=${number##*/}:
     done
+    puts "all names but the last are taken" 0 "" "a.ged:${smallest}b.ged:$canonical$names" ./gedtool canon -o "$room/folder/b.ged" "$at"
+    rm -- "$room/folder/b.ged"
+    put folder/.gedtool-99.new ""
+    names+=.gedtool-99.new:
     puts "no name that is not taken" 3 "$unwritten" "a.ged:$smallest$names" ./gedtool canon -o "$room/folder/b.ged" "$at"
     explained "no name that is not taken, explained" 3 "" "$unwritten" "  file: $room/folder/b.ged
   reason: all names for a new file are taken: remove .gedtool-0.new to .gedtool-99.new
@@ -147,6 +169,13 @@ check_rights() {
     chmod 777 -- "$room/folder" && chmod 444 -- "$room/folder/b.ged"
     puts "a file without the right to write" 3 "$unwritten" "a.ged:${smallest}b.ged:old" \
         as_a_guest "$program" canon -o "$room/folder/b.ged" "$at"
+    if ((UID == 0)); then
+        # in such a folder only the owner of a file may put another in its place
+        chmod 1777 -- "$room/folder" && chmod 666 -- "$room/folder/b.ged"
+        puts "another's file in a folder that all may write" 3 "$unwritten" "a.ged:${smallest}b.ged:old" \
+            as_a_guest "$program" canon -o "$room/folder/b.ged" "$at"
+        chmod 777 -- "$room/folder"
+    fi
     fill a.ged "$smallest" b.ged "$smallest"
     chmod 755 -- "$room/folder" && chmod 644 -- "$room/folder/b.ged" && chmod 000 -- "$at"
     expect "digest of a file without the right to read" 3 \

@@ -58,6 +58,12 @@ check_help() {
     says "help on canon" 0 "Judge a file*Usage: gedtool canon $flags $file*Profiles:*Editions:$ends canon*" "" ./gedtool canon --help
     says "help on same" 0 "Judge two files*Usage: gedtool same $flags <A> [[]B[]]*Profiles:*Editions:$ends same*" "" \
         ./gedtool same --help
+    says "the file of a command" 0 "*[[]FILE[]]  The file to read; standard input if it is left out or '-'*" "" ./gedtool check -h
+    says "the files of same" 0 \
+        "*<A>  The first file to read; standard input if it is '-'*[[]B[]]  The second file to read; standard input if it is left out or '-'*" "" \
+        ./gedtool same -h
+    says "the files of digest" 0 "*<FILE>...  The files to read, one after the other; standard input for '-'*" "" ./gedtool digest -h
+    says "the fault of explain" 0 "*[[]FAULT[]]  The number or the name of a fault; all faults if it is left out*" "" ./gedtool explain -h
     says "help on digest" 0 "Judge each file*Usage: gedtool digest $flags <FILE>...*Profiles:*Editions:$ends digest*" "" \
         ./gedtool digest --help
     says "help on explain" 0 "Say what a fault means*Usage: gedtool explain [[]FAULT[]]*$ends explain*" "" ./gedtool explain --help
