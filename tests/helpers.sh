@@ -51,14 +51,21 @@ c_compiler() {
     command -v rt >/dev/null && command -v "$(dirname -- "$(rt doc)")/toolchain/bin/clang"
 }
 
-# Makes the library that refuses memory, refuse.so.
+# build_library [NAME]: makes the library NAME.so of tests/NAME.c; by default the one that refuses memory, refuse.so.
 build_library() {
-    local compiler
-    compiler=$(c_compiler) && "$compiler" -shared -fPIC -O1 -nostdlib -o "$room/refuse.so" tests/refuse.c
+    local compiler name=${1:-refuse}
+    compiler=$(c_compiler) && "$compiler" -shared -fPIC -O1 -nostdlib -o "$room/$name.so" "tests/$name.c"
 }
 
-# with_refusals COMMAND..: runs a command that this library refuses memory. The folder is given apart from the name, since LD_PRELOAD
-# takes a blank for the end of a name.
+# with_library NAME COMMAND..: runs a command with this library before the C library. The folder is given apart from the name, since
+# LD_PRELOAD takes a blank for the end of a name.
+with_library() {
+    local name=$1
+    shift
+    LD_LIBRARY_PATH=$room${LD_LIBRARY_PATH:+:$LD_LIBRARY_PATH} LD_PRELOAD=$name.so "$@"
+}
+
+# with_refusals COMMAND..: runs a command that the library refuse.so refuses memory.
 with_refusals() {
-    LD_LIBRARY_PATH=$room${LD_LIBRARY_PATH:+:$LD_LIBRARY_PATH} LD_PRELOAD=refuse.so "$@"
+    with_library refuse "$@"
 }

@@ -48,6 +48,7 @@ check_output() {
     check_kept
     check_taken_names
     check_rights
+    check_synced
     check_full_disk
     mistaken "unexpected argument '-o' found" "check [[]OPTIONS[]] [[]FILE[]]" check -o a b
     says "no file behind -o" 2 "" "error: a value is required for '--output <FILE>'*" ./gedtool canon -o
@@ -182,6 +183,27 @@ check_rights() {
         "5cacae0e09e7df567ff2141fa92e4ad7c507de890f049b090e8f1867904ad16d  b.ged\n" "a.ged: $unread" \
         in_folder as_a_guest "$program" digest a.ged b.ged
     chmod 700 -- "$room"
+}
+
+# A file is on the disk before it takes the other one's place.
+check_synced() {
+    local at=$room/folder/a.ged into=$room/folder/b.ged canonical=$mark$smallest program=crates/gedtool/out/gedtool
+    if ! build_library sync; then
+        echo "skipped: the order of syncs and renamings: there is no C compiler here"
+        return
+    fi
+    fill a.ged "$smallest" b.ged old
+    puts "a file that is synced" 0 "" "a.ged:${smallest}b.ged:$canonical" in_order with_library sync "$program" canon -o "$into" "$at"
+    report "it is synced once, and then renamed" sr "$(cat -- "$room/order")"
+    fill a.ged "$smallest" b.ged old
+    puts "a sync that fails" 3 "$unwritten" "a.ged:${smallest}b.ged:old" \
+        in_order env SYNC_FAILS=1 LD_LIBRARY_PATH="$room" LD_PRELOAD=sync.so "$program" canon -o "$into" "$at"
+    report "then nothing is renamed" s "$(cat -- "$room/order")"
+}
+
+# in_order COMMAND..: runs a command, and keeps what it writes to file descriptor 9.
+in_order() {
+    "$@" 9>"$room/order"
 }
 
 # The file that is written in vain leaves the other one as it was.
