@@ -136,6 +136,26 @@ class Files(unittest.TestCase):
         with self.assertRaises(TypeError):
             gedtool.canon(FAMILY, True)
 
+    def test_each_setting_of_each_call(self):
+        one, other = (HEAD + b"0 INDI\n1 BIRT\n2 DATE " + day + b" MAY 1871\n" + END for day in (b"03", b"3"))
+        self.assertEqual((gedtool.same(one, other), gedtool.same(one, other, edition=2)), (False, True))
+        self.assertNotEqual(gedtool.digest(one), gedtool.digest(other))
+        self.assertEqual(gedtool.digest(one, edition=2), gedtool.digest(other, edition=2))
+        self.assertNotEqual(gedtool.canon(one), gedtool.canon(other))
+        self.assertEqual(gedtool.canon(one, edition=2), gedtool.canon(other, edition=2))
+        noted = HEAD + b"0 INDI\n1 AFN 1\n" + END
+
+        def same_twice(data, **settings):
+            return gedtool.same(data, data, **settings)
+
+        for call in (gedtool.check, gedtool.show, gedtool.canon, gedtool.digest, same_twice):
+            call(noted)
+            with self.assertRaisesRegex(gedtool.FileFault, "fault 29 at line 5: UnlistedTag$"):
+                call(noted, strict=True)
+
+    def test_limit(self):
+        self.assertEqual(gedtool.LIMIT, 1_073_741_824)
+
     def test_bytes_are_let_go(self):
         for data in (bytearray(FAMILY), bytearray(b"0 INDI\n")):
             answer_or_fault(gedtool.canon, data)
@@ -218,6 +238,23 @@ print(gedtool.same(file, file))
         first, room, again = ended.stdout.splitlines()
         self.assertEqual((first, again), ("OutOfMemory first file: fault 27: Memory", "True"))
         self.assertEqual(room.split()[0], "MemoryError")
+
+    def test_memory_is_given_back(self):
+        # what a thousand calls for a faulty file took for its answer would be a gigabyte
+        script = """
+import resource
+import gedtool
+taken = int(open("/proc/self/statm").read().split()[0]) * resource.getpagesize()
+resource.setrlimit(resource.RLIMIT_AS, (taken + 100_000_000, resource.RLIM_INFINITY))
+for _ in range(1000):
+    try:
+        gedtool.canon(1_000_000 * b"x")
+    except gedtool.FileFault:
+        pass
+print("ok")
+"""
+        ended = subprocess.run([sys.executable, "-c", script], capture_output=True, text=True, check=False)
+        self.assertEqual((ended.stdout, ended.stderr), ("ok\n", ""))
 
     def test_no_library(self):
         # one that is not there, and one without the calls

@@ -8,6 +8,7 @@
 ///
 /// let settings = Settings::new().strict().second();
 /// assert_ne!(settings, Settings::default());
+/// assert_eq!(settings, Settings::new().second().strict());
 /// ```
 #[derive(Debug, Clone, Copy, Default, PartialEq, Eq, Hash)]
 pub struct Settings {

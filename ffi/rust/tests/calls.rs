@@ -1,6 +1,6 @@
 //! What the calls do with room, with memory that is hard to hand over, and in threads.
 
-use gedtool::{canon, check, lines, same, show, Error, FileFault, NoticeKind, Settings, Which, LIMIT};
+use gedtool::{canon, check, digest, lines, same, show, Error, FileFault, NoticeKind, Settings, Which, LIMIT};
 use std::thread;
 
 /// A file with this many structures of one line below its one record.
@@ -35,6 +35,30 @@ fn a_file_that_is_too_long() {
     assert_eq!(lines(&file), Err(Error::TooLong));
     let error = same(b"", &file, Settings::new()).unwrap_err();
     assert_eq!((error.which, error.error), (Which::Second, Error::TooLong));
+}
+
+#[test]
+fn the_limit() {
+    assert_eq!(LIMIT, 1_073_741_824);
+}
+
+#[test]
+fn each_call_has_its_settings() {
+    let [one, other] = ["03", "3"].map(|day| file_with(&format!("1 BIRT\n2 DATE {day} MAY 1871\n"), 1));
+    let second = Settings::new().second();
+    assert_eq!((same(&one, &other, Settings::new()), same(&one, &other, second)), (Ok(false), Ok(true)));
+    assert_ne!(digest(&one, Settings::new()), digest(&other, Settings::new()));
+    assert_eq!(digest(&one, second), digest(&other, second));
+    assert_ne!(canon(&one, Settings::new()), canon(&other, Settings::new()));
+    assert_eq!(canon(&one, second), canon(&other, second));
+
+    let (noted, strict) = (file_with("1 AFN 1\n", 1), Settings::new().strict());
+    let refused = Error::InFile { line: 5, kind: FileFault::UnlistedTag };
+    assert_eq!(check(&noted, strict), Err(refused));
+    assert_eq!(show(&noted, strict), Err(refused));
+    assert_eq!(canon(&noted, strict), Err(refused));
+    assert_eq!(digest(&noted, strict), Err(refused));
+    assert_eq!(same(&noted, &noted, strict).unwrap_err().error, refused);
 }
 
 #[test]
