@@ -2,7 +2,8 @@
 // these calls here: an s is written to file descriptor 9 for each sync, and an r for each renaming. Where SYNC_FAILS is set, a sync is
 // answered with an error, and nothing is synced.
 //
-// No header is included, so that a compiler without the C library's headers can build it too.
+// No header is included, so that a compiler without the C library's headers can build it too. The numbers of the system's calls are
+// those of x86-64, for which the program is built.
 
 int *__errno_location(void);
 char *getenv(const char *name);

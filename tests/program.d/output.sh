@@ -176,6 +176,8 @@ check_rights() {
         puts "another's file in a folder that all may write" 3 "$unwritten" "a.ged:${smallest}b.ged:old" \
             as_a_guest "$program" canon -o "$room/folder/b.ged" "$at"
         chmod 777 -- "$room/folder"
+    else
+        echo "skipped: a file of another user: only root can be two users"
     fi
     fill a.ged "$smallest" b.ged "$smallest"
     chmod 755 -- "$room/folder" && chmod 644 -- "$room/folder/b.ged" && chmod 000 -- "$at"
