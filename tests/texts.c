@@ -77,14 +77,14 @@ static void try_numbers(void) {
     expect(is_text(text, "LevelJump"), "the name of fault 9");
     __real_free(text.at);
     text_all(GEDTOOL_LEVEL_JUMP, GEDTOOL_MEANING, &text);
-    expect(is_text(text, "The level is two or more above that of the line before."), "what fault 9 means");
+    expect(is_text(text, "The level is two or more above that of the line before, or the first line's is not 0."), "what fault 9 means");
     __real_free(text.at);
     text_all(GEDTOOL_LEVEL_JUMP, GEDTOOL_EXAMPLE, &text);
     expect(is_text(text, "1 BIRT\n3 DATE 1871    <- here"), "an example of fault 9");
     __real_free(text.at);
     size_t length = 77;
     expect(gedtool_fault_name(9, NULL, 0, &length) == GEDTOOL_ROOM_TOO_SMALL && length == 9, "null with length 0");
-    expect(gedtool_explain(9, 0, NULL, 0, &length) == GEDTOOL_ROOM_TOO_SMALL && length == 55, "null with length 0");
+    expect(gedtool_explain(9, 0, NULL, 0, &length) == GEDTOOL_ROOM_TOO_SMALL && length == 85, "null with length 0");
 }
 
 int main(int count, char **words) {

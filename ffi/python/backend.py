@@ -47,7 +47,7 @@ def build_sdist(sdist_directory, config_settings=None):
 
 
 def _library():
-    """The shared object that GEDTOOL_LIBRARY names, or the one of ffi/c, which is made first where it is not there."""
+    """The shared object that GEDTOOL_LIBRARY names, or the one of ffi/c, which is made first where it is not there or a source has changed."""
     if named := os.environ.get("GEDTOOL_LIBRARY"):
         return Path(named)
     subprocess.run(["make", "-s", "-C", ROOT / "ffi/c", "out/libgedtool.so"], check=True, stdout=sys.stderr)

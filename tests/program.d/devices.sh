@@ -15,6 +15,9 @@ check_devices() {
     expect "a first file with one byte more" 3 "" "first file: fault 24: TooLong" \
         ./gedtool same "$long" "$room/smallest.ged"
     expect "want of memory" 3 "" "fault 27: Memory" with_little_memory ./gedtool lines "$long"
+    # too much to be thought to come
+    truncate -s 1T -- "$long"
+    expect "a terabyte" 3 "" "fault 24: TooLong" ./gedtool lines "$long"
     rm -- "$exact" "$long"
     expect "a missing file" 3 "" "$unread" ./gedtool lines "$room/missing.ged"
     expect "a directory" 3 "" "$unread" ./gedtool lines "$room"

@@ -9,6 +9,15 @@ puts() {
     report "$name: the folder" "$(printf "$left" | bytes_of)" "$(held | bytes_of)"
 }
 
+# told_why NAME FILE REASON COMMAND..: a command cannot write this file of the room, and tells why.
+told_why() {
+    local name=$1 file=$2 reason=$3
+    shift 3
+    explained "$name, explained" 3 "" "$unwritten" "  file: $room/$file
+  reason: $reason
+  cause: $(part_of 26 cause)" "$@"
+}
+
 # What the folder holds.
 held() {
     local file
@@ -88,6 +97,7 @@ check_places() {
     report "the link still leads there" b.ged "$(readlink -- "$room/folder/c.ged")"
     rm -- "$room/folder/b.ged"
     puts "a link that leads nowhere" 3 "$unwritten" "a.ged:${smallest}c.ged:" ./gedtool canon -o "$room/folder/c.ged" "$at"
+    told_why "a link that leads nowhere" folder/c.ged "no such file or folder" ./gedtool canon --explain -o "$room/folder/c.ged" "$at"
 }
 
 # Names under which the system shows a file that is open: that file stays.
@@ -170,11 +180,15 @@ check_rights() {
     chmod 777 -- "$room/folder" && chmod 444 -- "$room/folder/b.ged"
     puts "a file without the right to write" 3 "$unwritten" "a.ged:${smallest}b.ged:old" \
         as_a_guest "$program" canon -o "$room/folder/b.ged" "$at"
+    told_why "a file without the right to write" folder/b.ged "permission denied" \
+        as_a_guest "$program" canon --explain -o "$room/folder/b.ged" "$at"
     if ((UID == 0)); then
         # in such a folder only the owner of a file may put another in its place
         chmod 1777 -- "$room/folder" && chmod 666 -- "$room/folder/b.ged"
         puts "another's file in a folder that all may write" 3 "$unwritten" "a.ged:${smallest}b.ged:old" \
             as_a_guest "$program" canon -o "$room/folder/b.ged" "$at"
+        told_why "another's file in a folder that all may write" folder/b.ged "permission denied" \
+            as_a_guest "$program" canon --explain -o "$room/folder/b.ged" "$at"
         chmod 777 -- "$room/folder"
     else
         echo "skipped: a file of another user: only root can be two users"
@@ -187,20 +201,24 @@ check_rights() {
     chmod 700 -- "$room"
 }
 
-# A file is on the disk before it takes the other one's place.
+# A file that only its owner can read until it has the permissions of the one whose place it takes; it is on the disk before it does.
 check_synced() {
-    local at=$room/folder/a.ged into=$room/folder/b.ged canonical=$mark$smallest program=crates/gedtool/out/gedtool
+    local at=$room/folder/a.ged into=$room/folder/b.ged canonical=$mark$smallest program=crates/gedtool/out/gedtool fails
     if ! build_library sync; then
         echo "skipped: the order of syncs and renamings: there is no C compiler here"
         return
     fi
     fill a.ged "$smallest" b.ged old
+    chmod 640 -- "$into"
     puts "a file that is synced" 0 "" "a.ged:${smallest}b.ged:$canonical" in_order with_library sync "$program" canon -o "$into" "$at"
-    report "it is synced once, and then renamed" sr "$(cat -- "$room/order")"
-    fill a.ged "$smallest" b.ged old
-    puts "a sync that fails" 3 "$unwritten" "a.ged:${smallest}b.ged:old" \
-        in_order env SYNC_FAILS=1 LD_LIBRARY_PATH="$room" LD_PRELOAD=sync.so "$program" canon -o "$into" "$at"
-    report "then nothing is renamed" s "$(cat -- "$room/order")"
+    report "it is created for its owner alone, gets its permissions, is synced once, and is then renamed" c600m640sr "$(cat -- "$room/order")"
+    for fails in SYNC_FAILS CHMOD_FAILS; do
+        fill a.ged "$smallest" b.ged old
+        chmod 640 -- "$into"
+        puts "a file for which $fails" 3 "$unwritten" "a.ged:${smallest}b.ged:old" \
+            in_order env "$fails=1" LD_LIBRARY_PATH="$room" LD_PRELOAD=sync.so "$program" canon -o "$into" "$at"
+        report "where $fails nothing is renamed" "" "$(tr -d 'c0-9ms' <"$room/order")"
+    done
 }
 
 # in_order COMMAND..: runs a command, and keeps what it writes to file descriptor 9.

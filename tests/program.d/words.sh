@@ -69,3 +69,26 @@ check_help() {
     says "help on explain" 0 "Say what a fault means*Usage: gedtool explain [[]FAULT[]]*$ends explain*" "" ./gedtool explain --help
     says "short help on explain" 0 "Explain a fault*Usage: gedtool explain [[]FAULT[]]*" "" ./gedtool explain -h
 }
+
+# What help says of the statuses of each command, and that the flags in its examples are the command's.
+check_statuses() {
+    local command statuses flag usage="2 A usage error." unread="3 A file cannot be read or is too long, the answer cannot be written,"
+    local unmade="3 A file cannot be read or written or is too long, or there is not enough memory." memory="or there is not enough memory"
+    while IFS='|' read -r command statuses; do
+        report "the statuses in the help of $command" "$statuses" \
+            "$(./gedtool ${command#gedtool} --help | sed -n '/^Exit status:$/,/^$/{/^ /p}' | tr -s ' \n' ' ' | sed 's/^ //; s/ $//')"
+        for flag in $(./gedtool ${command#gedtool} --help | sed -n '/^Examples:$/,${/^  gedtool/p}' | sed 's/ -- .*//' | grep -oE ' --?[a-z][a-z-]*' | sort -u); do
+            [[ $command == gedtool ]] ||
+                report "$flag in an example of the help of $command" yes "$(./gedtool "$command" -h | grep -qE -- "(^|[ ,])$flag([ ,]|$)" && echo yes)"
+        done
+    done <<END
+gedtool|0 The answer was written; of same: the files are the same. 1 A file has a fault; of same also: the files differ. $usage 3 A file cannot be read or written, is longer than 1,073,741,824 bytes, $memory.
+lines|0 The answer was written. 1 A line has a fault. $usage $unmade
+check|0 The file is accepted. 1 It has a fault. $usage 3 It cannot be read or is too long, the answer cannot be written, $memory.
+show|0 The answer was written. 1 The file has a fault. $usage $unmade
+canon|0 The answer was written. 1 The file has a fault. $usage $unmade
+same|0 The files are the same. 1 They differ, or one has a fault. $usage $unread $memory.
+digest|0 All digests were written. 1 A file has a fault. $usage $unread $memory, even if another file has a fault.
+explain|0 The explanation was written. 2 A usage error, such as a number that no fault has. 3 The answer cannot be written, $memory.
+END
+}

@@ -154,7 +154,7 @@ pub extern "C" fn gedtool_fault_name(fault: u32, room: &mut [u8], length: &mut u
 }
 
 /// A part of what the fault with a number means: for 0 what is wrong, for 1 what usually causes it and what helps, for 2 lines of a
-/// file that has it.
+/// file that has it, or for 24 to 27 a command that runs into it.
 ///
 /// Answers 0 where the part, of `length` bytes, stands at the front of the room; 64 where it has `length` bytes, for which the
 /// room is too small; 66 where no fault has the number, or the part is above 2, and then `length` is 0. Behind the part, and after

@@ -13,7 +13,8 @@ pub fn normal_form_is_unique()
     ensures { NormalFormIsUnique }
 {}
 
-/// Each document whose pointers all lead to records, and which is as the structure tables ask, has a normal form.
+/// Each document whose identifiers are distinct, whose pointers each name one of them, and which is as the structure tables ask, has a
+/// normal form.
 pub fn normal_form_exists()
     ensures { NormalFormExists }
 {}

@@ -49,8 +49,8 @@ pub(crate) const CHECK: Help = Help {
     about: "Judge a file, and report its notices",
     purpose: "Judge a file: its lines, its structures, its cross-references, and each structure by the
 structure tables. Of an accepted file each notice is reported, which is a one-way link
-or a standard tag that the tables do not list there, and then 'accepted' is written. Of
-any other file the first fault is reported.",
+or a tag without _ in front that the tables do not list there, and then 'accepted' is
+written. Of any other file the first fault is reported.",
     more: "Profiles:
   A file with notices is accepted. With --strict each notice is a fault.
 
@@ -64,7 +64,7 @@ Exit status:
 Examples:
   gedtool check family.ged
   gedtool check --strict --explain family.ged
-  for f in *.ged; do gedtool check \"$f\"; done",
+  for f in *.ged; do echo \"$f:\"; gedtool check -- \"$f\"; done",
 };
 
 pub(crate) const SHOW: Help = Help {
@@ -90,7 +90,9 @@ pub(crate) const CANON: Help = Help {
     about: "Write a file in its canonical form",
     purpose: "Judge a file as 'check' does, and write an accepted one in its canonical form, which all
 files that hold the same header and the same records share: structures in order,
-cross-reference identifiers renamed, unused ones left out, lines spelled alike.",
+cross-reference identifiers renamed, unused ones left out, lines spelled alike. With
+--keep-names identifiers stay as they are, so that files which differ in one have different
+forms.",
     more: "Profiles:
   A file with notices is accepted. With --strict each notice is a fault.
 
@@ -149,7 +151,7 @@ Exit status:
   1  A file has a fault.
   2  A usage error.
   3  A file cannot be read or is too long, the answer cannot be written, or there is not
-     enough memory.
+     enough memory, even if another file has a fault.
 
 Examples:
   gedtool digest -- *.ged | sort

@@ -56,8 +56,8 @@ For more information, try '--help'.
 /// More bytes than any line that tells a fault has.
 const LINE_ROOM: usize = 80;
 
-/// More bytes than such a line has after the longest name by which the system opens a file, where each of its characters is shown as it
-/// is.
+/// More bytes than such a line has with the name of its file, where that is the longest by which the system opens one, 4,095 bytes, and
+/// each of its characters is shown as it is.
 const NAMED_LINE_ROOM: usize = 4_200;
 
 /// Tells the outcome's fault, if it has one, and gives the outcome's status.

@@ -332,7 +332,8 @@ fn give_permissions<F: OpenFile>(file: &F, kept: Kept) -> io::Result<()> {
 }
 
 /// What a new file keeps of the file of this path, or `None` where there is none. One that is no regular file, may not be written, or is
-/// written to as standard output is an error, so that no device is replaced, no file that is protected, and no log. Why is noted.
+/// written to as standard output or standard error is an error, so that no device is replaced, no file that is protected, and no log.
+/// Why is noted.
 fn kept_of<F: Files>(files: &F, reason: &Reason, path: &str) -> io::Result<Option<Kept>> {
     let Some(metadata) = reason.noting(metadata_of(files, path))? else {
         return Ok(None);

@@ -10,7 +10,7 @@ use crate::node::{Node, RecordNode, lines_within, may_stand_at, may_stand_below}
 use std::alloc::{AllocError, Global};
 use std::marker::Model;
 
-/// HEAD and the records of a file, in order; its trailer stands for itself (FamilySearch GEDCOM 7.0, "Structures").
+/// HEAD and the records of a file, in order. Its trailer, which is the same in each, is not kept (FamilySearch GEDCOM 7.0, "Structures").
 #[derive(Debug, Drop)]
 pub struct Document {
     head: Node,

@@ -31,8 +31,8 @@ impl<'a, F> Model for Explainer<'a, F> {
 }
 
 impl<'a, F: Forest> Explainer<'a, F> {
-    /// Of a file whose document the forest is, and the index is this document's; of any others the texts have no meaning. Takes no
-    /// memory.
+    /// One for the file with these bytes, whose document the forest has to be, and whose index the index: of any others the texts have
+    /// no meaning. Takes no memory.
     pub fn new(bytes: &'a [u8], forest: &'a F, index: &'a Index) -> Explainer<'a, F>
         ensures { result ≡ bytes.now }
     {

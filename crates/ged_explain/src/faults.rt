@@ -17,8 +17,8 @@ pub struct Meaning {
     pub title: &'static str,
     /// What usually causes it, and what helps: a few sentences.
     pub cause: &'static str,
-    /// Lines of a file, with line feeds between them; behind the one at which the fault is told stands `<- here`. For a
-    /// fault of a device, a command that meets it.
+    /// Lines of a file, with line feeds between them; behind the one at which the fault is told stands `<- here`. For 24
+    /// to 27, a command that runs into it.
     pub example: &'static str,
 }
 

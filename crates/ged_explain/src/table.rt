@@ -62,7 +62,7 @@ pub(crate) static MEANINGS: [Meaning; 29] = [
     Meaning {
         number: 9,
         name: "LevelJump",
-        title: "The level is two or more above that of the line before.",
+        title: "The level is two or more above that of the line before, or the first line's is not 0.",
         cause: "A line was taken out, or a level was changed by hand. Each line stands at most one level deeper than the line before it.",
         example: "1 BIRT\n3 DATE 1871    <- here",
     },
@@ -76,7 +76,7 @@ pub(crate) static MEANINGS: [Meaning; 29] = [
     Meaning {
         number: 11,
         name: "MisplacedCont",
-        title: "A CONT continues no text, or something stands below a CONT.",
+        title: "A CONT continues no text or is a pointer, or something stands below a CONT.",
         cause: "CONT comes straight after the line that it continues, one level deeper, or after another CONT of its level. The lines may have been sorted by their tags. Or a CONC stands before it, by which older versions cut a long line: GEDCOM 7 has no CONC, so join its text to the line before.",
         example: "1 NOTE The register was lost.\n2 LANG en\n2 CONT There is a copy.    <- here",
     },
@@ -104,8 +104,8 @@ pub(crate) static MEANINGS: [Meaning; 29] = [
     Meaning {
         number: 15,
         name: "AfterTrailer",
-        title: "A record stands after TRLR, the end of the file.",
-        cause: "Records were put at the end of the file, or two files were put into one by copying. Records belong before 0 TRLR.",
+        title: "A record or a second TRLR stands after TRLR, the end of the file.",
+        cause: "Records were put at the end of the file, or two files were put into one by copying. Records belong before 0 TRLR, of which there is one.",
         example: "0 TRLR\n0 @I7@ INDI    <- here",
     },
     Meaning {
@@ -182,7 +182,7 @@ pub(crate) static MEANINGS: [Meaning; 29] = [
         number: 26,
         name: "WriteFailed",
         title: "The answer could not be written.",
-        cause: "The disk is full, or the program that was reading the answer has ended; or the file that -o names is in a folder that is missing or may not be written, may not be written itself, is no regular file, or is one that standard output goes to, as /dev/stdout.",
+        cause: "The disk is full, standard output is closed, or the program that was reading the answer has ended; or the file that -o names is in a folder that is missing or may not be written, may not be written itself, is no regular file, or is one that standard output or standard error goes to, as /dev/stdout.",
         example: "gedtool canon tree.ged > /dev/full",
     },
     Meaning {
@@ -203,7 +203,7 @@ pub(crate) static MEANINGS: [Meaning; 29] = [
         number: 29,
         name: "UnlistedTag",
         title: "A tag that does not begin with _ stands where the structure tables do not list it.",
-        cause: "An older version of GEDCOM had the tag there, or the program that wrote the file uses it in its own way. AFN is EXID with a TYPE now, a NOTE that is a record is SNOTE, FONE and ROMN are TRAN with LANG, the text of a CONC is joined to the line before, and CHAR and a FORM below GEDC are left out. What has no such tag goes into a NOTE, or to a tag that begins with _, as a program's own tags do.",
+        cause: "An older version of GEDCOM had the tag there, or the program that wrote the file uses it in its own way. AFN is EXID with a TYPE now, a NOTE that is a record is SNOTE, FONE and ROMN are TRAN with LANG. Join the text of a CONC to the line before, and leave out CHAR, and a FORM below GEDC. What has no such tag goes into a NOTE, or to a tag that begins with _, as a program's own tags do.",
         example: "0 @I7@ INDI\n1 AFN 1234    <- here",
     },
 ];

@@ -107,7 +107,7 @@ fn say_unlisted(site: &Site<'_, '_>, own: Step<'_>, told: &mut Explanation) {
         None => told.say("at level 0"),
     }
     if own.tag == "CONC" {
-        return told.say("; GEDCOM 7.0 has no CONC: its text is joined to the line before");
+        return told.say("; GEDCOM 7.0 has no CONC: join its text to the line before");
     }
     say_listed(site, own, told);
 }
@@ -120,7 +120,10 @@ fn say_listed(site: &Site<'_, '_>, own: Step<'_>, told: &mut Explanation) {
     }
     told.say("; listed there:");
     for rule in listed {
-        told.say(" ");
-        told.say(rule.tag);
+        // A header stands on the first line alone.
+        if rule.tag != "HEAD" {
+            told.say(" ");
+            told.say(rule.tag);
+        }
     }
 }

@@ -43,7 +43,7 @@ pub enum FileFault {
     /// A cross-reference identifier above level 0, or on HEAD or TRLR at level 0 (Lines).
     #[error("XrefNotAllowed")]
     XrefNotAllowed,
-    /// A CONT that continues no payload, or something below a CONT (Lines).
+    /// A CONT that continues no text or is a pointer, or something below a CONT (Lines).
     #[error("MisplacedCont")]
     MisplacedCont,
     /// The first line isn't the header, or there is no line; told at line 1 (The Header and Trailer).
@@ -55,7 +55,7 @@ pub enum FileFault {
     /// The trailer has a payload or a substructure (The Header and Trailer).
     #[error("TrailerNotEmpty")]
     TrailerNotEmpty,
-    /// A record stands after the trailer (The Header and Trailer).
+    /// A record or a second trailer stands after the trailer (The Header and Trailer).
     #[error("AfterTrailer")]
     AfterTrailer,
     /// There is no trailer; told at the line after the last (The Header and Trailer).
@@ -159,9 +159,9 @@ pub enum Fault {
     InFile { line: u64, kind: FileFault },
     /// More bytes came than the limit.
     TooLong,
-    /// The reader answered an error of any kind.
+    /// The file could not be opened, or its reader answered an error of any kind.
     ReadFailed,
-    /// The writer answered an error, or took none of some bytes.
+    /// The writer answered an error, or took none of some bytes; or the file that an answer was to replace cannot be replaced.
     WriteFailed,
     /// There was no memory for the file or its answer.
     Memory(AllocError),

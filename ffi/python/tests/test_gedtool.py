@@ -189,6 +189,14 @@ class Answers(unittest.TestCase):
             answers = list(threads.map(gedtool.canon, [file, bytearray(file), memoryview(file)] * 8))
         self.assertEqual(answers, [wanted] * 24)
 
+    def test_bytes_that_may_be_written(self):
+        # only while the interpreter's lock is held are they kept from other threads
+        library = gedtool._library
+        with library._held(b"") as one, library._held(bytearray()) as another:
+            self.assertIs(library._calls_for(one, one), library.RELEASING)
+            self.assertIs(library._calls_for(another), library.HOLDING)
+            self.assertIs(library._calls_for(one, another), library.HOLDING)
+
     def test_version(self):
         self.assertEqual(gedtool.__version__, (ROOT / "VERSION").read_text().strip())
 
@@ -218,6 +226,12 @@ class Faults(unittest.TestCase):
                     self.assertIsNone(caught.exception.line)
                     with self.assertRaisesRegex(gedtool.TooLong, "^second file: fault 24: TooLong$"):
                         gedtool.same(FAMILY, data)
+
+    def test_long_file_is_not_read(self):
+        with tempfile.NamedTemporaryFile() as file:
+            file.truncate(1 << 40)
+            with self.assertRaises(gedtool.TooLong):
+                gedtool.check(file.name)
 
     def test_out_of_memory(self):
         script = """

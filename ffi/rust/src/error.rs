@@ -62,11 +62,11 @@ file_faults! {
     BadTag = 7,
     /// The value begins with @ but is not a pointer.
     BadValue = 8,
-    /// The level is two or more above that of the line before.
+    /// The level is two or more above that of the line before, or the first line's is not 0.
     LevelJump = 9,
     /// A line that is not a record has an identifier.
     XrefNotAllowed = 10,
-    /// A CONT continues no text, or something stands below a CONT.
+    /// A CONT continues no text or is a pointer, or something stands below a CONT.
     MisplacedCont = 11,
     /// The first line is not HEAD.
     NoHeader = 12,
@@ -74,7 +74,7 @@ file_faults! {
     SecondHeader = 13,
     /// TRLR, the end of the file, has a value or a line below it.
     TrailerNotEmpty = 14,
-    /// A record stands after TRLR, the end of the file.
+    /// A record or a second TRLR stands after TRLR, the end of the file.
     AfterTrailer = 15,
     /// The file ends without TRLR.
     NoTrailer = 16,

@@ -76,7 +76,7 @@ fn many_threads() {
 fn errors_have_numbers_names_lines_and_explanations() {
     let error = canon(b"0 HEAD\n2 GEDC\n", Settings::new()).unwrap_err();
     assert_eq!((error.number(), error.name(), error.line()), (9, "LevelJump", Some(2)));
-    assert!(error.explanation().starts_with("The level is two or more above that of the line before."));
+    assert!(error.explanation().starts_with("The level is two or more above that of the line before, or the first line's is not 0."));
     assert_eq!((Error::Memory.number(), Error::Memory.name(), Error::Memory.line()), (27, "Memory", None));
     assert_eq!(Error::TooLong.to_string(), "fault 24: TooLong");
 }

@@ -22,7 +22,7 @@ use std::alloc::Global;
 ///
 /// The line is the digest as 64 hexadecimal digits with small letters, two spaces, the name and LF. In the name a backslash
 /// is written as two, LF as a backslash and `n`, CR as a backslash and `r`; where one of them is in the name, the line begins
-/// with a backslash. So a line is a file, whatever its name.
+/// with a backslash. So each file has one line, whatever its name.
 ///
 /// `limit`, the devices, the calls, the bytes that are kept and the outcome are as in [`run_told`](crate::run_told); InFile
 /// comes where the file is not accepted. Memory is taken for the file as by that call, for its document and index, for what its canonical
