@@ -68,3 +68,17 @@ check_long_target() {
     expect "many links to a record with a long tag" 1 "" "fault 21 at line 6: WrongTarget" timeout 5 ./gedtool check "$at"
     rm -- "$at"
 }
+
+# A family with very many children. A program that goes through them for each child takes far longer.
+check_large_family() {
+    local at=$room/large-family.ged
+    {
+        printf "$header"
+        echo '0 @F@ FAM'
+        seq -f '1 CHIL @I%.0f@' 400000
+        seq 400000 | sed 's/.*/0 @I&@ INDI\n1 FAMC @F@/'
+        printf "$end"
+    } >"$at"
+    expect "a family with very many children" 0 "accepted\n" "" timeout 20 ./gedtool check "$at"
+    rm -- "$at"
+}
