@@ -57,7 +57,8 @@ fn words_of(kind: ErrorKind) -> &'static str {
         ErrorKind::FileTooLarge => "file too large",
         ErrorKind::ReadOnlyFilesystem => "read-only file system",
         ErrorKind::FilesystemLoop => "too many symbolic links",
-        ErrorKind::InvalidFilename => "file name too long",
+        // the standard library tells a path that is not UTF-8 so too
+        ErrorKind::InvalidFilename => "file name too long or not UTF-8",
         ErrorKind::BrokenPipe => "broken pipe",
         ErrorKind::WouldBlock => "not ready now",
         ErrorKind::TimedOut => "no answer in time",

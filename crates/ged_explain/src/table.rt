@@ -189,7 +189,7 @@ pub(crate) static MEANINGS: [Meaning; 29] = [
         number: 27,
         name: "Memory",
         title: "There was not enough memory.",
-        cause: "Other programs take most of the memory, or it was limited for this program. A file needs a few times its own length.",
+        cause: "Other programs take most of the memory, or it was limited for this program. Most files need up to twice their own length, and one whose lines are all very short up to twenty times.",
         example: "gedtool check very-long.ged",
     },
     Meaning {
