@@ -212,12 +212,12 @@ check_synced() {
     chmod 640 -- "$into"
     puts "a file that is synced" 0 "" "a.ged:${smallest}b.ged:$canonical" in_order with_library sync "$program" canon -o "$into" "$at"
     report "it is created for its owner alone, gets its permissions, is synced once, and is then renamed" c600m640sr "$(cat -- "$room/order")"
-    for fails in SYNC_FAILS CHMOD_FAILS; do
+    for fails in SYNC_FAILS:c600m640s CHMOD_FAILS:c600m640; do
         fill a.ged "$smallest" b.ged old
         chmod 640 -- "$into"
-        puts "a file for which $fails" 3 "$unwritten" "a.ged:${smallest}b.ged:old" \
-            in_order env "$fails=1" LD_LIBRARY_PATH="$room" LD_PRELOAD=sync.so "$program" canon -o "$into" "$at"
-        report "where $fails nothing is renamed" "" "$(tr -d 'c0-9ms' <"$room/order")"
+        puts "a file for which ${fails%:*}" 3 "$unwritten" "a.ged:${smallest}b.ged:old" \
+            in_order env "${fails%:*}=1" LD_LIBRARY_PATH="$room" LD_PRELOAD=sync.so "$program" canon -o "$into" "$at"
+        report "where ${fails%:*} nothing is done behind that" "${fails#*:}" "$(cat -- "$room/order")"
     done
 }
 
