@@ -31,8 +31,8 @@ impl<'a, F> Model for Explainer<'a, F> {
 }
 
 impl<'a, F: Forest> Explainer<'a, F> {
-    /// One for the file with these bytes, whose document the forest has to be, and whose index the index: of any others the texts have
-    /// no meaning. Takes no memory.
+    /// An explainer of the file with these bytes: the forest has to be its document, and the index that document's. Of any others the
+    /// texts have no meaning. Takes no memory.
     pub fn new(bytes: &'a [u8], forest: &'a F, index: &'a Index) -> Explainer<'a, F>
         ensures { result ≡ bytes.now }
     {
