@@ -3,4 +3,5 @@ mod FileLaws
 mod Merging
 mod Noticing
 mod Refusals
+mod Showing
 mod Told

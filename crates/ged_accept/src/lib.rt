@@ -2,6 +2,7 @@
 #![tactic(auto)]
 
 mod accepted;
+mod gathered;
 mod laws;
 mod noticed;
 mod readers;
@@ -13,4 +14,4 @@ pub use laws::{
     one_list_of_notices, one_verdict, strict_refuses_notices,
 };
 pub use noticed::{notices, verdict};
-pub use show::show_text;
+pub use show::{show_text, write_shown};

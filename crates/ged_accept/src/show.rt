@@ -1,12 +1,17 @@
 // A line for each structure of a document, with what the structure tables ask of its payload.
-ghost use Rattle.std.specs.Prelude.{◌≡◌, ◌≤◌, ◌<◌, ◌+◌, ◌++◌, ◌∷◌, [], OnOk, IfOk, decimal, option_map};
+ghost use Rattle.std.specs.Prelude.{◌≡◌, ◌≤◌, ◌++◌, ◌∷◌, [], false, IsTrue, OnOk, OnErr, IfOk, decimal, option_map};
+ghost use Rattle.std.specs.Io.{StartsWith};
+ghost use Rattle.std.specs.Io.KnownBytes.{Appends};
 ghost use Rattle.std.specs.Option.{option_copied};
-ghost use Rattle.ged_line.specs.Bytes.{space};
+ghost use Rattle.ged_devices.specs.Buffers.{GoesThrough, StopsWithin};
+ghost use Rattle.ged_line.specs.Bytes.{Bytes, space};
 ghost use Rattle.ged_tree.specs.Runs.{IsRunOfTrees, trees_between};
 ghost use Rattle.ged_schema.specs.Rows.{as_row};
 ghost use Rattle.ged_accept.specs.Shown.{row_word as word_of_row, structure_line, shown, IsShown};
 
 use crate::accepted::Accepted;
+use crate::gathered::Gathered;
+use ged_devices::{Failed, Sink, flush_buffer, write_buffered};
 use ged_schema::{Context, ContextRows, Rule, context_below};
 use ged_tree::{Forest, end_of_all, next_in_run};
 use itoa::Buffer;
@@ -14,6 +19,9 @@ use std::alloc::{AllocError, Global};
 
 /// A little more bytes than most lines have.
 const BYTES_PER_LINE: usize = 16;
+
+/// How many bytes go to the text at a time.
+const BUFFER: usize = 65536;
 
 /// The word of a row's kind, or a hyphen where there is no row.
 fn row_word(rule: Option<&Rule>) -> &'static str
@@ -25,71 +33,124 @@ fn row_word(rule: Option<&Rule>) -> &'static str
     }
 }
 
-/// Appends a level of two digits or more, and a space.
+/// Writes a level of two digits or more, and a space.
 #[cold]
 #[inline(never)]
-fn push_deep_level(level: usize, out: &mut Vec<u8>) -> Result<(), AllocError>
-    ensures { OnOk result (out.new.items ≡ out.old.items ++ (decimal level ++ space ∷ [])) }
+fn write_deep_level<W: Sink>(
+    level: usize,
+    buffer: &mut Vec<u8>,
+    writer: &mut W,
+) -> Result<(), Failed>
+    requires { W.failed writer.old ≡ false }
+    ensures ok { OnOk result ((W.failed writer.new ≡ false)
+        × GoesThrough (W.taken writer.old) (W.taken writer.new) buffer.old.items buffer.new.items (decimal level ++ space ∷ [])) }
+    ensures err { OnErr result (IsTrue (W.failed writer.new)
+        × StopsWithin (W.taken writer.old) (W.taken writer.new) buffer.old.items (decimal level ++ space ∷ [])) }
+    ensures fate { W.fate writer.new ≡ W.fate writer.old }
 {
-    let mut buffer = Buffer::new();
-    out.extend_from_slice(buffer.format(level).as_bytes())?;
-    out.push(b' ')?;
+    let mut digits = Buffer::new();
+    write_buffered(writer, buffer, digits.format(level).as_bytes())?;
+    write_buffered(writer, buffer, b" ")?;
     Ok(())
 }
 
-/// Appends a level and a space. Most levels have one digit.
+/// Writes a level and a space. Most levels have one digit.
 #[inline(always)]
-fn push_level(level: usize, out: &mut Vec<u8>) -> Result<(), AllocError>
-    ensures { OnOk result (out.new.items ≡ out.old.items ++ (decimal level ++ space ∷ [])) }
+fn write_level<W: Sink>(level: usize, buffer: &mut Vec<u8>, writer: &mut W) -> Result<(), Failed>
+    requires { W.failed writer.old ≡ false }
+    ensures ok { OnOk result ((W.failed writer.new ≡ false)
+        × GoesThrough (W.taken writer.old) (W.taken writer.new) buffer.old.items buffer.new.items (decimal level ++ space ∷ [])) }
+    ensures err { OnErr result (IsTrue (W.failed writer.new)
+        × StopsWithin (W.taken writer.old) (W.taken writer.new) buffer.old.items (decimal level ++ space ∷ [])) }
+    ensures fate { W.fate writer.new ≡ W.fate writer.old }
 {
     if level < 10 {
-        return out.extend_from_slice(&[b'0' + level as u8, b' ']);
+        return write_buffered(writer, buffer, &[b'0' + level as u8, b' ']);
     }
-    push_deep_level(level, out)
+    write_deep_level(level, buffer, writer)
 }
 
-/// Appends the line of one structure.
+/// Writes the line of one structure.
 #[inline(always)]
-fn push_line(
+fn write_line<W: Sink>(
     level: usize,
     tag: &str,
     rule: Option<&Rule>,
-    out: &mut Vec<u8>,
-) -> Result<(), AllocError>
-    ensures { OnOk result (out.new.items ≡ out.old.items ++ structure_line level tag.now (option_map as_row (option_copied rule.entry))) }
+    buffer: &mut Vec<u8>,
+    writer: &mut W,
+) -> Result<(), Failed>
+    requires { W.failed writer.old ≡ false }
+    ensures ok { OnOk result ((W.failed writer.new ≡ false)
+        × GoesThrough (W.taken writer.old) (W.taken writer.new) buffer.old.items buffer.new.items
+        (structure_line level tag.now (option_map as_row (option_copied rule.entry)))) }
+    ensures err { OnErr result (IsTrue (W.failed writer.new)
+        × StopsWithin (W.taken writer.old) (W.taken writer.new) buffer.old.items
+        (structure_line level tag.now (option_map as_row (option_copied rule.entry)))) }
+    ensures fate { W.fate writer.new ≡ W.fate writer.old }
 {
-    push_level(level, out)?;
-    out.extend_from_slice(tag.as_bytes())?;
-    out.push(b' ')?;
-    out.extend_from_slice(row_word(rule).as_bytes())?;
-    out.push(b'\n')?;
+    write_level(level, buffer, writer)?;
+    write_buffered(writer, buffer, tag.as_bytes())?;
+    write_buffered(writer, buffer, b" ")?;
+    write_buffered(writer, buffer, row_word(rule).as_bytes())?;
+    write_buffered(writer, buffer, b"\n")?;
     Ok(())
 }
 
-/// Appends the lines of the structures of a run, and of those below them. The run stands at a level and in a context.
-fn push_shown<F: Forest>(
+/// Writes the lines of the structures of a run, and of those below them. The run stands at a level and in a context.
+fn write_run<F: Forest, W: Sink>(
     forest: &F,
     level: usize,
     context: Context,
     start: usize,
     end: usize,
-    out: &mut Vec<u8>,
-) -> Result<(), AllocError>
+    buffer: &mut Vec<u8>,
+    writer: &mut W,
+) -> Result<(), Failed>
+    requires failed { W.failed writer.old ≡ false }
     requires run { IsRunOfTrees (F.trees forest.now) start end }
     requires level { level ≤ start }
-    ensures { OnOk result (out.new.items ≡ out.old.items
-        ++ shown level context (trees_between (F.trees forest.now) start end)) }
+    ensures ok { OnOk result ((W.failed writer.new ≡ false)
+        × GoesThrough (W.taken writer.old) (W.taken writer.new) buffer.old.items buffer.new.items
+        (shown level context (trees_between (F.trees forest.now) start end))) }
+    ensures err { OnErr result (IsTrue (W.failed writer.new)
+        × StopsWithin (W.taken writer.old) (W.taken writer.new) buffer.old.items
+        (shown level context (trees_between (F.trees forest.now) start end))) }
+    ensures fate { W.fate writer.new ≡ W.fate writer.old }
 {
     let rows = ContextRows::of(context);
     let mut place = start;
     while let Some(after) = next_in_run(forest, place, end) {
         let tag = forest.tag(place);
         let rule = rows.row(tag);
-        push_line(level, tag, rule, out)?;
-        let below = context_below(rule);
-        push_shown(forest, level + 1, below, place + 1, after, out)?;
+        write_line(level, tag, rule, buffer, writer)?;
+        // most structures have nothing below them, and a call that finds none takes time too
+        if place + 1 < after {
+            let below = context_below(rule);
+            write_run(forest, level + 1, below, place + 1, after, buffer, writer)?;
+        }
         place = after;
     }
+    Ok(())
+}
+
+/// Writes what [`show_text`] answers, through a buffer, of which all capacity is used; what it held is dropped. Answers Failed once the
+/// writer does: then what was written is a front of that text. Takes no memory.
+pub fn write_shown<W: Sink>(
+    accepted: &Accepted<'_>,
+    buffer: &mut Vec<u8>,
+    writer: &mut W,
+) -> Result<(), Failed>
+    requires { W.failed writer.old ≡ false }
+    ensures ok { OnOk result ((W.failed writer.new ≡ false) × ((text : Bytes)
+        × IsShown accepted.now text × Appends (W.taken writer.old) (W.taken writer.new) text)) }
+    ensures err { OnErr result (IsTrue (W.failed writer.new) × ((text written : Bytes)
+        × IsShown accepted.now text × Appends (W.taken writer.old) (W.taken writer.new) written × StartsWith text written)) }
+    ensures fate { W.fate writer.new ≡ W.fate writer.old }
+{
+    let flat = accepted.flat();
+    buffer.clear();
+    write_run(flat, 0, Context::File, 0, end_of_all(flat), buffer, writer)?;
+    flush_buffer(writer, buffer)?;
     Ok(())
 }
 
@@ -98,9 +159,11 @@ fn push_shown<F: Forest>(
 pub fn show_text(alloc: Global, accepted: &Accepted<'_>) -> Result<Vec<u8>, AllocError>
     ensures { IfOk result (λ text. IsShown accepted.now text.items) }
 {
-    let flat = accepted.flat();
-    let room = flat.size().saturating_mul(BYTES_PER_LINE);
-    let mut out = Vec::with_capacity(alloc, room)?;
-    push_shown(flat, 0, Context::File, 0, end_of_all(flat), &mut out)?;
-    Ok(out)
+    let room = accepted.flat().size().saturating_mul(BYTES_PER_LINE);
+    let mut gathered = Gathered::with_room(alloc, room)?;
+    let mut buffer = Vec::with_capacity(alloc, BUFFER)?;
+    match write_shown(accepted, &mut buffer, &mut gathered) {
+        Ok(()) => Ok(gathered.text),
+        Err(Failed) => Err(AllocError),
+    }
 }

@@ -13,5 +13,6 @@ pub mod SiblingNames
 pub mod SiblingTrees
 pub mod SortedTail
 pub mod RunsKept
+pub mod SameRuns
 pub mod StableSort
 pub mod UseTests

@@ -41,7 +41,7 @@ StepIsUndone = (edition : Edition) (d e : Trees) → Step edition d e → Step e
 abbrev pub StepKeeps : (Trees → Type 0) → Type 0
 StepKeeps P = (edition : Edition) (d e : Trees) → Step edition d e → P d → P e
 
--- documents with one normal form of the first edition have one normal form of the second
+-- documents that have the same normal form of the first edition have the same normal form of the second
 abbrev pub EditionsAgree : Type 0
 EditionsAgree = (d e m n p : Trees) → IsNormalForm First d m → IsNormalForm First e m → IsNormalForm Second d n → IsNormalForm Second e p → n ≡ p
 

@@ -49,7 +49,7 @@ NormalFormOfTidy = (edition : Edition) (d t e : Trees) → IsTidyForm edition d 
 abbrev pub NormalIsTidy : Type 0
 NormalIsTidy = (edition : Edition) (d : Trees) → Normal edition d → Tidy edition d
 
--- documents with one tidy form of the first edition have one tidy form of the second
+-- documents that have the same tidy form of the first edition have the same tidy form of the second
 abbrev pub TidyEditionsAgree : Type 0
 TidyEditionsAgree = (d e m n p : Trees) → IsTidyForm First d m → IsTidyForm First e m → IsTidyForm Second d n → IsTidyForm Second e p → n ≡ p
 

@@ -46,8 +46,8 @@ pub fn steps()
     ensures no_notice { StepKeeps NoNotice }
 {}
 
-/// Documents with one normal form of the first edition have one of the second, and what is normal in the second edition is
-/// normal in the first.
+/// Documents that have the same normal form of the first edition have the same of the second, and what is normal in the second
+/// edition is normal in the first.
 pub fn editions_agree()
     ensures one_second { EditionsAgree }
     ensures normal_in_first { SecondIsNormalInFirst }
@@ -84,8 +84,8 @@ pub fn normal_form_of_tidy()
     ensures tidy { NormalIsTidy }
 {}
 
-/// Documents with one tidy form of the first edition have one of the second, and what is tidy in the second edition is tidy in
-/// the first.
+/// Documents that have the same tidy form of the first edition have the same of the second, and what is tidy in the second edition
+/// is tidy in the first.
 pub fn editions_agree_in_place()
     ensures one_second { TidyEditionsAgree }
     ensures tidy_in_first { SecondIsTidyInFirst }

@@ -9,6 +9,7 @@ pub(crate) mod order;
 pub(crate) mod pieced;
 pub(crate) mod plan;
 pub(crate) mod rank;
+pub(crate) mod same;
 pub(crate) mod siblings;
 pub(crate) mod structures;
 pub(crate) mod tidy;

@@ -97,8 +97,8 @@ forms.",
   A file with notices is accepted. With --strict each notice is a fault.
 
 Editions:
-  The first edition leaves dates, ages and counts as they are, but for the keyword of the
-  default calendar. The second, by --second, also leaves out their leading zeros.
+  The first edition leaves dates, ages and counts as they are, but for the word
+  GREGORIAN, which is left out. The second, by --second, also leaves out leading zeros.
 
 Exit status:
   0  The answer was written.

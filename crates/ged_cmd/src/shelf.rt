@@ -48,7 +48,7 @@ pub trait Shelf {
         ensures refused { OnErr result ((files (stock self.old)).refuses name.now) };
 
     /// Prepares a new file that is to take the place of the one of this name, where there is one. Nothing is created before it
-    /// is written to. The fault is WriteFailed where the file of this name can't be replaced, or Memory.
+    /// is written to or placed. The fault is WriteFailed where the file of this name can't be replaced, or Memory.
     fn draft(&mut self, alloc: Global, name: &str) -> Result<Self::Draft, Fault>
         ensures same { stock self.new ≡ stock self.old }
         ensures called { Calls (calls self.old) (calls self.new) (drafting name.now ∷ []) }

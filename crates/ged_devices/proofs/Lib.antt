@@ -1,2 +1,4 @@
+mod Buffering
+pub mod CallerLemmas
 mod Folders
 mod Modes

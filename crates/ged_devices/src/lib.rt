@@ -2,12 +2,14 @@
 //! them, and new files that take the place of others whole or not at all.
 #![tactic(auto)]
 
+mod buffered;
 mod devices;
 mod drafts;
 mod input;
 mod output;
 mod reasons;
 
+pub use buffered::{flush_buffer, write_buffered, write_whole};
 pub use devices::{Failed, Sink, Source};
 pub use drafts::{Fate, NewFile};
 pub use input::Input;

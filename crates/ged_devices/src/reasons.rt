@@ -5,6 +5,11 @@ use std::cell::Cell;
 use std::io;
 use std::io::{ErrorKind, Read, Write};
 
+/// The numbers that Linux gives to errors for which the standard library has no kind.
+const INPUT_OUTPUT: i32 = 5;
+
+const TOO_MANY_OPEN: i32 = 24;
+
 /// The reason of the last failure of a device. It is kept for explanations alone: no contract speaks of it.
 #[derive(Drop)]
 pub struct Reason {
@@ -21,7 +26,12 @@ impl Reason {
 
     /// Keeps the reason of an error. Takes no memory.
     pub fn note(&self, error: &io::Error) {
-        self.words.set(words_of(error.kind()));
+        let words = match error.raw_os_error() {
+            Some(INPUT_OUTPUT) => "input/output error: the disk or the device may be damaged",
+            Some(TOO_MANY_OPEN) => "too many open files",
+            _ => words_of(error.kind()),
+        };
+        self.words.set(words);
     }
 
     /// What was answered, once the reason of its error is kept. Takes no memory.

@@ -72,7 +72,9 @@ fn add_forest<F: Forest>(forest: &F, digest: &mut Digest) {
         digest.add_text(forest.xref(place).unwrap_or(""));
         add_payload(forest.payload(place), digest);
         digest.add(u64::from(forest.points(place)));
-        digest.add_text(forest.rest_of_line(place).unwrap_or(""));
+        if let Some(line) = forest.own_line(place) {
+            digest.add_text(line.rest);
+        }
         for number in 0..forest.further(place) {
             digest.add_text(forest.further_line(place, number));
         }

@@ -57,10 +57,19 @@ pub(crate) fn say_payload(answer: &mut Answer, payload: PayloadView<'_>) {
     answer.say(text);
 }
 
-/// A line for each place with the rest of the structure's line or `None`, whether its payload points, and its further lines.
-pub(crate) fn say_rests<F: Forest>(forest: &F, answer: &mut Answer) {
+/// A line for each place with the rest of the structure's own line or `None`, whether its payload points, and its further lines. Where
+/// the own line tells another tag than the structure's, or another answer of `points`, it says so.
+pub(crate) fn say_own_lines<F: Forest>(forest: &F, answer: &mut Answer) {
     for place in 0..forest.size() {
-        answer.say(forest.rest_of_line(place).unwrap_or("None"));
+        match forest.own_line(place) {
+            Some(line) => {
+                answer.say(line.rest);
+                if line.tag != forest.tag(place) || line.points != forest.points(place) {
+                    answer.say(" of another structure");
+                }
+            }
+            None => answer.say("None"),
+        }
         if forest.points(place) {
             answer.say(" points");
         }

@@ -41,7 +41,7 @@ pub(crate) static MEANINGS: [Meaning; 29] = [
     Meaning {
         number: 6,
         name: "BadXref",
-        title: "What follows the level begins with @ but is not an identifier.",
+        title: "What follows the level begins with @ but is not an identifier with a space behind it.",
         cause: "An identifier has capital letters, digits and _ between two @, and a space and a tag follow it. Older versions also allowed small letters, hyphens and spaces in it. @VOID@ is the pointer to nothing, and no record's identifier.",
         example: "0 @i-7@ INDI    <- here",
     },
@@ -55,7 +55,7 @@ pub(crate) static MEANINGS: [Meaning; 29] = [
     Meaning {
         number: 8,
         name: "BadValue",
-        title: "The value begins with @ but is not a pointer.",
+        title: "The value begins with a single @ but is not a pointer.",
         cause: "A text that begins with @ is written with @@. If a pointer was meant, it has capital letters, digits and _ between two @, and nothing follows it; older versions also allowed small letters, hyphens and spaces in it. They wrote the calendar of a date between two @: what was @#DJULIAN@ 3 MAY 1671 is now JULIAN 3 MAY 1671, and @#DFRENCH R@ is FRENCH_R.",
         example: "1 NOTE @home: see the letter    <- here",
     },
@@ -195,7 +195,7 @@ pub(crate) static MEANINGS: [Meaning; 29] = [
     Meaning {
         number: 28,
         name: "OneWayLink",
-        title: "A person names a family that does not name the person, or the other way round.",
+        title: "A person points to a family that does not point back, or the other way round: HUSB or WIFE answers FAMS, and CHIL answers FAMC.",
         cause: "One of the two records was changed by hand, or a person was taken out of a family in one of them only. Add the line that is missing there, or take this one away.",
         example: "0 @I7@ INDI\n1 FAMC @F1@    <- here\n0 @F1@ FAM",
     },

@@ -12,7 +12,7 @@ abbrev pub OneDigest : Type 0
 OneDigest = (profile : Profile) (edition : Edition) (file digest other : Bytes) → IsDigest profile edition file digest
     → IsDigest profile edition file other → digest ≡ other
 
--- files that are the same have one digest
+-- files that are the same have the same digest
 abbrev pub SameDigest : Type 0
 SameDigest = (profile : Profile) (edition : Edition) (first second digest other : Bytes) → AreCompared profile edition first second true
     → IsDigest profile edition first digest → IsDigest profile edition second other → digest ≡ other

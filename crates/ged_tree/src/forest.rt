@@ -1,17 +1,18 @@
 // The structures of a document by their places, whatever holds them.
 pub(crate) mod continuations;
+pub(crate) mod own_line;
 pub(crate) mod payload;
 
 ghost use Rattle.std.specs.Prelude.{◌≡◌, ◌<◌, Some, true, length, slice_get, MatchOption, IfSome};
 ghost use Rattle.std.specs.Option.{option_copied};
 ghost use Rattle.ged_tree.specs.Trees.{Trees, none, trees_count, further_lines};
 ghost use Rattle.ged_tree.specs.Documents.{is_document};
-ghost use Rattle.ged_tree.specs.DocumentLines.{rest_of_line};
 ghost use Rattle.ged_tree.specs.Places.{structure_at, place_after, level_at, line_at};
 ghost use Rattle.ged_tree.specs.Runs.{trees_between, IsRunOfTrees, IsStep};
-ghost use Rattle.ged_tree.specs.Views.{payload_of, is_pointer};
+ghost use Rattle.ged_tree.specs.Views.{payload_of, is_pointer, IsOwnLine};
 
 use crate::forest::continuations::FurtherLines;
+use crate::forest::own_line::OwnLine;
 use crate::forest::payload::PayloadView;
 
 /// The structures of a document by their places, which count from 0 in the order of a file: HEAD stands at place 0, and
@@ -87,19 +88,10 @@ pub trait Forest {
         matches!(self.payload(place), PayloadView::Pointer(_))
     }
 
-    /// The tag and the first line of the payload in one text, as the canonical spelling of the structure's line has them; or
-    /// `None` where the forest does not hold them so.
-    fn rest_of_line(&self, _place: usize) -> Option<&str>
+    /// What stands on the structure's own line from its tag on; or `None` where the forest does not hold it in one text.
+    fn own_line(&self, _place: usize) -> Option<OwnLine<'_>>
         requires { _place < trees_count (trees self.now) }
-        ensures { IfSome result (λ rest. rest.now ≡ rest_of_line (structure_at (trees self.now) _place)) }
-    {
-        None
-    }
-
-    /// Where the text of [`Forest::rest_of_line`] may begin in the file that the forest was read from, in bytes behind a byte order
-    /// mark; or `None` where the forest does not know. It is a hint: a caller looks whether the text stands there.
-    fn start_of_rest(&self, _place: usize) -> Option<usize>
-        requires { _place < trees_count (trees self.now) }
+        ensures { IfSome result (IsOwnLine (structure_at (trees self.now) _place)) }
     {
         None
     }

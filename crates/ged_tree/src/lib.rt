@@ -13,6 +13,7 @@ mod table;
 
 pub use fault::{BuildFault, TreeAt, TreeFault};
 pub use forest::continuations::FurtherLines;
+pub use forest::own_line::OwnLine;
 pub use forest::payload::PayloadView;
 pub use forest::{Forest, end_of_all, next_in_run};
 pub use judge::Judge;

@@ -56,11 +56,11 @@ file_faults! {
     BadLevel = 4,
     /// The level is above 99.
     LevelTooLarge = 5,
-    /// What follows the level begins with @ but is not an identifier.
+    /// What follows the level begins with @ but is not an identifier with a space behind it.
     BadXref = 6,
     /// What stands where the tag belongs is not a tag.
     BadTag = 7,
-    /// The value begins with @ but is not a pointer.
+    /// The value begins with a single @ but is not a pointer.
     BadValue = 8,
     /// The level is two or more above that of the line before, or the first line's is not 0.
     LevelJump = 9,
@@ -92,7 +92,7 @@ file_faults! {
     TooMany = 22,
     /// A line that has to stand below this one is missing.
     Missing = 23,
-    /// A person names a family that does not name the person, or the other way round.
+    /// A person points to a family that does not point back, or the other way round: HUSB or WIFE answers FAMS, and CHIL answers FAMC.
     OneWayLink = 28,
     /// A tag that does not begin with _ stands where the structure tables do not list it.
     UnlistedTag = 29,

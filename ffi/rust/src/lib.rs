@@ -13,7 +13,7 @@
 //! # Ok::<(), gedtool::Error>(())
 //! ```
 //!
-//! A file that is not accepted is told by its first fault, an [`Error`] with a number, a name and a line:
+//! For a file that is not accepted a call returns its first fault, an [`Error`] with a number, a name and a line:
 //!
 //! ```
 //! use gedtool::{canon, Error, FileFault, Settings};
@@ -132,7 +132,7 @@ pub fn same(first: &[u8], second: &[u8], settings: Settings) -> Result<bool, Sam
     library::same(settings, first, second)
 }
 
-/// The SHA-256 of the canonical form. Two accepted files that are the same have one digest.
+/// The SHA-256 of the canonical form. Two accepted files that are the same have the same digest.
 ///
 /// # Errors
 /// `InFile` where the file is not accepted under the profile of the settings, `TooLong`, `Memory`.

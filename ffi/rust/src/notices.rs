@@ -16,7 +16,7 @@ pub struct Notice {
 #[derive(Debug, Clone, Copy, PartialEq, Eq, Hash)]
 #[non_exhaustive]
 pub enum NoticeKind {
-    /// A person names a family that does not name the person, or the other way round.
+    /// A person points to a family that does not point back, or the other way round: HUSB or WIFE answers FAMS, and CHIL answers FAMC.
     OneWayLink,
     /// A standard tag stands where the tables do not list it.
     UnlistedTag,

@@ -6,6 +6,8 @@ ghost use Rattle.ged_line.specs.Lines.{line_parts, xref_part};
 ghost use Rattle.ged_line.specs.Spelling.{spelling};
 ghost use Rattle.ged_tree.specs.DocumentLines.{line_value};
 
+use crate::writer::same::are_same;
+
 /// What stands behind a level and a space, if bytes begin with this level, which has one digit.
 #[inline(always)]
 fn behind_level(bytes: &[u8], level: u8) -> Option<&[u8]>
@@ -56,7 +58,7 @@ fn begins_with_line(bytes: &[u8], text: &str) -> bool
     if bytes[count] != b'\n' {
         return false;
     }
-    &bytes[..count] == text.as_bytes()
+    are_same(&bytes[..count], text.as_bytes())
 }
 
 /// What stands behind the identifier with this name, which stands between two `@`, and a space, if bytes begin with them.

@@ -112,11 +112,10 @@ impl<F: Forest> Writer<'_, '_, F> {
         requires stands { is_line (line_parts level (option_copied xref) sibling.tag.now (Pointer name.now)) ≡ true }
         ensures { OnOk result (answer.new ≡ answer.old ++ (spelling (line_parts level (option_copied xref.entry) sibling.entry.tag.now (Pointer name.now)) ++ line_feed ∷ [])) }
     {
-        let Some(rest) = self.forest.rest_of_line(sibling.place) else {
-            return answer.push_named(level, xref, sibling.tag, name);
-        };
-        let place = self.forest.start_of_rest(sibling.place);
-        answer.push_rest(level, xref, rest, place)
+        match self.forest.own_line(sibling.place) {
+            Some(line) => answer.push_rest(level, xref, line.rest, Some(line.start)),
+            None => answer.push_named(level, xref, sibling.tag, name),
+        }
     }
 
     /// Appends the own line of a structure whose payload is a pointer. The cursor moves on from pointer to pointer.
@@ -198,14 +197,15 @@ impl<F: Forest> Writer<'_, '_, F> {
         ensures lines { Writes (F.trees self.now.forest.now) self.now.plan result work.old.answer work.new.answer
             (λ new. own_line level (renamed_sibling new self.now.plan.edition (row_of rule.entry) (option_copied xref.entry) (F.trees self.now.forest.now) sibling.entry) ∷ []) }
     {
+        if let Some(line) = self.forest.own_line(sibling.place) {
+            if !line.points && is_kept(self.forest, self.plan.edition, rule, sibling.place) {
+                return work
+                    .answer
+                    .push_rest(level, xref, line.rest, Some(line.start));
+            }
+        }
         if self.forest.points(sibling.place) {
             return self.write_reference(level, xref, sibling, work);
-        }
-        if is_kept(self.forest, self.plan.edition, rule, sibling.place) {
-            if let Some(rest) = self.forest.rest_of_line(sibling.place) {
-                let place = self.forest.start_of_rest(sibling.place);
-                return work.answer.push_rest(level, xref, rest, place);
-            }
         }
         self.write_value(rule, level, xref, sibling, &mut work.answer)
     }

@@ -1,25 +1,14 @@
 -- What a writer takes of parts that are written one behind the other.
-use Rattle.std.proofs.Common.{◌≡◌, ℕ, zero, suc, ◌+◌, ◌<◌, ◌≤◌, List, [], ◌∷◌, ◌++◌, length, get_or, take, drop, Option, refl, sym, ◌∙◌, ap, subst, length-append, take-append-drop, arith}
+use Rattle.std.proofs.Common.{◌≡◌, ℕ, zero, suc, ◌+◌, ◌<◌, ◌≤◌, List, [], ◌∷◌, ◌++◌, length, get_or, take, drop, Option, refl, sym, ◌∙◌, ap, subst, take-append-drop, arith}
 use Rattle.std.proofs.lemmas.List.{append-nil, append_assoc, drop_more, drop_all, length-drop, length-take-le}
-use Rattle.std.proofs.Math.Seq.{take-append-add, take-append_seam, take-nil}
+use Rattle.std.proofs.Math.Seq.{take-nil}
 use Rattle.std.specs.Io.{StartsWith}
 use Rattle.std.specs.Io.KnownBytes.{Appends}
-use Rattle.std.proofs.KnownBytes.{Appends-nil, Appends-trans, starts_with_rest}
+use Rattle.std.proofs.KnownBytes.{Appends-nil, Appends-trans}
+use Rattle.ged_devices.proofs.CallerLemmas.{starts_behind, starts_before}
 use Rattle.ged_line.specs.Bytes.{Bytes}
 use Rattle.ged_line.specs.Files.{joined_parts}
 use Rattle.ged_line.specs.declared.file.spelled_part.SpelledPart.{SpelledPart}
-
--- a text that begins with what was written, and goes on as another
-pub starts_behind : (front rest written : Bytes) → StartsWith rest written → StartsWith (front ++ rest) (front ++ written)
-starts_behind front rest written h =
-    ap (λ n. take n (front ++ rest)) (length-append front written) ∙ take-append-add front rest (length written) ∙ ap (λ x. front ++ x) h
-
--- the same, where more stands behind
-pub starts_before : (front rest written : Bytes) → StartsWith front written → StartsWith (front ++ rest) written
-starts_before front rest written h =
-    let tail = drop (length written) front in
-    let whole : front ++ rest ≡ written ++ (tail ++ rest) = ap (λ x. x ++ rest) (starts_with_rest front written h) ∙ append_assoc written tail rest in
-    ap (take (length written)) whole ∙ take-append_seam written (tail ++ rest)
 
 -- so many parts were written
 abbrev pub AreWritten : (taken holds : Option Bytes) → List SpelledPart → ℕ → Type 0

@@ -25,7 +25,7 @@ pub fn digest(alloc: Global, bytes: &[u8]) -> Result<[u8; 32], Fault>
 /// The digest of a file that is accepted under the profile of the settings, or why it is not accepted: the 32 bytes of the
 /// SHA-256 of what [`canonicalise_as`](crate::canonicalise_as) answers.
 ///
-/// Two accepted files that are the same have one digest. Files that differ have different ones, unless somebody has found
+/// Two accepted files that are the same have the same digest. Two that are not have different ones, unless somebody has found
 /// two texts of one SHA-256; no proof rests on that.
 ///
 /// Answers InFile with the file's first fault, or Memory where no memory was found, and no other fault. Grows, but

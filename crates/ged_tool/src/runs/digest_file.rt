@@ -11,9 +11,8 @@ use crate::calls::made::made_or_memory;
 use crate::runs::digest_line::digest_line;
 use crate::runs::one_file::read_whole;
 use crate::runs::told::{Told, told_with, told_without};
-use crate::runs::written::write_whole;
 use crate::settings::Settings;
-use ged_devices::{Failed, Sink, Source};
+use ged_devices::{Failed, Sink, Source, write_whole};
 use ged_faults::{Fault, Outcome};
 use std::alloc::Global;
 

@@ -10,21 +10,23 @@ ghost use Rattle.ged_tool.specs.Answers.{Answers, FaultAt};
 ghost use Rattle.ged_tool.specs.Same.{IsInForm};
 ghost use Rattle.ged_tool.specs.inner.Steps.{IsWritten, StopsAnswering};
 
+use crate::calls::accept::accept_as;
 use crate::calls::spell::spell_form;
 use crate::comparison::Form;
 use crate::runs::answer::{Command, answer};
 use crate::settings::Settings;
+use ged_accept::write_shown;
 use ged_canon::{Edition, FormReader};
-use ged_devices::{Failed, Sink};
+use ged_devices::{Failed, Sink, write_whole};
 use ged_faults::Fault;
 use ged_line::{SpelledPart, respell_parts};
 use ged_schema::Profile;
 use std::alloc::Global;
 
-/// How many bytes of a form are written at a time.
+/// How many bytes of a form, or of what is shown, are written at a time.
 const BUFFER: usize = 65536;
 
-/// Makes the answer to a file and writes it. Those of Lines, Canon and Tidy never stand in memory as a whole.
+/// Makes the answer to a file and writes it. Only that of Check stands in memory as a whole.
 pub(crate) fn write_answer<W: Sink>(
     alloc: Global,
     settings: Settings,
@@ -42,6 +44,7 @@ pub(crate) fn write_answer<W: Sink>(
 {
     match command {
         Command::Lines => write_lines(alloc, bytes, writer),
+        Command::Show => write_show(alloc, settings, bytes, writer),
         Command::Canon => write_form(alloc, settings, Form::Canonical, bytes, writer),
         Command::Tidy => write_form(alloc, settings, Form::Tidy, bytes, writer),
         _ => write_text(alloc, settings, command, bytes, writer),
@@ -88,6 +91,34 @@ fn write_lines<W: Sink>(alloc: Global, bytes: &[u8], writer: &mut W) -> Result<(
     match write_parts(writer, &parts) {
         Ok(()) => Ok(()),
         Err(Failed) => Err(Fault::WriteFailed),
+    }
+}
+
+/// The same for what a file that is accepted shows. It goes through a buffer, which is taken before the first byte is written.
+fn write_show<W: Sink>(
+    alloc: Global,
+    settings: Settings,
+    bytes: &[u8],
+    writer: &mut W,
+) -> Result<(), Fault>
+    requires { W.failed writer.old ≡ false }
+    ensures failed { IsTrue (W.failed writer.new) ↔ IsErrOf result Fault.WriteFailed }
+    ensures ok { OnOk result (IsWritten (Answers (profile_of settings) (edition_of settings) Command.Show bytes.now)
+        (W.taken writer.old) (W.taken writer.new)) }
+    ensures err { IfErr result (λ fault. StopsAnswering (Answers (profile_of settings) (edition_of settings) Command.Show bytes.now)
+        (FaultAt (profile_of settings) Command.Show bytes.now) (W.taken writer.old) (W.taken writer.new) fault) }
+    ensures fate { W.fate writer.new ≡ W.fate writer.old }
+{
+    let mut buffer = match Vec::with_capacity(alloc, BUFFER) {
+        Ok(buffer) => buffer,
+        Err(error) => return Err(Fault::Memory(error)),
+    };
+    match accept_as(alloc, settings, bytes) {
+        Ok(accepted) => match write_shown(&accepted, &mut buffer, writer) {
+            Ok(()) => Ok(()),
+            Err(Failed) => Err(Fault::WriteFailed),
+        },
+        Err(fault) => Err(fault),
     }
 }
 
@@ -182,21 +213,4 @@ fn write_both<W: Sink>(writer: &mut W, first: &[u8], second: &[u8]) -> Result<()
         Ok(()) => Ok(()),
         Err(Failed) => Err(Failed),
     }
-}
-
-/// Writes all of a text. Where the writer fails, what was written is the front of the text.
-pub(crate) fn write_whole<W: Sink>(writer: &mut W, text: &[u8]) -> Result<(), Failed>
-    requires { W.failed writer.old ≡ false }
-    ensures ok { OnOk result ((W.failed writer.new ≡ false)
-        × Appends (W.taken writer.old) (W.taken writer.new) text.now) }
-    ensures err { OnErr result (IsTrue (W.failed writer.new) × (written : Bytes)
-        × Appends (W.taken writer.old) (W.taken writer.new) written × StartsWith text.now written) }
-    ensures fate { W.fate writer.new ≡ W.fate writer.old }
-{
-    let mut at = 0usize;
-    while at < text.len() {
-        let count = writer.write(&text[at..])?;
-        at += count;
-    }
-    Ok(())
 }

@@ -4,14 +4,15 @@ ghost use Rattle.ged_tree.specs.Trees.{trees_count, further_lines};
 ghost use Rattle.ged_tree.specs.Documents.{is_document};
 ghost use Rattle.ged_tree.specs.DocumentLines.{rest_of_line};
 ghost use Rattle.ged_tree.specs.Places.{structure_at, place_after, level_at, line_at};
-ghost use Rattle.ged_tree.specs.Views.{payload_of, is_pointer};
-ghost use Rattle.ged_tree.specs.Rows.{flat_trees, further_of, IsFlat, IsSpelled, line_shown, shown_from};
+ghost use Rattle.ged_tree.specs.Views.{payload_of, is_pointer, IsOwnLine};
+ghost use Rattle.ged_tree.specs.Rows.{flat_trees, further_of, kept_points, kept_tag_length, IsFlat, IsSpelled, line_shown, shown_from};
 ghost use Rattle.ged_tree.specs.inner.Rows.{rest_of, shown_of};
 ghost use Rattle.ged_tree.specs.inner.Tables.{own_value};
 ghost use Rattle.ged_tree.specs.declared.forest.payload.PayloadView.{PayloadView};
 
 use crate::forest::Forest;
 use crate::forest::continuations::{FurtherLines, FurtherTable};
+use crate::forest::own_line::OwnLine;
 use crate::forest::payload::PayloadView;
 use crate::table::closing::Sizes;
 use crate::table::packed::{KeptStructure, TextApart, text_of};
@@ -89,6 +90,7 @@ impl<'a> Flat<'a> {
             → payload_of v (further_lines (structure_at self.now place).payload) ≡ (structure_at self.now place).payload }
         ensures rest { rest_of (line_shown (shown_of result)) ≡ rest_of_line (structure_at self.now place) }
         ensures spelled { IsSpelled (shown_of result) }
+        ensures points { 0 < kept_tag_length result.kept → kept_points result.kept ≡ is_pointer (structure_at self.now place).payload }
     {
         let kept = self.structures[place];
         let text = text_of(self.file, self.apart.as_slice(), place, &kept);
@@ -105,21 +107,21 @@ impl<'a> Flat<'a> {
         self.structures[place].points()
     }
 
-    /// What stands on the line of the structure at a place from its tag on, as the canonical spelling has it.
+    /// The own line of the structure at a place; or `None` where it is not kept where the tag stands.
     #[inline(always)]
-    fn rest_at(&self, place: usize) -> &'a str
+    fn own_line_at(&self, place: usize) -> Option<OwnLine<'a>>
         requires { place < trees_count self.now }
-        ensures { result.now ≡ rest_of_line (structure_at self.now place) }
+        ensures { IfSome result (IsOwnLine (structure_at self.now place)) }
     {
-        self.at(place).rest()
-    }
-
-    /// Where what [`Flat::rest_at`] answers begins in the file, in bytes; or `None` where that is not kept.
-    #[inline(always)]
-    fn start_of_rest_at(&self, place: usize) -> Option<usize>
-        requires { place < trees_count self.now }
-    {
-        self.structures[place].start_of_rest()
+        let structure = self.at(place);
+        let points = structure.kept.points()?;
+        let start = structure.kept.start_of_rest()?;
+        Some(OwnLine {
+            tag: structure.tag(),
+            rest: structure.rest(),
+            start,
+            points,
+        })
     }
 
     #[inline(always)]
@@ -229,13 +231,8 @@ impl<'a> Forest for Flat<'a> {
     }
 
     #[inline(always)]
-    fn rest_of_line(&self, place: usize) -> Option<&str> {
-        Some(self.rest_at(place))
-    }
-
-    #[inline(always)]
-    fn start_of_rest(&self, place: usize) -> Option<usize> {
-        self.start_of_rest_at(place)
+    fn own_line(&self, place: usize) -> Option<OwnLine<'_>> {
+        self.own_line_at(place)
     }
 
     fn further(&self, place: usize) -> usize {

@@ -2,7 +2,7 @@
 ghost use Rattle.std.specs.Prelude.{◌≡◌, ◌≤◌, ◌<◌, ◌+◌, true, length, decimal, option_map, slice_index};
 ghost use Rattle.ged_line.specs.Lines.{LineParts, Value, is_value, xref_part};
 ghost use Rattle.ged_line.specs.inner.LineTexts.{IsValuePart};
-ghost use Rattle.ged_tree.specs.Rows.{IsSpelled, line_shown};
+ghost use Rattle.ged_tree.specs.Rows.{IsSpelled, kept_tag_length, line_shown};
 ghost use Rattle.ged_tree.specs.inner.Rows.{HasTagAt, rest_of, shown_of};
 ghost use Rattle.ged_tree.specs.Spelled.{shown_value};
 ghost use Rattle.ged_tree.specs.inner.Tables.{own_value};
@@ -61,30 +61,15 @@ impl<'a> FlatStructure<'a> {
         payload_of_line(&self.line())
     }
 
-    /// What [`FlatStructure::rest`] answers, where the place of the tag is not kept.
-    #[cold]
-    #[inline(never)]
-    fn rest_of_line(&self) -> &'a str
-        requires { IsSpelled (shown_of self.now) }
-        ensures { result.now ≡ rest_of (line_shown (shown_of self.now)) }
-    {
-        let line = self.line();
-        let start = start_of_tag(&line);
-        rest_between(self.text, start, start + line.tag().len())
-    }
-
-    /// The tag and the value as the canonical spelling has them.
+    /// The tag and the value as the canonical spelling has them, where the place of the tag is kept.
     #[inline(always)]
     pub(crate) fn rest(&self) -> &'a str
-        requires { IsSpelled (shown_of self.now) }
+        requires spelled { IsSpelled (shown_of self.now) }
+        requires kept { 0 < kept_tag_length self.now.kept }
         ensures { result.now ≡ rest_of (line_shown (shown_of self.now)) }
     {
-        let length = self.kept.tag_length();
-        if length == 0 {
-            return self.rest_of_line();
-        }
         let start = self.kept.tag_start as usize;
-        rest_between(self.text, start, start + length as usize)
+        rest_between(self.text, start, start + self.kept.tag_length() as usize)
     }
 
     #[inline(always)]

@@ -1,4 +1,5 @@
-use Rattle.ged_tool.proofs.runs.Writing.{starts_before, then_front}
+use Rattle.ged_devices.proofs.CallerLemmas.{starts_before}
+use Rattle.ged_tool.proofs.runs.Writing.{then_front}
 use Rattle.ged_tool.proofs.runs.written.write_both.Goals as goal
 
 pub returns-in-Err-clause-err : goal.returns-in-Err-clause-err

@@ -1,7 +1,7 @@
 use Rattle.std.proofs.Common.{List, ◌∙◌, ap, arith}
 use Rattle.ged_tree.specs.Rows.{text_at}
 use Rattle.ged_tree.specs.declared.table.packed.TextApart.{TextApart}
-use Rattle.ged_tree.proofs.table.Answers.{kept_count, kept_slice, kept_text, kept_shows}
+use Rattle.ged_tree.proofs.table.Answers.{kept_count, kept_slice, kept_text, kept_shows, kept_pointer}
 use Rattle.ged_tree.proofs.table.flat.Flat.at.Goals as goal
 
 pub index-requires : goal.index-requires
@@ -28,4 +28,4 @@ returns c =
     let kept = c.index.result.now in
     let text = c.text_of-text.ensures ∙ ap (λ (ts : List TextApart). text_at c.self.inside.file.now ts c.args.place kept) c.as_slice.ensures.value in
     let shows = kept_shows c.self.inside.file.now c.self.inside.apart.items c.self.inside.structures.items c.self.inside.sizes c.self.inside.further c.self.invariant c.args.place kept (omega (arith, size, below)) c.index.ensures c.text_of-text.result.now text in
-    rw (← c.self.view_is) (record { tag = shows.tag; xref = shows.xref; payload = shows.payload; rest = shows.rest; spelled = shows.spelled })
+    rw (← c.self.view_is) (record { tag = shows.tag; xref = shows.xref; payload = shows.payload; rest = shows.rest; spelled = shows.spelled; points = kept_pointer c.self.inside.file.now c.self.inside.apart.items c.self.inside.structures.items c.self.inside.sizes c.self.inside.further c.self.invariant c.args.place kept (omega (arith, size, below)) c.index.ensures })

@@ -1,6 +1,6 @@
 use Rattle.std.proofs.Common.{length, ◌-◌, ◌≡◌, ◌≤◌, take, false}
 use Rattle.std.specs.Io.KnownBytes.{Appends}
-use Rattle.ged_tool.proofs.runs.written.write_whole.Given as goal
+use Rattle.ged_devices.proofs.buffered.write_whole.Given as goal
 
 abbrev pub invariant-loop-at : goal.invariant-loop-at
 invariant-loop-at g l = (l.at ≤ length l.text) × (g.W.Sink.failed l.writer ≡ false) × (g.W.Sink.fate l.writer ≡ g.W.Sink.fate l.fn.writer)

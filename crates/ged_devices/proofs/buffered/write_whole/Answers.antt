@@ -1,13 +1,12 @@
-use Rattle.std.proofs.Common.{ℕ, ◌+◌, ◌-◌, length, take, drop, sym, subst, ◌∙◌, rules, take-add}
+use Rattle.std.proofs.Common.{ℕ, List, ◌+◌, ◌-◌, length, take, drop, sym, subst, ◌∙◌, rules, take-add}
 use Rattle.std.proofs.lemmas.List.{take_rest}
 use Rattle.std.specs.Prelude.{Option}
 use Rattle.std.specs.Io.KnownBytes.{Appends}
 use Rattle.std.proofs.KnownBytes.{Appends-trans}
-use Rattle.ged_line.specs.Bytes.{Bytes}
-use Rattle.ged_tool.proofs.runs.written.write_whole.Goals as goal
+use Rattle.ged_devices.proofs.buffered.write_whole.Goals as goal
 
 -- a writer that took the front of a text, and then some bytes of the slice behind it, took a longer front
-took_more : (text : Bytes) (at count : ℕ) (first before after : Option (Bytes)) → Appends first before (take at text)
+took_more : (text : List ℕ) (at count : ℕ) (first before after : Option (List ℕ)) → Appends first before (take at text)
     → Appends before after (take count (take (length text - at) (drop at text))) → Appends first after (take (at + count) text)
 took_more text at count first before after front more =
     let behind : Appends before after (take count (drop at text)) =
