@@ -14,6 +14,7 @@ static uint8_t *read_file(const char *name, size_t *length) {
     FILE *file = fopen(name, "rb");
     uint8_t *bytes = NULL, *larger;
     size_t room = 0, count;
+    int failed = 0;
     *length = 0;
     if (!file) {
         return NULL;
@@ -23,6 +24,7 @@ static uint8_t *read_file(const char *name, size_t *length) {
             room = room ? 2 * room : 65536;
             larger = realloc(bytes, room);
             if (!larger) {
+                failed = 1;
                 break;
             }
             bytes = larger;
@@ -30,7 +32,7 @@ static uint8_t *read_file(const char *name, size_t *length) {
         count = fread(bytes + *length, 1, room - *length, file);
         *length += count;
     } while (count);
-    if (*length == room || ferror(file)) {
+    if (failed || ferror(file)) {
         free(bytes);
         bytes = NULL;
     }

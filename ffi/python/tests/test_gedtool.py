@@ -16,6 +16,7 @@ import tempfile
 import unittest
 from concurrent.futures import ThreadPoolExecutor
 from pathlib import Path
+from unittest import mock
 
 import gedtool
 
@@ -226,6 +227,11 @@ class Faults(unittest.TestCase):
                     self.assertIsNone(caught.exception.line)
                     with self.assertRaisesRegex(gedtool.TooLong, "^second file: fault 24: TooLong$"):
                         gedtool.same(FAMILY, data)
+
+    def test_endless_file_is_read_no_further(self):
+        with mock.patch("gedtool._library.LIMIT", 5_000_000):
+            with self.assertRaises(gedtool.TooLong):
+                gedtool.check("/dev/zero")
 
     def test_long_file_is_not_read(self):
         with tempfile.NamedTemporaryFile() as file:

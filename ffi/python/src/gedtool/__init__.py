@@ -7,8 +7,8 @@ A file is given as its bytes (`bytes`, `bytearray`, `memoryview`, or what else h
 >>> gedtool.canon(b"0 HEAD\\r\\n1 GEDC\\r\\n2 VERS 7.0\\r\\n0 TRLR")
 b'\\xef\\xbb\\xbf0 HEAD\\n1 GEDC\\n2 VERS 7.0\\n0 TRLR\\n'
 
-A file that is not accepted is told by a `FileFault`, one of more than `LIMIT` bytes by a `TooLong`, want of memory by an
-`OutOfMemory`; each is a `GedtoolError`. A path that cannot be read is an `OSError`, as `open` raises it:
+A file that is not accepted raises `FileFault`, one of more than `LIMIT` bytes `TooLong`, and an allocation that fails `OutOfMemory`;
+each is a `GedtoolError`. A path that cannot be read raises `OSError`, as `open` does. A file that is refused, for example:
 
 >>> gedtool.canon(b"0 HEAD\\n1 GEDC\\n2 VERS 5.5.1\\n0 TRLR\\n")
 Traceback (most recent call last):
@@ -146,7 +146,7 @@ def same(first: Data, second: Data, *, strict: bool = False, edition: int = 1) -
 def digest(data: Data, *, strict: bool = False, edition: int = 1) -> str:
     """The SHA-256 of the canonical form, as 64 hexadecimal digits.
 
-    Two accepted files that are the `same` have one digest.
+    Two accepted files that are the `same` have the same digest.
 
     >>> digest(b"0 HEAD\\n1 GEDC\\n2 VERS 7.0\\n0 TRLR\\n")
     '5cacae0e09e7df567ff2141fa92e4ad7c507de890f049b090e8f1867904ad16d'

@@ -94,12 +94,26 @@ def _held(data: Data, which: Which = None) -> Iterator[_Buffer]:
         _release_buffer(byref(buffer))
 
 
+# How many bytes of a file are read at a time whose length is not known.
+_PART = 1 << 20
+
+
 def _read(path: Union[str, os.PathLike[str]], which: Which) -> bytes:
-    """The bytes of the file of this path. One that is too long is not read."""
+    """The bytes of the file of this path. One that is known to be too long is not read, and one that turns out to be, such as a device
+    that never ends, no further."""
+    parts: list[bytes] = []
+    length = 0
     with open(path, "rb", buffering=0) as file:
-        if os.fstat(file.fileno()).st_size > LIMIT:
+        expected = os.fstat(file.fileno()).st_size
+        if expected > LIMIT:
             raise fault(TOO_LONG, which=which)
-        return file.read()
+        # a file of a known length is read at once
+        while part := file.read(max(expected - length, _PART)):
+            parts.append(part)
+            length += len(part)
+            if length > LIMIT:
+                raise fault(TOO_LONG, which=which)
+    return parts[0] if len(parts) == 1 else b"".join(parts)
 
 
 def _check(status: int, line: int, which: int = 0) -> None:
