@@ -3,6 +3,7 @@
 /// What stands on a structure's own line from its tag on, as slices.
 #[derive(Clone, Copy, Debug)]
 pub struct OwnLine<'a> {
+    /// The tag alone, which is never CONT.
     pub tag: &'a str,
     /// The tag and the first line of the payload, as the canonical spelling has them.
     pub rest: &'a str,
