@@ -2,6 +2,7 @@
 
 check_same() {
     check_equals
+    check_forms
     check_names_of_records
     check_both_read
     check_both_judged
@@ -29,6 +30,37 @@ check_equals() {
     expect "the flag behind the files" 0 "same\n" "" ./gedtool same "$room/zeros.ged" "$room/trimmed.ged" --second
     expect "same on a full disk" 3 "" "$unwritten" on_a_full_disk ./gedtool same "$small" "$small"
     expect "different on a full disk" 3 "" "$unwritten" on_a_full_disk ./gedtool same "$ann" "$bea"
+}
+
+# A file is compared with its form, whichever comes first, with what is nearly its form, and with the form of another.
+check_forms() {
+    local one=examples/family-by-one-program.ged another=examples/notices.ged form=$room/form.ged tidy=$room/tidy.ged behind
+    ./gedtool canon "$one" >"$form"
+    ./gedtool canon --keep-names "$one" >"$tidy"
+    head -c -1 "$form" >"$room/form-without-end.ged"
+    sed 's/$/\r/' "$form" >"$room/form-with-returns.ged"
+    { cat "$form"; echo '1 NOTE'; } >"$room/form-and-more.ged"
+    put marked-open.ged "${mark}0 HEAD\n"
+    behind=$(($(wc -l <"$form") + 1))
+    expect "a file and its canonical form" 0 "same\n" "" ./gedtool same "$one" "$form"
+    expect "a canonical form and its file" 0 "same\n" "" ./gedtool same "$form" "$one"
+    expect "a canonical form under both flags" 0 "same\n" "" ./gedtool same --strict --second "$form" "$one"
+    expect "a canonical form without its last line end" 0 "same\n" "" ./gedtool same "$one" "$room/form-without-end.ged"
+    expect "a canonical form with other line ends" 0 "same\n" "" ./gedtool same "$room/form-with-returns.ged" "$one"
+    expect "a file and its tidy form" 0 "same\n" "" ./gedtool same "$one" "$tidy"
+    expect "a file and its tidy form, where names count" 0 "same\n" "" ./gedtool same --keep-names "$one" "$tidy"
+    expect "a tidy form and its file, where names count" 0 "same\n" "" ./gedtool same --keep-names "$tidy" "$one"
+    expect "a file and another's canonical form" 1 "different\n" "" ./gedtool same "$another" "$form"
+    expect "a canonical form and another file" 1 "different\n" "" ./gedtool same "$form" "$another"
+    expect "a canonical form with a line more" 1 "" "second file: fault 14 at line $behind: TrailerNotEmpty" \
+        ./gedtool same "$one" "$room/form-and-more.ged"
+    expect "a canonical form with a line more, in the first place" 1 "" "first file: fault 14 at line $behind: TrailerNotEmpty" \
+        ./gedtool same "$room/form-and-more.ged" "$one"
+    expect "a canonical form and a faulty file" 1 "" "second file: fault 5 at line 6: LevelTooLarge" ./gedtool same "$form" examples/faulty.ged
+    expect "a faulty file with a mark, and one without a fault" 1 "" "first file: fault 16 at line 2: NoTrailer" \
+        ./gedtool same "$room/marked-open.ged" "$one"
+    expect "a faulty file with a mark, and another faulty one" 1 "" "first file: fault 16 at line 2: NoTrailer" \
+        ./gedtool same "$room/marked-open.ged" examples/faulty.ged
 }
 
 # What --keep-names makes of records under other identifiers, and in another order.

@@ -112,7 +112,7 @@ pub fn canon(file: &[u8], settings: Settings) -> Result<Vec<u8>, Error> {
     library::answer(Call::Canon, settings, file)
 }
 
-/// Whether two accepted files have the same canonical form. The first file is judged first.
+/// Whether two accepted files have the same canonical form. A fault of the first file is told before one of the second.
 ///
 /// # Errors
 /// The error of the first file that has one, and which it is.

@@ -42,6 +42,22 @@ are_compared form profile edition first second first_bytes second_bytes same h k
       same_exactly_when = (λ t. becomes.0 (equal.0 t), λ related. equal.1 (becomes.1 related));
     }
 
+-- the bytes of a file in a form are their own in that form
+own_in_form : (form : Form) (profile : Profile) (edition : Edition) (file bytes : Bytes) → IsInForm form profile edition file bytes → IsInForm form profile edition bytes bytes
+own_in_form Canonical profile edition file bytes h = (headline profile edition file bytes h).twice_is_once.own
+own_in_form Tidy profile edition file bytes h = (tidy_headline profile edition file bytes h).twice_is_once.own
+
+-- a file is the same as its bytes in a form, in both orders
+pub compared_to_form : (form : Form) (profile : Profile) (edition : Edition) (file bytes : Bytes) → IsInForm form profile edition file bytes
+    → AreComparedBy profile (relation_of form edition) file bytes true
+compared_to_form form profile edition file bytes h =
+    are_compared form profile edition file bytes bytes bytes true h (own_in_form form profile edition file bytes h) (λ _. refl, λ _. search)
+
+pub form_compared_to : (form : Form) (profile : Profile) (edition : Edition) (file bytes : Bytes) → IsInForm form profile edition file bytes
+    → AreComparedBy profile (relation_of form edition) bytes file true
+form_compared_to form profile edition file bytes h =
+    are_compared form profile edition bytes file bytes bytes true (own_in_form form profile edition file bytes h) h (λ _. refl, λ _. search)
+
 -- a document becomes itself in each way
 itself : (form : Form) (edition : Edition) (d : Trees) → relation_of form edition d d
 itself Canonical edition d = done

@@ -1,7 +1,9 @@
 // Whether two files say the same.
 ghost use Rattle.std.specs.Prelude.{◌≡◌, ◌↔◌, IsTrue, IfOk, IfErr};
 ghost use Rattle.ged_tool.specs.Settings.{profile_of, edition_of};
-ghost use Rattle.ged_tool.specs.Same.{AreCompared, AreComparedBy, IsSameRefusal, relation_of};
+ghost use Rattle.ged_line.specs.Bytes.{Bytes};
+ghost use Rattle.ged_accept.specs.Accepted.{FileFaultAt, IsRefusal};
+ghost use Rattle.ged_tool.specs.Same.{AreCompared, AreComparedBy, IsInForm, IsSameRefusal, relation_of};
 
 use crate::calls::accept::accept_as;
 use crate::calls::spell::spell_form;
@@ -48,9 +50,10 @@ pub fn same_as(
 /// the canonical form whether one's document becomes the other's by steps, in the tidy form whether it does by steps at
 /// places, which leave each identifier as it is.
 ///
-/// The first file is put into the form, then the second, but for two files of equal bytes, which are judged once. What stands in
-/// a file as the form has it is not copied. Answers InFile with the first file's first fault, or where that file is accepted with
-/// the second's, or Memory for the file for which none was found; no other fault. Grows; the comparison takes no memory.
+/// Each file is put into the form, but for one that is in the form already and is the form of the other, and for two files of equal bytes,
+/// which are judged once. What stands in a file as the form has it is not copied. Answers InFile with the first file's first fault, or
+/// where that file is accepted with the second's, or Memory for the file for which none was found; no other fault. Grows; the
+/// comparison takes no memory.
 pub fn same_by(
     alloc: Global,
     comparison: Comparison,
@@ -64,16 +67,95 @@ pub fn same_by(
     if are_equal(first, second) {
         return is_as_its_copy(alloc, comparison, first);
     }
-    let Comparison { settings, form } = comparison;
-    let first_form = match spell_form(alloc, settings, form, first) {
+    if may_be_in_form(first) {
+        return compare_to_second(alloc, comparison, first, second);
+    }
+    compare_to_first(alloc, comparison, first, second)
+}
+
+/// Whether a file may be in a form, as its front tells: a form begins with a byte order mark, which few other files have. It says which
+/// file is put into the form first, and no clause rests on it.
+fn may_be_in_form(bytes: &[u8]) -> bool {
+    bytes.starts_with(&[0xEF, 0xBB, 0xBF])
+}
+
+/// One of the two files in the form of a comparison, or why it is not compared.
+fn form_of(
+    alloc: Global,
+    comparison: Comparison,
+    which: Which,
+    bytes: &[u8],
+) -> Result<SpelledForm<'_>, SameFault>
+    ensures form { IfOk result (λ text. IsInForm comparison.form (profile_of comparison.settings) (edition_of comparison.settings) bytes.now text) }
+    ensures which { IfErr result (λ at. at.which ≡ which) }
+    ensures fault { IfErr result (λ at. IsRefusal (FileFaultAt (profile_of comparison.settings) bytes.now) at.fault) }
+{
+    match spell_form(alloc, comparison.settings, comparison.form, bytes) {
+        Ok(form) => Ok(form),
+        Err(fault) => Err(SameFault { which, fault }),
+    }
+}
+
+/// What [`same_by`] answers, where the first file is put into the form before the second. Where the second is that form byte for byte, it
+/// is accepted and has itself for its form, so it is not judged.
+fn compare_to_first(
+    alloc: Global,
+    comparison: Comparison,
+    first: &[u8],
+    second: &[u8],
+) -> Result<bool, SameFault>
+    ensures compared { IfOk result (AreComparedBy (profile_of comparison.settings)
+        (relation_of comparison.form (edition_of comparison.settings)) first.now second.now) }
+    ensures refused { IfErr result (λ at. IsSameRefusal (profile_of comparison.settings) first.now second.now at.which at.fault) }
+{
+    let first_form = match form_of(alloc, comparison, Which::First, first) {
         Ok(form) => form,
-        Err(fault) => return Err(fault_of(Which::First, fault)),
+        Err(at) => return Err(at),
     };
-    let second_form = match spell_form(alloc, settings, form, second) {
+    if is_spelled(&first_form, second) {
+        return Ok(true);
+    }
+    let second_form = match form_of(alloc, comparison, Which::Second, second) {
         Ok(form) => form,
-        Err(fault) => return Err(fault_of(Which::Second, fault)),
+        Err(at) => return Err(at),
     };
     Ok(have_equal_bytes(&first_form, &second_form))
+}
+
+/// The same, where the second file is put into the form before the first. Where the first is that form, it is not judged.
+fn compare_to_second(
+    alloc: Global,
+    comparison: Comparison,
+    first: &[u8],
+    second: &[u8],
+) -> Result<bool, SameFault>
+    ensures compared { IfOk result (AreComparedBy (profile_of comparison.settings)
+        (relation_of comparison.form (edition_of comparison.settings)) first.now second.now) }
+    ensures refused { IfErr result (λ at. IsSameRefusal (profile_of comparison.settings) first.now second.now at.which at.fault) }
+{
+    let second_form = match form_of(alloc, comparison, Which::Second, second) {
+        Ok(form) => form,
+        Err(at) => return Err(told_before(alloc, comparison.settings, first, at)),
+    };
+    if is_spelled(&second_form, first) {
+        return Ok(true);
+    }
+    let first_form = match form_of(alloc, comparison, Which::First, first) {
+        Ok(form) => form,
+        Err(at) => return Err(at),
+    };
+    Ok(have_equal_bytes(&first_form, &second_form))
+}
+
+/// Which fault is told where the second file has one: that of the first, if it has one too.
+fn told_before(alloc: Global, settings: Settings, first: &[u8], second: SameFault) -> SameFault
+    ensures { (bytes : Bytes) → second.which ≡ Which.Second → IsRefusal (FileFaultAt (profile_of settings) bytes) second.fault
+        → IsSameRefusal (profile_of settings) first.now bytes result.which result.fault }
+{
+    match accept_as(alloc, settings, first) {
+        Ok(_) => second,
+        Err(fault) => fault_of(Which::First, fault),
+    }
 }
 
 /// What [`same_by`] answers for a file and a copy of it: they are the same where the file is accepted, so neither is put into
@@ -100,6 +182,14 @@ fn are_equal(first: &[u8], second: &[u8]) -> bool
     ensures { IsTrue result ↔ (first.now ≡ second.now) }
 {
     first == second
+}
+
+/// Whether a form is spelled by these bytes.
+fn is_spelled(form: &SpelledForm<'_>, bytes: &[u8]) -> bool
+    ensures { IsTrue result ↔ (form.now ≡ bytes.now) }
+{
+    let mut reader = form.reader();
+    reader.passes(bytes) && reader.next_up_to(1).is_empty()
 }
 
 /// Whether two forms have the same bytes. They are compared piece by piece, where they stand.

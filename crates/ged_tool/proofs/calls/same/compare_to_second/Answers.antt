@@ -1,0 +1,12 @@
+use Rattle.ged_tool.proofs.calls.Forms.{are_compared, form_compared_to}
+use Rattle.ged_tool.proofs.calls.same.compare_to_second.Goals as goal
+
+pub returns-then-is_spelled-clause-compared : goal.returns-then-is_spelled-clause-compared
+returns-then-is_spelled-clause-compared c =
+    let same = c.is_spelled.ensures.0 c.if-is_spelled.true in
+    rw (← same) (form_compared_to _ _ _ _ _ c.in-Ok.ensures.form)
+
+pub returns-clause-compared : goal.returns-clause-compared
+returns-clause-compared c =
+    are_compared _ _ _ _ _ _ _ c.have_equal_bytes.result c.in-Ok-form_of.ensures.form c.in-Ok.ensures.form
+    c.have_equal_bytes.ensures
