@@ -1,55 +1,93 @@
 -- The dates that quick tests find.
-use Rattle.std.proofs.Common.{◌≡◌, ℕ, ◌-◌, ◌≤◌, true, ◌&&◌, inl, inr, List, [], ◌∷◌, ◌++◌, length, get_or, take, drop, Option, Some, None, is_some, refl, sym, ap, subst, ◌∙◌, arith, append_assoc}
-use Rattle.std.specs.Prelude.{codes, nat_le}
+use Rattle.std.proofs.Common.{◌≡◌, ℕ, zero, suc, ◌-◌, ◌<◌, ◌≤◌, Bool, true, false, ◌&&◌, cond, inl, inr, List, [], ◌∷◌, ◌++◌, length, get_or, take, drop, Option, Some, None, refl, sym, ap, subst, ◌∙◌, arith, append_assoc}
+use Rattle.std.specs.Prelude.{codes, nat_le, ◌==◌, if◌then◌else◌}
 use Rattle.std.specs.Option.{IfSome}
 use Rattle.std.specs.Str.{bytes_eq}
-use Rattle.std.proofs.lemmas.Bool.{or_cases, false≢true}
-use Rattle.std.proofs.lemmas.List.{take_rest}
-use Rattle.ged_value.specs.Words.{Bytes, is_integer, is_one_of, number, joined}
+use Rattle.std.proofs.lemmas.Bool.{or_cases, false≢true, eqb-true}
+use Rattle.std.proofs.lemmas.Bool.Decides.{nat_tests}
+use Rattle.std.proofs.lemmas.List.{take_rest, take-append-drop}
+use Rattle.ged_value.specs.Words.{Bytes, words_of, is_integer, is_one_of, number, joined}
 use Rattle.ged_value.specs.Dates.{gregorian, DateParts, calendar_word, roman_days, date_words, SpellsDate}
 use Rattle.ged_value.specs.Exact.{ExactParts, ExactText}
 use Rattle.ged_value.specs.Values.{from, from_to, ValueParts, span, plain, between, after, before, about, calculated, estimated, Behind, BothBehind, SpellsValue}
-use Rattle.ged_value.specs.inner.Quick.{IsMonthAndYear, IsDayBefore, IsUnnamedDate, IsBehindCalendar, IsDateText, IsBehindKeyword, AreDatesAround, IsValueText, lone_keywords}
+use Rattle.ged_value.specs.inner.Quick.{IsBeforeYear, IsWordAndYear, IsMonthAndYear, is_day_to, IsDayTo, IsUnnamedDate, IsBehindCalendar, IsDateText, IsBehindKeyword, AreDatesAround, IsValueText, lone_keywords}
 use Rattle.ged_value.proofs.WordLaws.{both}
 use Rattle.ged_value.proofs.DateLaws.{same_word, date_again}
 use Rattle.ged_value.proofs.ValueLaws.{none_some}
 use Rattle.ged_value.proofs.ExactLaws.{date_of, is_date_of}
 
-month_then : (text : Bytes) (days : ℕ) → 4 ≤ length text → get_or text 3 0 ≡ 32
-    → roman_days (get_or text 0 0 ∷ get_or text 1 0 ∷ get_or text 2 0 ∷ []) ≡ Some days → is_integer (drop 4 text) ≡ true → IsMonthAndYear days text
-month_then [] days long gap month year = absurd (omega arith)
-month_then (a ∷ []) days long gap month year = absurd (omega arith)
-month_then (a ∷ b ∷ []) days long gap month year = absurd (omega arith)
-month_then (a ∷ b ∷ c ∷ []) days long gap month year = absurd (omega arith)
-month_then (a ∷ b ∷ c ∷ d ∷ text) days long gap month year = (a ∷ b ∷ c ∷ [], text, month, year, ap (λ x. a ∷ b ∷ c ∷ x ∷ text) gap)
+word_then : (text : Bytes) (days : ℕ) → 4 ≤ length text → get_or text 3 0 ≡ 32
+    → IsBeforeYear days (get_or text 0 0 ∷ get_or text 1 0 ∷ get_or text 2 0 ∷ []) → is_integer (drop 4 text) ≡ true → IsWordAndYear days text
+word_then [] days long gap word year = absurd (omega arith)
+word_then (a ∷ []) days long gap word year = absurd (omega arith)
+word_then (a ∷ b ∷ []) days long gap word year = absurd (omega arith)
+word_then (a ∷ b ∷ c ∷ []) days long gap word year = absurd (omega arith)
+word_then (a ∷ b ∷ c ∷ d ∷ text) days long gap word year = (a ∷ b ∷ c ∷ [], text, word, year, ap (λ x. a ∷ b ∷ c ∷ x ∷ text) gap)
 
 -- three letters, a space and a year
-pub month_and_year : (text : Bytes) (o : Option ℕ) → 4 ≤ length text → get_or text 3 0 ≡ 32
-    → o ≡ roman_days (get_or text 0 0 ∷ get_or text 1 0 ∷ get_or text 2 0 ∷ []) → is_integer (take (length text - 4) (drop 4 text)) ≡ true → IfSome o (λ days. IsMonthAndYear days text)
-month_and_year text None long gap month year = tt
-month_and_year text (Some days) long gap month year = month_then text days long gap (sym month) (rw (take_rest text 4) at year)
+pub word_and_year : (text : Bytes) (o : Option ℕ) → 4 ≤ length text → get_or text 3 0 ≡ 32
+    → IfSome o (λ days. IsBeforeYear days (get_or text 0 0 ∷ get_or text 1 0 ∷ get_or text 2 0 ∷ [])) → is_integer (take (length text - 4) (drop 4 text)) ≡ true → IfSome o (λ days. IsWordAndYear days text)
+word_and_year text None long gap word year = tt
+word_and_year text (Some days) long gap word year = word_then text days long gap word (rw (take_rest text 4) at year)
 
--- a day before them
-exact_from : (text day others : Bytes) → text ≡ day ++ (32 ∷ others) → IsDayBefore others day → (date : ExactParts) × ExactText date text
-exact_from text day others e h =
-    let parts = h.1 in
-    let digits = both (is_integer day) (nat_le 1 (number day) && nat_le (number day) h.0) h.2 in
-    let range = both (nat_le 1 (number day)) (nat_le (number day) h.0) digits.1 in
+-- no month is without days
+days_from : (a b c : Bool) → cond {A = Option ℕ} a (Some 31) (cond b (Some 30) (cond c (Some 29) None)) ≡ Some 0 → ⊥
+days_from true b c h = absurd cc
+days_from false true c h = absurd cc
+days_from false false true h = absurd cc
+days_from false false false h = absurd cc
+
+without_days : (word : Bytes) → roman_days word ≡ Some 0 → ⊥
+without_days word h = days_from (is_one_of (words_of (codes "JAN MAR MAY JUL AUG OCT DEC")) word) (is_one_of (words_of (codes "APR JUN SEP NOV")) word) (bytes_eq (codes "FEB") word) h
+
+-- a word that has days is a month
+month_of : (text : Bytes) (days : ℕ) → 0 < days → IsWordAndYear days text → IsMonthAndYear days text
+month_of text days some h = elim h.2 [ inl k ↦ absurd (omega (arith, k.0)) | inr month ↦ (h.0, h.1, month, h.3, h.4) ]
+
+-- a word without days is a keyword
+pub keyword_of : (word : Bytes) (days : ℕ) → IsBeforeYear days word → days ≡ 0 → is_one_of lone_keywords word ≡ true
+keyword_of word days h none = elim h [ inl k ↦ k.1 | inr month ↦ absurd (without_days word (month ∙ ap Some none)) ]
+
+-- the first of three bytes, so many
+pub day_of : (text : Bytes) (count greatest : ℕ) → 3 ≤ length text → count ≤ 3
+    → (nat_le 2 count && ((if count == 3 then get_or text 2 0 else get_or text 1 0) == 32 && is_day_to greatest ((if count == 3 then get_or text 0 0 else 48) ∷ (if count == 3 then get_or text 1 0 else get_or text 0 0) ∷ []))) ≡ true
+    → IsDayTo greatest (take count text)
+day_of [] count greatest long few h = absurd (omega arith)
+day_of (a ∷ []) count greatest long few h = absurd (omega arith)
+day_of (a ∷ b ∷ []) count greatest long few h = absurd (omega arith)
+day_of (a ∷ b ∷ c ∷ text) zero greatest long few h = absurd (false≢true h)
+day_of (a ∷ b ∷ c ∷ text) (suc zero) greatest long few h = absurd (false≢true h)
+day_of (a ∷ b ∷ c ∷ text) (suc (suc zero)) greatest long few h =
+    let p = both (b == 32) (is_day_to greatest (48 ∷ a ∷ [])) h in (a ∷ [], p.1, ap (λ x. a ∷ x ∷ []) (eqb-true b 32 p.0))
+day_of (a ∷ b ∷ c ∷ text) (suc (suc (suc zero))) greatest long few h =
+    let p = both (c == 32) (is_day_to greatest (a ∷ b ∷ [])) h in (a ∷ b ∷ [], p.1, ap (λ x. a ∷ b ∷ x ∷ []) (eqb-true c 32 p.0))
+day_of (a ∷ b ∷ c ∷ text) (suc (suc (suc (suc count)))) greatest long few h = absurd (omega arith)
+
+-- a month has a day, so it has days
+some_days : (day : Bytes) (greatest : ℕ) → is_day_to greatest day ≡ true → 0 < greatest
+some_days day greatest h =
+    let digits = both (is_integer day) (nat_le 1 (number day) && nat_le (number day) greatest) h in
+    let range = both (nat_le 1 (number day)) (nat_le (number day) greatest) digits.1 in
+    let low = range.0 in
+    let high = range.1 in
+    grind (arith, nat_tests)
+
+-- a day before a month and a year
+exact_from : (text day others : Bytes) (days : ℕ) → text ≡ day ++ (32 ∷ others) → is_day_to days day ≡ true → IsMonthAndYear days others → (date : ExactParts) × ExactText date text
+exact_from text day others days e h parts =
+    let digits = both (is_integer day) (nat_le 1 (number day) && nat_le (number day) days) h in
+    let range = both (nat_le 1 (number day)) (nat_le (number day) days) digits.1 in
     let date : ExactParts = record { day = day; month = parts.0; year = parts.1 } in
     (date, (day ∷ parts.0 ∷ parts.1 ∷ [], (rw (parts.2, digits.0, range.0, range.1, parts.3) refl, refl), e ∙ ap (λ x. day ++ (32 ∷ x)) parts.4))
 
-pub short_day : (text : Bytes) → 2 ≤ length text → get_or text 1 0 ≡ 32 → IsDayBefore (take (length text - 2) (drop 2 text)) (48 ∷ get_or text 0 0 ∷ []) → (date : ExactParts) × ExactText date text
-short_day [] long gap h = absurd (omega arith)
-short_day (a ∷ []) long gap h = absurd (omega arith)
-short_day (a ∷ b ∷ text) long gap h =
-    exact_from (a ∷ b ∷ text) (a ∷ []) text (ap (λ x. a ∷ x ∷ text) gap) (subst (λ others. IsDayBefore others (48 ∷ a ∷ [])) (take_rest (a ∷ b ∷ text) 2) h)
+exact_of : (text front others : Bytes) (days : ℕ) → text ≡ front ++ others → IsDayTo days front → IsWordAndYear days others → (date : ExactParts) × ExactText date text
+exact_of text front others days e h word =
+    exact_from text h.0 others days (e ∙ ap (λ x. x ++ others) h.2 ∙ append_assoc h.0 (32 ∷ []) others) h.1 (month_of others days (some_days h.0 days h.1) word)
 
-pub long_day : (text : Bytes) → 3 ≤ length text → get_or text 2 0 ≡ 32 → IsDayBefore (take (length text - 3) (drop 3 text)) (get_or text 0 0 ∷ get_or text 1 0 ∷ []) → (date : ExactParts) × ExactText date text
-long_day [] long gap h = absurd (omega arith)
-long_day (a ∷ []) long gap h = absurd (omega arith)
-long_day (a ∷ b ∷ []) long gap h = absurd (omega arith)
-long_day (a ∷ b ∷ c ∷ text) long gap h =
-    exact_from (a ∷ b ∷ c ∷ text) (a ∷ b ∷ []) text (ap (λ x. a ∷ b ∷ x ∷ text) gap) (subst (λ others. IsDayBefore others (a ∷ b ∷ [])) (take_rest (a ∷ b ∷ c ∷ text) 3) h)
+-- the same, where the day ends at a place
+pub exact_at_end : (text front back : Bytes) (days n : ℕ) → front ≡ take n text → back ≡ drop n text → length front ≡ n → IsDayTo days (take (length front) text) → IsWordAndYear days back → (date : ExactParts) × ExactText date text
+exact_at_end text front back days n f b long day word =
+    exact_of text (take n text) (drop n text) days (sym (take-append-drop n text)) (subst (λ m. IsDayTo days (take m text)) long day) (subst (λ others. IsWordAndYear days others) b word)
 
 pub exact_is_date : (text : Bytes) → ((date : ExactParts) × ExactText date text) → IsUnnamedDate text
 exact_is_date text h =
@@ -57,14 +95,10 @@ exact_is_date text h =
     let exact = spelled.1 in
     (date_of h.0, refl, is_date_of h.0 exact.0, spelled.2 ∙ ap joined exact.1)
 
-month_is_date : (text : Bytes) (days : ℕ) → IsMonthAndYear days text → IsUnnamedDate text
+pub month_is_date : (text : Bytes) (days : ℕ) → IsMonthAndYear days text → IsUnnamedDate text
 month_is_date text days h =
     let date : DateParts = record { calendar = gregorian; day = None; month = Some h.0; year = h.1; epoch = None } in
     (date, refl, rw (h.2, h.3) refl, h.4)
-
-pub some_month : (text : Bytes) (o : Option ℕ) → IfSome o (λ days. IsMonthAndYear days text) → is_some o ≡ true → IsUnnamedDate text
-some_month text None h some = absurd (false≢true some)
-some_month text (Some days) h some = month_is_date text days h
 
 pub year_is_date : (text : Bytes) → is_integer text ≡ true → IsUnnamedDate text
 year_is_date text h =
@@ -125,6 +159,19 @@ keyword_before text others h date = elim h [
   | inl e ↦ subst IsValueText (sym e) (date_is_value others date)
   | inr k ↦ let spelled = date.1 in behind k.0 text others date.0 spelled.0 (lone k.0 k.1) k.2 spelled.1 spelled.2
 ]
+
+-- a word and a year
+pub word_is_value : (text : Bytes) (days : ℕ) → IsWordAndYear days text → IsValueText text
+word_is_value text days h = elim h.2 [
+  | inl k ↦ keyword_before text h.1 (inr (h.0, k.1, h.4)) (unnamed_is_date h.1 (year_is_date h.1 h.3))
+  | inr month ↦ date_is_value text (unnamed_is_date text (month_is_date text days (h.0, h.1, month, h.3, h.4)))
+]
+
+-- such a word and a year, with nothing before them
+pub word_at_end : (text front back : Bytes) (days n : ℕ) → front ≡ take n text → back ≡ drop n text → length front ≡ 0 → IsWordAndYear days back → IsValueText text
+word_at_end text [] back days n f b none word =
+    subst IsValueText (ap (λ x. x ++ back) f ∙ ap (λ x. take n text ++ x) b ∙ take-append-drop n text) (word_is_value back days word)
+word_at_end text (a ∷ front) back days n f b none word = absurd (omega (arith, none))
 
 pub from_is_value : (text date : Bytes) → text ≡ codes "FROM " ++ date → IsDateText date → IsValueText text
 from_is_value text date e h = let spelled = h.1 in behind (codes "FROM") text date h.0 spelled.0 (λ d. span (from d), λ d ws b. b) e spelled.1 spelled.2

@@ -11,7 +11,7 @@ pub(crate) fn is_integer(text: &str) -> bool
     !text.is_empty() && all_digits(text.as_bytes())
 }
 
-pub(crate) fn all_digits(bytes: &[u8]) -> bool
+fn all_digits(bytes: &[u8]) -> bool
     ensures { result ≡ list_all is_ascii_digit bytes.now }
 {
     bytes.iter().all(|b| b.is_ascii_digit())

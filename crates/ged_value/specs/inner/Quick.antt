@@ -6,6 +6,19 @@ use Rattle.ged_value.specs.Words.{Bytes, words_of, is_integer, is_one_of, number
 use Rattle.ged_value.specs.Dates.{gregorian, DateParts, roman_days, is_date, date_words, SpellsDate}
 use Rattle.ged_value.specs.Values.{ValueParts, DateValueText}
 
+-- the words that make a date value of the one date behind them
+abbrev pub lone_keywords : List Bytes
+lone_keywords = words_of (codes "ABT AFT BEF CAL EST")
+
+-- the word may stand before a year: a keyword, which has no days, or a month with its greatest day
+abbrev pub IsBeforeYear : ℕ → Bytes → Type 0
+IsBeforeYear days word = ((days ≡ 0) × IsTrue (is_one_of lone_keywords word)) ⊎ (roman_days word ≡ Some days)
+
+-- the text is such a word, a space and a year
+abbrev pub IsWordAndYear : ℕ → Bytes → Type 0
+IsWordAndYear days text =
+    (word : Bytes) × (year : Bytes) × IsBeforeYear days word × IsTrue (is_integer year) × (text ≡ joined (word ∷ year ∷ []))
+
 -- the text is a month that has so many days, a space and a year
 abbrev pub IsMonthAndYear : ℕ → Bytes → Type 0
 IsMonthAndYear days text =
@@ -16,9 +29,9 @@ IsMonthAndYear days text =
 abbrev pub is_day_to : ℕ → Bytes → Bool
 is_day_to greatest day = is_integer day && (nat_le 1 (number day) && nat_le (number day) greatest)
 
--- the text is a month and a year, and the month has the day
-abbrev pub IsDayBefore : Bytes → Bytes → Type 0
-IsDayBefore text day = (days : ℕ) × IsMonthAndYear days text × IsTrue (is_day_to days day)
+-- the text is such a number and a space
+abbrev pub IsDayTo : ℕ → Bytes → Type 0
+IsDayTo greatest text = (day : Bytes) × IsTrue (is_day_to greatest day) × (text ≡ day ++ (0x20 ∷ []))
 
 -- the text is a date of the Gregorian calendar, which isn't named
 abbrev pub IsUnnamedDate : Bytes → Type 0
@@ -45,10 +58,6 @@ AreDatesAround word text =
 -- the text is a date value
 abbrev pub IsValueText : Bytes → Type 0
 IsValueText text = (value : ValueParts) × DateValueText value text
-
--- the words that make a date value of the one date behind them
-abbrev pub lone_keywords : List Bytes
-lone_keywords = words_of (codes "ABT AFT BEF CAL EST")
 
 -- the text is the other one, or such a word and the other one
 abbrev pub IsBehindKeyword : Bytes → Bytes → Type 0
