@@ -2,6 +2,7 @@
 #![tactic(auto)]
 
 mod accepted;
+mod endings;
 mod gathered;
 mod laws;
 mod noticed;

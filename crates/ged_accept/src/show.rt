@@ -1,5 +1,6 @@
 // A line for each structure of a document, with what the structure tables ask of its payload.
 ghost use Rattle.std.specs.Prelude.{◌≡◌, ◌≤◌, ◌++◌, ◌∷◌, [], false, IsTrue, OnOk, OnErr, IfOk, decimal, option_map};
+ghost use Rattle.std.specs.Bool.{OnTrue};
 ghost use Rattle.std.specs.Io.{StartsWith};
 ghost use Rattle.std.specs.Io.KnownBytes.{Appends};
 ghost use Rattle.std.specs.Option.{option_copied};
@@ -10,8 +11,9 @@ ghost use Rattle.ged_schema.specs.Rows.{as_row};
 ghost use Rattle.ged_accept.specs.Shown.{row_word as word_of_row, structure_line, shown, IsShown};
 
 use crate::accepted::Accepted;
+use crate::endings::row_ending;
 use crate::gathered::Gathered;
-use ged_devices::{Failed, Sink, flush_buffer, write_buffered};
+use ged_devices::{Failed, Sink, flush_buffer, put_padded, write_buffered};
 use ged_schema::{Context, ContextRows, Rule, context_below};
 use ged_tree::{Forest, end_of_all, next_in_run};
 use itoa::Buffer;
@@ -70,9 +72,10 @@ fn write_level<W: Sink>(level: usize, buffer: &mut Vec<u8>, writer: &mut W) -> R
     write_deep_level(level, buffer, writer)
 }
 
-/// Writes the line of one structure.
-#[inline(always)]
-fn write_line<W: Sink>(
+/// Writes the line of one structure, one part behind the other.
+#[cold]
+#[inline(never)]
+fn write_parts<W: Sink>(
     level: usize,
     tag: &str,
     rule: Option<&Rule>,
@@ -94,6 +97,91 @@ fn write_line<W: Sink>(
     write_buffered(writer, buffer, row_word(rule).as_bytes())?;
     write_buffered(writer, buffer, b"\n")?;
     Ok(())
+}
+
+/// Puts the line of a structure behind what a buffer holds, and answers true, where its level has one digit, its tag has four letters,
+/// as most have, and there is room. Then each part has a fixed length, so that none is copied by a call.
+#[inline(always)]
+fn put_usual_line(level: usize, tag: &str, rule: Option<&Rule>, buffer: &mut Vec<u8>) -> bool
+    ensures put { OnTrue result (buffer.new.items
+        ≡ buffer.old.items ++ structure_line level tag.now (option_map as_row (option_copied rule.entry))) }
+    ensures left { result ≡ false → buffer.new.items ≡ buffer.old.items }
+{
+    if level > 9 {
+        return false;
+    }
+    let &[first, second, third, fourth] = tag.as_bytes() else {
+        return false;
+    };
+    let front = [b'0' + level as u8, b' ', first, second, third, fourth];
+    let ending = row_ending(rule);
+    put_padded(buffer, &front, ending, usize::from(ending[15]))
+}
+
+/// The same where the tag has three letters.
+#[inline(always)]
+fn put_short_line(level: usize, tag: &str, rule: Option<&Rule>, buffer: &mut Vec<u8>) -> bool
+    ensures put { OnTrue result (buffer.new.items
+        ≡ buffer.old.items ++ structure_line level tag.now (option_map as_row (option_copied rule.entry))) }
+    ensures left { result ≡ false → buffer.new.items ≡ buffer.old.items }
+{
+    if level > 9 {
+        return false;
+    }
+    let &[first, second, third] = tag.as_bytes() else {
+        return false;
+    };
+    let front = [b'0' + level as u8, b' ', first, second, third];
+    let ending = row_ending(rule);
+    put_padded(buffer, &front, ending, usize::from(ending[15]))
+}
+
+/// Writes the line of a structure that is not like most. It is a call, since the loop over structures has too few registers for this too.
+#[inline(never)]
+fn write_other<W: Sink>(
+    level: usize,
+    tag: &str,
+    rule: Option<&Rule>,
+    buffer: &mut Vec<u8>,
+    writer: &mut W,
+) -> Result<(), Failed>
+    requires { W.failed writer.old ≡ false }
+    ensures ok { OnOk result ((W.failed writer.new ≡ false)
+        × GoesThrough (W.taken writer.old) (W.taken writer.new) buffer.old.items buffer.new.items
+        (structure_line level tag.now (option_map as_row (option_copied rule.entry)))) }
+    ensures err { OnErr result (IsTrue (W.failed writer.new)
+        × StopsWithin (W.taken writer.old) (W.taken writer.new) buffer.old.items
+        (structure_line level tag.now (option_map as_row (option_copied rule.entry)))) }
+    ensures fate { W.fate writer.new ≡ W.fate writer.old }
+{
+    if put_short_line(level, tag, rule, buffer) {
+        return Ok(());
+    }
+    write_parts(level, tag, rule, buffer, writer)
+}
+
+/// Writes the line of one structure.
+#[inline(always)]
+fn write_line<W: Sink>(
+    level: usize,
+    tag: &str,
+    rule: Option<&Rule>,
+    buffer: &mut Vec<u8>,
+    writer: &mut W,
+) -> Result<(), Failed>
+    requires { W.failed writer.old ≡ false }
+    ensures ok { OnOk result ((W.failed writer.new ≡ false)
+        × GoesThrough (W.taken writer.old) (W.taken writer.new) buffer.old.items buffer.new.items
+        (structure_line level tag.now (option_map as_row (option_copied rule.entry)))) }
+    ensures err { OnErr result (IsTrue (W.failed writer.new)
+        × StopsWithin (W.taken writer.old) (W.taken writer.new) buffer.old.items
+        (structure_line level tag.now (option_map as_row (option_copied rule.entry)))) }
+    ensures fate { W.fate writer.new ≡ W.fate writer.old }
+{
+    if put_usual_line(level, tag, rule, buffer) {
+        return Ok(());
+    }
+    write_other(level, tag, rule, buffer, writer)
 }
 
 /// Writes the lines of the structures of a run, and of those below them. The run stands at a level and in a context.

@@ -1,5 +1,6 @@
 // Whole texts for a writer, at once or through a buffer.
-ghost use Rattle.std.specs.Prelude.{◌≡◌, ◌+◌, ◌≤◌, ◌++◌, ℕ, List, [], false, length, vec_len, vec_capacity, IsTrue, OnOk, OnErr};
+ghost use Rattle.std.specs.Prelude.{◌≡◌, ◌+◌, ◌≤◌, ◌↔◌, ◌++◌, ℕ, List, [], false, length, take, vec_len, vec_capacity, IsTrue, OnOk, OnErr};
+ghost use Rattle.std.specs.Bool.{OnTrue};
 ghost use Rattle.std.specs.Io.KnownBytes.{Appends};
 ghost use Rattle.std.specs.Io.{StartsWith};
 ghost use Rattle.ged_devices.specs.Buffers.{GoesThrough, StopsWithin};
@@ -68,6 +69,36 @@ fn write_behind<W: Sink>(writer: &mut W, buffer: &mut Vec<u8>, text: &[u8]) -> R
     }
 }
 
+/// Puts a text of a fixed length and the first bytes of another behind what a buffer holds, and answers true; where the buffer has no
+/// room for both whole, it stays as it is, and the answer is false. Takes no memory. A few bytes of fixed lengths are copied by a few
+/// moves, where a length that is known only at run time takes a call. What stands behind the first bytes is copied and cut off again.
+#[inline(always)]
+pub fn put_padded<const N: usize, const M: usize>(
+    buffer: &mut Vec<u8>,
+    text: &[u8; N],
+    padded: &[u8; M],
+    length: usize,
+) -> bool
+    requires { length ≤ M }
+    ensures put { OnTrue result (buffer.new.items ≡ buffer.old.items ++ (text.now ++ take length padded.now)) }
+    ensures left { result ≡ false → buffer.new.items ≡ buffer.old.items }
+    ensures room { IsTrue result ↔ vec_len buffer.old + (N + M) ≤ vec_capacity buffer.old }
+    ensures capacity { vec_capacity buffer.old ≤ vec_capacity buffer.new }
+{
+    let held = buffer.len();
+    let room = buffer.capacity() - held;
+    if room < N {
+        return false;
+    }
+    if room - N < M {
+        return false;
+    }
+    put(buffer, text);
+    put(buffer, padded);
+    buffer.truncate(held + N + length);
+    true
+}
+
 /// Writes what a buffer holds and empties it, or answers Failed once the writer does: then what was written is a front of what the
 /// buffer held. Takes no memory.
 pub fn flush_buffer<W: Sink>(writer: &mut W, buffer: &mut Vec<u8>) -> Result<(), Failed>
@@ -96,7 +127,8 @@ fn fits(buffer: &Vec<u8>, text: &[u8]) -> bool
 #[inline(always)]
 fn put(buffer: &mut Vec<u8>, text: &[u8])
     requires { vec_len buffer.old + length text.now ≤ vec_capacity buffer.old }
-    ensures { buffer.new.items ≡ buffer.old.items ++ text.now }
+    ensures put { buffer.new.items ≡ buffer.old.items ++ text.now }
+    ensures capacity { vec_capacity buffer.old ≤ vec_capacity buffer.new }
 {
     match buffer.extend_from_slice(text) {
         Ok(()) => {}

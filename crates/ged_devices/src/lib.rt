@@ -9,7 +9,7 @@ mod input;
 mod output;
 mod reasons;
 
-pub use buffered::{flush_buffer, write_buffered, write_whole};
+pub use buffered::{flush_buffer, put_padded, write_buffered, write_whole};
 pub use devices::{Failed, Sink, Source};
 pub use drafts::{Fate, NewFile};
 pub use input::Input;

@@ -6,7 +6,7 @@ use Rattle.ged_accept.specs.Shown.{row_word, structure_line}
 use Rattle.ged_devices.specs.Buffers.{GoesThrough, StopsWithin}
 use Rattle.ged_devices.proofs.CallerLemmas.{through_both, stops_behind, stops_before}
 use Rattle.ged_accept.proofs.Showing.{on_err, line_pieces}
-use Rattle.ged_accept.proofs.show.write_line.Goals as goal
+use Rattle.ged_accept.proofs.show.write_parts.Goals as goal
 
 pub returns-in_err-write_level-clause-err : goal.returns-in_err-write_level-clause-err
 returns-in_err-write_level-clause-err g c =
