@@ -47,6 +47,34 @@ check_grown() {
     report "canon of what keeps names" "$(./gedtool canon "$room/grown.ged")" "$(./gedtool canon "$room/kept-grown.ged")"
 }
 
+# in_turn LEVEL TAG..: 600 structures of these tags in turn, with their numbers.
+in_turn() {
+    local level=$1
+    shift
+    awk -v level="$level" -v tags="$*" 'BEGIN { count = split(tags, tag, " "); for (n = 1; n <= 600; n++) print level, tag[n % count + 1], n }'
+}
+
+# put_in_order NAME TAG..: canon puts many records of these tags in their order, and many structures below one record; those of one tag
+# stay in the order of the file.
+put_in_order() {
+    local name=$1 lines
+    shift
+    lines=$(in_turn 0 "$@")
+    report "canon of many records in turn, $name" "$(printf "$mark$header" && sort -s -k 2,2 <<<"$lines" && printf "$end")" \
+        "$({ printf "$header" && cat <<<"$lines" && printf "$end"; } | ./gedtool canon)"
+    lines=$(in_turn 1 "$@")
+    report "canon of many structures in turn, $name" "$(printf "$mark$header$person" && sort -s -k 2,2 <<<"$lines" && printf "$end")" \
+        "$({ printf "$header$person" && cat <<<"$lines" && printf "$end"; } | ./gedtool canon)"
+}
+
+check_long_runs() {
+    put_in_order "of three tags" _C _A _BBBBBB
+    put_in_order "of sixteen tags" _P _O _N _M _L _K _J _I _H _G _F _E _D _C _B _A
+    put_in_order "of seventeen tags" _Q _P _O _N _M _L _K _J _I _H _G _F _E _D _C _B _A
+    put_in_order "of tags that differ behind seven letters" _LONGESTB _B _LONGESTA _LONGES
+    put_in_order "of three tags and a stretch of one" _C _C _C _C _C _C _A _B
+}
+
 check_canonical() {
     local family="${mark}${header}1 COPR The Braun family\n0 @X1@ FAM\n1 HUSB @X3@\n1 MARR\n2 DATE BEF 1895\n"
     family+='1 NOTE The register was lost.\n2 CONT A copy is in Stuttgart.\n1 WIFE @X2@\n0 @X2@ INDI\n1 BIRT\n'
@@ -74,6 +102,7 @@ check_canonical() {
     expect "canon in the second edition, with names" 0 "$mark${header}${person}1 NMR 7\n${end}" "" \
         ./gedtool canon --second --keep-names "$room/zeros.ged"
     check_grown
+    check_long_runs
     respells "a range of dates" "${person}1 BIRT\n2 DATE BET 01 AND 000\n" "${person}1 BIRT\n2 DATE BET 1 AND 0\n"
     respells "the date of a file" "1 DATE 01 JAN 1900\n" "1 DATE 1 JAN 1900\n"
     respells "a count of 0" "${person}1 NMR 0\n" "${person}1 NMR 0\n"

@@ -6,6 +6,7 @@ pub mod NewNames
 pub mod NewNumbers
 pub mod OwnLines
 pub mod Parts
+pub mod RankGroups
 pub mod RankOrder
 pub mod Records
 pub mod RunsWritten

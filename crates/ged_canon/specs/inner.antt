@@ -1,4 +1,5 @@
 pub mod CanonBytes
+pub mod Gathered
 pub mod Orders
 pub mod Ranks
 pub mod Runs

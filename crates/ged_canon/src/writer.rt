@@ -2,6 +2,7 @@
 pub(crate) mod answer;
 pub(crate) mod brief;
 pub(crate) mod document;
+pub(crate) mod gathered;
 pub(crate) mod kept;
 pub(crate) mod lines;
 pub(crate) mod numbers;

@@ -177,7 +177,7 @@ module _ {A : Type 0} (structure : A → Structure) (below : A → Trees) (trees
       by true h = listed.first x (put own_tag a xs) ∙ ap (tree (structure x) (below x)) h
       by false h = listed.first a (x ∷ xs) ∙ ap (tree (structure a) (below a)) (listed.first x xs)
 
-  all_put : (xs : List A) → trees (put_all own_tag xs) ≡ grouped (trees xs)
+  pub all_put : (xs : List A) → trees (put_all own_tag xs) ≡ grouped (trees xs)
   all_put [] = listed.nothing ∙ ap grouped (sym listed.nothing)
   all_put (x ∷ xs) = trees_put x (put_all own_tag xs) ∙ ap (put_tree (structure x) (below x)) (all_put xs) ∙ ap grouped (sym (listed.first x xs))
 

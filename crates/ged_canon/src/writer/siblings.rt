@@ -1,5 +1,5 @@
 // The structures of a run in the order of their tags.
-ghost use Rattle.std.specs.Prelude.{◌≡◌, ◌<◌, ◌++◌, ◌∷◌, [], ◌≤◌, Bool, true, IfOk, OnOk, length, take, drop};
+ghost use Rattle.std.specs.Prelude.{◌≡◌, ◌<◌, ◌++◌, ◌∷◌, [], ◌≤◌, Bool, true, false, IsTrue, IfOk, OnOk, length, take, drop};
 ghost use Rattle.std.specs.List.{AllByRecursion};
 ghost use Rattle.std.specs.List.Sorted.{IsPermutation};
 ghost use Rattle.ged_line.specs.Bytes.{Bytes};
@@ -15,10 +15,14 @@ ghost use Rattle.ged_link.specs.Indexes.{IsIndexOf};
 ghost use Rattle.ged_canon.specs.inner.Working.{grouped, sorted, each_sorted, used_trees, AreNumbersOf};
 ghost use Rattle.ged_canon.specs.inner.Siblings.{StandsRanked, sibling_trees, sibling_names};
 
+use crate::writer::gathered::gather_siblings;
 use crate::writer::rank::{RankedSibling, ranked_order, ranked_sibling};
 use ged_link::{Index, RecordCursor};
 use ged_tree::{Forest, next_in_run};
 use std::alloc::{AllocError, Global};
+
+/// How many siblings are always put in order by comparison: for fewer the memory for groups costs more than they save.
+const SHORT_RUN: usize = 256;
 
 /// A structure among its siblings: its tag, and its place among all structures.
 #[derive(Clone, Copy, Debug)]
@@ -64,8 +68,9 @@ fn push_siblings<'a, F: Forest>(
     Ok(())
 }
 
-/// Puts siblings in the order of their tags; those with one tag keep their order. Takes memory for more than 20.
-fn sort_siblings(alloc: Global, siblings: &mut [RankedSibling<'_>]) -> Result<(), AllocError>
+/// Puts siblings in the order of their tags by comparing them; those with one tag keep their order. Takes memory for more than 20.
+#[inline(always)]
+fn compare_siblings(alloc: Global, siblings: &mut [RankedSibling<'_>]) -> Result<(), AllocError>
     ensures permutation { IsPermutation siblings.old siblings.new }
     ensures trees { (d : Trees) (used : Bytes → Bool) (edition : AnyEdition) (context : AnyContext) →
         OnOk result (sibling_trees used edition context d siblings.new ≡ grouped (sibling_trees used edition context d siblings.old)) }
@@ -73,6 +78,33 @@ fn sort_siblings(alloc: Global, siblings: &mut [RankedSibling<'_>]) -> Result<()
     siblings.sort_by(alloc, |a: &RankedSibling<'_>, b: &RankedSibling<'_>| {
         ranked_order(a.rank, a.tag, b.rank, b.tag)
     })
+}
+
+/// Puts the siblings of a long run in the order of their tags, where they can be gathered, and answers whether it has; those with one tag
+/// keep their order. Else they stay as they are. Grows.
+#[inline(always)]
+fn gather_long(alloc: Global, siblings: &mut [RankedSibling<'_>]) -> Result<bool, AllocError>
+    ensures permutation { IsPermutation siblings.old siblings.new }
+    ensures trees { (d : Trees) (used : Bytes → Bool) (edition : AnyEdition) (context : AnyContext) →
+        IfOk result (λ all. IsTrue all → sibling_trees used edition context d siblings.new ≡ grouped (sibling_trees used edition context d siblings.old)) }
+    ensures unchanged { IfOk result (λ all. all ≡ false → siblings.new ≡ siblings.old) }
+{
+    if siblings.len() > SHORT_RUN {
+        return gather_siblings(alloc, siblings);
+    }
+    Ok(false)
+}
+
+/// Puts siblings in the order of their tags; those with one tag keep their order. Takes memory for more than 20.
+fn sort_siblings(alloc: Global, siblings: &mut [RankedSibling<'_>]) -> Result<(), AllocError>
+    ensures permutation { IsPermutation siblings.old siblings.new }
+    ensures trees { (d : Trees) (used : Bytes → Bool) (edition : AnyEdition) (context : AnyContext) →
+        OnOk result (sibling_trees used edition context d siblings.new ≡ grouped (sibling_trees used edition context d siblings.old)) }
+{
+    if gather_long(alloc, siblings)? {
+        return Ok(());
+    }
+    compare_siblings(alloc, siblings)
 }
 
 /// Appends the structures of a run in the order of their tags; those with one tag keep their order. Grows.

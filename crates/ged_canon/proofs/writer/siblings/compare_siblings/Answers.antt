@@ -11,7 +11,7 @@ use Rattle.ged_canon.specs.inner.Siblings.{sibling_structure, sibling_trees}
 use Rattle.ged_canon.proofs.theory.Sorting.{tags_total}
 use Rattle.ged_canon.proofs.writer.StableSort.{a_stable_sort_of_trees}
 use Rattle.ged_canon.proofs.writer.SiblingTrees.{siblings_listed}
-use Rattle.ged_canon.proofs.writer.siblings.sort_siblings.Goals as goal
+use Rattle.ged_canon.proofs.writer.siblings.compare_siblings.Goals as goal
 
 pub returns-clause-trees : goal.returns-clause-trees
 returns-clause-trees c = λ d used edition context.
