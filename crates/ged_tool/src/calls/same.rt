@@ -73,8 +73,8 @@ pub fn same_by(
     compare_to_first(alloc, comparison, first, second)
 }
 
-/// Whether a file may be in a form, as its front tells: a form begins with a byte order mark, which few other files have. It says which
-/// file is put into the form first, and no clause rests on it.
+/// Whether a file may be in a form, as its front tells: a form begins with a byte order mark. It says which file is put into the form
+/// first, and no clause rests on it.
 fn may_be_in_form(bytes: &[u8]) -> bool {
     bytes.starts_with(&[0xEF, 0xBB, 0xBF])
 }
