@@ -50,10 +50,10 @@ pub fn same_as(
 /// the canonical form whether one's document becomes the other's by steps, in the tidy form whether it does by steps at
 /// places, which leave each identifier as it is.
 ///
-/// Each file is put into the form, but for one that is in the form already and is the form of the other, and for two files of equal bytes,
-/// which are judged once. What stands in a file as the form has it is not copied. Answers InFile with the first file's first fault, or
-/// where that file is accepted with the second's, or Memory for the file for which none was found; no other fault. Grows; the
-/// comparison takes no memory.
+/// Each file is put into the form, but for two files of equal bytes, which are judged once, and for a file that is the form of the other:
+/// the first, where that begins with a byte order mark, as a form does, else the second. What stands in a file as the form has it is not
+/// copied. Answers InFile with the first file's first fault, or where that file is accepted with the second's, or Memory for the file
+/// for which none was found; no other fault. Grows; the comparison takes no memory.
 pub fn same_by(
     alloc: Global,
     comparison: Comparison,

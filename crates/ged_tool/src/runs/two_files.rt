@@ -46,7 +46,7 @@ pub fn run_same<R: Source, S: Source, W: Sink>(
 /// and no device have failed. No more than `limit + 1` calls of read are made on each reader, and nothing is written
 /// unless both files are accepted. Memory is taken for both files, or for as many bytes as [`Source::expected`] says of one where these
 /// are more and within the limit, and 131,072 bytes to read each by, for the document and index of one at a time, and for what their forms
-/// have that the files have not; for files that are equal byte for byte no form is made, and none of a file that is the form of the other.
+/// have that the files have not; for files that are equal byte for byte no form is made, and none of a file that [`same_by`] leaves unjudged.
 ///
 /// The outcome is Done where the files are the same and that was written, Different where they are not. Else it is
 /// Failed, and has
