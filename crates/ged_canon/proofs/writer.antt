@@ -1,11 +1,13 @@
 pub mod BriefTests
 pub mod BriefWords
+pub mod DatedRows
 pub mod KeptNames
 pub mod KeptLines
 pub mod NewNames
 pub mod NewNumbers
 pub mod OwnLines
 pub mod Parts
+pub mod PlainLines
 pub mod RankGroups
 pub mod RankOrder
 pub mod Records

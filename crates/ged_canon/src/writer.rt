@@ -5,6 +5,7 @@ pub(crate) mod document;
 pub(crate) mod gathered;
 pub(crate) mod kept;
 pub(crate) mod lines;
+pub(crate) mod numbered;
 pub(crate) mod numbers;
 pub(crate) mod order;
 pub(crate) mod pieced;

@@ -73,22 +73,21 @@ head_and_rest made level name rest head whole first then =
     ap (λ xs. xs ++ 10 ∷ []) (then ∙ ap (λ xs. xs ++ rest) first ∙ append_assoc made (level ++ 32 ∷ name) rest ∙ ap (λ xs. made ++ xs) (append_assoc level (32 ∷ name) rest))
     ∙ append_assoc made (level ++ 32 ∷ (name ++ rest)) (10 ∷ [])
 
--- a line whose value is a pointer to a number, piece by piece
-pub numbered_line : (made level name tag number first second third fourth fifth : Bytes) → first ≡ made ++ (level ++ 32 ∷ name) → second ≡ first ++ tag
-    → third ≡ second ++ (32 ∷ 64 ∷ []) → fourth ≡ third ++ number → fifth ≡ fourth ++ (64 ∷ 10 ∷ [])
-    → fifth ≡ made ++ ((level ++ 32 ∷ (name ++ (tag ++ (32 ∷ 64 ∷ (number ++ 64 ∷ []))))) ++ 10 ∷ [])
-numbered_line made level name tag number first second third fourth fifth a b c d e =
+-- a line whose value is a pointer to a number: its front, and what ends it
+pub numbered_line : (made level name tag digits spelled front : Bytes) → front ≡ made ++ ((level ++ 32 ∷ name) ++ (tag ++ (32 ∷ 64 ∷ 88 ∷ []))) → digits ≡ spelled
+    → front ++ (digits ++ 64 ∷ 10 ∷ []) ≡ made ++ ((level ++ 32 ∷ (name ++ (tag ++ (32 ∷ 64 ∷ 88 ∷ (spelled ++ 64 ∷ []))))) ++ 10 ∷ [])
+numbered_line made level name tag digits spelled front begins told =
     let head = level ++ 32 ∷ name in
-    let end = 64 ∷ 10 ∷ [] in
-    let signed = 32 ∷ 64 ∷ (number ++ 64 ∷ []) in
-    e ∙ ap (λ xs. xs ++ end) (d ∙ ap (λ xs. xs ++ number) (c ∙ ap (λ xs. xs ++ (32 ∷ 64 ∷ [])) (b ∙ ap (λ xs. xs ++ tag) a)))
-    ∙ append_assoc (((made ++ head) ++ tag) ++ (32 ∷ 64 ∷ [])) number end
-    ∙ append_assoc ((made ++ head) ++ tag) (32 ∷ 64 ∷ []) (number ++ end)
-    ∙ append_assoc (made ++ head) tag (32 ∷ 64 ∷ (number ++ end))
-    ∙ append_assoc made head (tag ++ (32 ∷ 64 ∷ (number ++ end)))
+    let sign = 32 ∷ 64 ∷ 88 ∷ [] in
+    let end = spelled ++ 64 ∷ 10 ∷ [] in
+    let signed = 32 ∷ 64 ∷ 88 ∷ (spelled ++ 64 ∷ []) in
+    (λ i. begins i ++ (told i ++ 64 ∷ 10 ∷ []))
+    ∙ append_assoc made (head ++ (tag ++ sign)) end
     ∙ ap (λ xs. made ++ xs)
-    (append_assoc level (32 ∷ name) (tag ++ (32 ∷ 64 ∷ (number ++ end)))
-    ∙ ap (λ xs. level ++ 32 ∷ (name ++ (tag ++ (32 ∷ 64 ∷ xs)))) (sym (append_assoc number (64 ∷ []) (10 ∷ [])))
+    (append_assoc head (tag ++ sign) end
+    ∙ ap (λ xs. head ++ xs) (append_assoc tag sign end)
+    ∙ append_assoc level (32 ∷ name) (tag ++ (32 ∷ 64 ∷ 88 ∷ end))
+    ∙ ap (λ xs. level ++ 32 ∷ (name ++ (tag ++ (32 ∷ 64 ∷ 88 ∷ xs)))) (sym (append_assoc spelled (64 ∷ []) (10 ∷ [])))
     ∙ ap (λ xs. level ++ 32 ∷ (name ++ xs)) (sym (append_assoc tag signed (10 ∷ [])))
     ∙ ap (λ xs. level ++ 32 ∷ xs) (sym (append_assoc name (tag ++ signed) (10 ∷ [])))
     ∙ sym (append_assoc level (32 ∷ (name ++ (tag ++ signed))) (10 ∷ [])))

@@ -1,8 +1,9 @@
 -- Nothing here need be believed: only private contracts and proofs cite it.
 -- The structures of a document as the canonical form spells them, and what it is to write them; only private functions cite this.
-use Rattle.std.specs.Prelude.{◌≡◌, ℕ, ◌+◌, ◌<◌, ◌≤◌, ◌++◌, true, List, length, Option, option_map, Result, OnOk}
+use Rattle.std.specs.Prelude.{◌≡◌, ℕ, ◌+◌, ◌<◌, ◌≤◌, ◌++◌, Bool, true, ◌||◌, List, length, Option, option_map, Result, OnOk, codes}
 use Rattle.std.specs.Option.{option_copied}
 use Rattle.std.specs.List.{list_all}
+use Rattle.std.specs.Str.{bytes_eq}
 use denote.Ref.{Bor}
 use Rattle.ged_line.specs.Bytes.{Bytes}
 use Rattle.ged_line.specs.Characters.{is_plain}
@@ -29,6 +30,10 @@ use Rattle.ged_canon.specs.inner.Working.{brief, sorted, number_of, IsNumberingO
 -- the row that a rule is, where there is one
 abbrev pub row_of : Option (Bor Rule) → Option Row
 row_of rule = option_map as_row (option_copied rule)
+
+-- a payload with this tag may begin with the name of a calendar, in some context
+abbrev pub may_be_dated : Bytes → Bool
+may_be_dated tag = bytes_eq tag (codes "DATE") || bytes_eq tag (codes "SDATE")
 
 -- the structure of a document at a sibling's place, with the sibling's tag, this identifier, and what is left of its payload
 -- at a place with this row

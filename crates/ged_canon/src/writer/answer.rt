@@ -13,10 +13,10 @@ ghost use Rattle.ged_canon.specs.Normal.{numbered as spells_number};
 
 use crate::spelled::SpelledForm;
 use crate::writer::kept::{kept_cont, kept_line};
+use crate::writer::numbered::push_pointer;
 use crate::writer::pieced::Pieced;
 use ged_line::{ValueView, write_head, write_parts};
 use ged_tree::FurtherLines;
-use itoa::Buffer;
 use std::alloc::{AllocError, Global};
 use std::marker::Model;
 use std::mem;
@@ -29,19 +29,6 @@ pub(crate) fn text_value(text: &str) -> ValueView<'_>
         return ValueView::Empty;
     }
     ValueView::Text(text)
-}
-
-/// Appends X and the digits of a number. After an `Err` the vector is no shorter than before; what then stands in it no clause says.
-#[inline(always)]
-fn push_number(number: usize, out: &mut Vec<u8>) -> Result<(), AllocError>
-    requires { 0 < number }
-    ensures ok { OnOk result (out.new.items ≡ out.old.items ++ spells_number number) }
-    ensures kept { length out.old.items ≤ length out.new.items }
-{
-    let mut buffer = Buffer::new();
-    out.push(b'X')?;
-    out.extend_from_slice(buffer.format(number).as_bytes())?;
-    Ok(())
 }
 
 /// The bytes that are written so far. All that a writer writes is appended here, a line with each call. Lines that stand in the
@@ -185,13 +172,7 @@ impl<'f> Answer<'f> {
     {
         let start = mem::replace(&mut self.start, self.end);
         self.pieced.place(self.file, start, self.end)?;
-        let made = &mut self.pieced.made;
-        write_head(level, xref, made)?;
-        made.extend_from_slice(tag.as_bytes())?;
-        made.extend_from_slice(b" @")?;
-        push_number(number, made)?;
-        made.extend_from_slice(b"@\n")?;
-        Ok(())
+        push_pointer(level, xref, tag, number, &mut self.pieced.made)
     }
 
     /// Appends a line whose value is a pointer with this name. A function of its own, so that the common path need not clear the

@@ -1,22 +1,25 @@
 // A structure's own line in its canonical spelling.
-ghost use Rattle.std.specs.Prelude.{◌≡◌, ◌<◌, ◌++◌, ◌∷◌, [], OnOk, IsTrue, true, false, string_bytes, ◌↔◌, Some};
+ghost use Rattle.std.specs.Prelude.{◌≡◌, ◌<◌, ◌==◌, ◌++◌, ◌∷◌, ◌⊎◌, [], List, IfOk, OnOk, IsTrue, true, false, string_bytes, ◌↔◌, None, Some};
+ghost use Rattle.std.specs.List.{list_any};
 ghost use Rattle.std.specs.Option.{option_copied};
 ghost use Rattle.ged_line.specs.Bytes.{Bytes, line_feed};
 ghost use Rattle.ged_line.specs.Lines.{Pointer, is_line, line_parts};
 ghost use Rattle.ged_line.specs.Spelling.{spelling, spelled_lines};
 ghost use Rattle.ged_tree.specs.Trees.{trees_count};
 ghost use Rattle.ged_tree.specs.declared.payload.Payload.TheVariants.{Pointer as PointerPayload};
-ghost use Rattle.ged_tree.specs.DocumentLines.{line_value, first_value};
+ghost use Rattle.ged_tree.specs.DocumentLines.{line_value, first_value, structure_lines};
 ghost use Rattle.ged_tree.specs.Laws.{own_line};
 ghost use Rattle.ged_tree.specs.Places.{structure_at};
 ghost use Rattle.ged_tree.specs.Views.{is_pointer};
 ghost use Rattle.ged_tree.specs.inner.Walks.{HasLinesAt};
 ghost use Rattle.ged_schema.specs.Rows.{as_row};
+ghost use Rattle.ged_schema.specs.Tables.{row};
+ghost use Rattle.ged_canon.specs.declared.edition.Edition.TheVariants.{First};
 ghost use Rattle.ged_canon.specs.Steps.{renamed_payload};
 ghost use Rattle.ged_canon.specs.Normal.{IsBriefPayload, numbered as spells_number};
 ghost use Rattle.ged_canon.specs.inner.Siblings.{StandsIn};
-ghost use Rattle.ged_canon.specs.inner.Working.{brief, brief_line as spells_brief};
-ghost use Rattle.ged_canon.specs.inner.Writing.{row_of, brief_sibling, renamed_sibling, Writes};
+ghost use Rattle.ged_canon.specs.inner.Working.{brief, brief_line as spells_brief, number_of, IsNumberingOf};
+ghost use Rattle.ged_canon.specs.inner.Writing.{may_be_dated as tests_dated, row_of, brief_sibling, renamed_sibling, Writes};
 
 use crate::edition::Edition;
 use crate::writer::answer::{Answer, text_value};
@@ -25,7 +28,7 @@ use crate::writer::numbers::{is_kept_name, new_number_at};
 use crate::writer::plan::{Plan, Work, Writer};
 use crate::writer::siblings::Sibling;
 use ged_line::ValueView;
-use ged_schema::Rule;
+use ged_schema::{ContextRows, Rule};
 use ged_tree::{Forest, PayloadView};
 use itoa::Buffer;
 use std::alloc::AllocError;
@@ -50,6 +53,27 @@ fn is_found_brief<F: Forest>(forest: &F, edition: Edition, rule: &Rule, place: u
     ensures { IsTrue result ↔ IsBriefPayload edition (Some (as_row rule.now)) (structure_at (F.trees forest.now) place).payload }
 {
     is_brief_at(forest, edition, rule, place)
+}
+
+/// Whether a tag is one of the two at which a payload may begin with the name of a calendar.
+#[inline(always)]
+fn may_be_dated(tag: &str) -> bool
+    ensures { result ≡ tests_dated tag.now }
+{
+    tag == "DATE" || tag == "SDATE"
+}
+
+/// Whether the edition leaves out nothing in a line with this tag, whatever the context: in the first one only the name of a calendar is left
+/// out, and that has a G.
+#[inline(always)]
+fn is_plain_line(edition: Edition, tag: &str, line: &str) -> bool
+    ensures first { IsTrue result → edition ≡ First }
+    ensures plain { IsTrue result → (tests_dated tag.now ≡ false) ⊎ (list_any (λ b. b == 71) line.now ≡ false) }
+{
+    match edition {
+        Edition::Second => false,
+        Edition::First => !may_be_dated(tag) || !line.as_bytes().contains(&b'G'),
+    }
 }
 
 /// Whether nothing can be left out in the payload of the structure at a place with this rule. Most kinds tell it, and the
@@ -178,6 +202,40 @@ impl<F: Forest> Writer<'_, '_, F> {
                     .write_text(rule, level, xref, sibling.tag, line, answer)
             }
         }
+    }
+
+    /// Appends the own line of a structure without an identifier, where it is told without the row of its context: that of a pointer, and in the
+    /// first edition the only line of any other payload, if it stays as it is at all places. It answers whether it has; else nothing is
+    /// appended.
+    #[inline(always)]
+    pub(crate) fn write_at_once(
+        &self,
+        rows: &ContextRows,
+        level: u8,
+        sibling: Sibling<'_>,
+        work: &mut Work<'_, '_>,
+    ) -> Result<bool, AllocError>
+        requires within { StandsIn (F.trees self.now.forest.now) sibling }
+        requires stands { HasLinesAt level (brief_sibling self.now.plan.edition (row rows.now sibling.tag.now) None (F.trees self.now.forest.now) sibling) }
+        ensures kept { IfOk result (λ _. work.new.siblings.items ≡ work.old.siblings.items) }
+        ensures lines { (names : List Bytes) → IsNumberingOf (F.trees self.now.forest.now) names self.now.plan.index.now self.now.plan.numbers.now → IfOk result (λ all. IsTrue all → work.new.answer ≡ work.old.answer
+            ++ spelled_lines (structure_lines level (renamed_sibling (number_of 1 names) self.now.plan.edition (row rows.now sibling.entry.tag.now) None (F.trees self.now.forest.now) sibling.entry))) }
+        ensures left { IfOk result (λ all. all ≡ false → work.new.answer ≡ work.old.answer) }
+    {
+        let Some(line) = self.forest.own_line(sibling.place) else {
+            return Ok(false);
+        };
+        if line.points {
+            self.write_reference(level, None, sibling, work)?;
+            return Ok(true);
+        }
+        let stays = is_plain_line(self.plan.edition, line.tag, line.rest);
+        if !stays || self.forest.further(sibling.place) > 0 {
+            return Ok(false);
+        }
+        let start = Some(line.start);
+        work.answer.push_rest(level, None, line.rest, start)?;
+        Ok(true)
     }
 
     /// Appends the own line of a structure at a place with this rule. Where nothing in it changes it is appended as it stands, if the

@@ -1,9 +1,10 @@
 // The canonical spelling of a document's structures, written from the document itself.
-ghost use Rattle.std.specs.Prelude.{◌≡◌, ◌++◌, OnOk};
+ghost use Rattle.std.specs.Prelude.{◌≡◌, ◌++◌, None, OnOk};
 ghost use Rattle.std.specs.Option.{option_copied};
 ghost use Rattle.ged_line.specs.Spelling.{spelled_lines};
 ghost use Rattle.ged_tree.specs.DocumentLines.{structure_lines};
 ghost use Rattle.ged_tree.specs.inner.Walks.{HasLinesAt};
+ghost use Rattle.ged_schema.specs.Tables.{row};
 ghost use Rattle.ged_canon.specs.inner.Siblings.{StandsIn};
 ghost use Rattle.ged_canon.specs.inner.Writing.{row_of, brief_sibling, renamed_sibling, sibling_lines, run_lines, further_at, CanWriteFurther, CanWriteTree, CanWriteRun, Writes};
 
@@ -77,9 +78,10 @@ impl<'a, F: Forest> Writer<'a, '_, F> {
         self.write_further(sibling.place, level, &mut work.answer)
     }
 
-    /// Appends the lines of a structure at a place with this rule, and of what stands below it, up to the place `end`.
+    /// Appends the lines of a structure at a place with this rule, and of what stands below it, up to the place `end`. A function
+    /// of its own, so that the usual path of [`Writer::write_sibling`] stays short.
     #[cycle(trees)]
-    #[inline(always)]
+    #[inline(never)]
     pub(crate) fn write_tree(
         &self,
         rule: Option<&Rule>,
@@ -100,6 +102,33 @@ impl<'a, F: Forest> Writer<'a, '_, F> {
             return Ok(());
         }
         self.write_run(context_below(rule), level + 1, start, end, work)
+    }
+
+    /// The same for a structure without an identifier that stands among the rows of its context. Its row is looked up where it matters.
+    #[cycle(trees)]
+    #[inline(always)]
+    fn write_sibling(
+        &self,
+        rows: &ContextRows,
+        level: u8,
+        sibling: Sibling<'_>,
+        end: usize,
+        work: &mut Work<'a, '_>,
+    ) -> Result<(), AllocError>
+        requires { CanWriteTree self.now.plan.edition (row rows.now sibling.tag.now) level None (F.trees self.now.forest.now) sibling end }
+        ensures kept { OnOk result (work.new.siblings.items ≡ work.old.siblings.items) }
+        ensures lines { Writes (F.trees self.now.forest.now) self.now.plan result work.old.answer work.new.answer
+            (λ new. sibling_lines new self.now.plan.edition (row rows.now sibling.entry.tag.now) level None (F.trees self.now.forest.now) sibling.entry) }
+    {
+        if !self.write_at_once(rows, level, sibling, work)? {
+            return self.write_tree(rows.row(sibling.tag), level, None, sibling, end, work);
+        }
+        let start = sibling.place + 1;
+        if start >= end {
+            return Ok(());
+        }
+        let below = context_below(rows.row(sibling.tag));
+        self.write_run(below, level + 1, start, end, work)
     }
 
     /// Appends the lines of the structures of a run that stand in a context, and of what stands below them, in the order of
@@ -128,8 +157,7 @@ impl<'a, F: Forest> Writer<'a, '_, F> {
                 tag: self.forest.tag(place),
                 place,
             };
-            let rule = rows.row(sibling.tag);
-            self.write_tree(rule, level, None, sibling, after, work)?;
+            self.write_sibling(&rows, level, sibling, after, work)?;
             place = after;
         }
         Ok(())
@@ -161,9 +189,8 @@ impl<'a, F: Forest> Writer<'a, '_, F> {
                 tag: ranked.tag,
                 place: ranked.place,
             };
-            let rule = rows.row(sibling.tag);
             let after = self.forest.after(sibling.place);
-            self.write_tree(rule, level, None, sibling, after, work)?;
+            self.write_sibling(&rows, level, sibling, after, work)?;
             number += 1;
         }
         work.siblings.truncate(base);

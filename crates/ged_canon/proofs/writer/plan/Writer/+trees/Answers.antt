@@ -17,7 +17,7 @@ use Rattle.ged_canon.specs.declared.writer.siblings.Sibling.{Sibling}
 use Rattle.ged_canon.specs.Steps.{renamed}
 use Rattle.ged_canon.specs.inner.Working.{used_xref, number_of, sorted, each_sorted}
 use Rattle.ged_canon.specs.inner.Siblings.{sibling_trees, unranked, StandsRanked}
-use Rattle.ged_canon.specs.inner.Writing.{brief_sibling, renamed_sibling}
+use Rattle.ged_canon.specs.inner.Writing.{brief_sibling, renamed_sibling, CanWriteTree}
 use Rattle.ged_canon.proofs.writer.SiblingTrees.{below_step}
 use Rattle.ged_canon.proofs.writer.RunsWritten.{tree_lines, written_below, written_all, first_stands, below_stands, rest_stands, next_told, next_left, all_listed, in_order_sorted, run_first}
 use Rattle.ged_canon.proofs.writer.plan.Writer.+trees.Goals as goal
@@ -68,6 +68,57 @@ write_tree-returns-then-start-end-clause-lines g t c = λ names h.
     ∙ ap (λ ls. c.args.work.now.answer ++ spelled_lines ls) (sym (append-nil own))
     ∙ ap (λ t. c.args.work.now.answer ++ spelled_lines (own ++ lines_of (c.args.level + 1) (renamed new (sorted edition (below_row r) t)))) (sym leaf)
 
+-- The same, among the rows of a context.
+
+pub write_sibling-overflow_add-start : goal.write_sibling-overflow_add-start
+write_sibling-overflow_add-start g t c = omega (arith, c.requires.run.fills, c.ranges.end.fits)
+
+pub write_sibling-write_tree-requires : goal.write_sibling-write_tree-requires
+write_sibling-write_tree-requires g t c κs within =
+    let d = g.F.Forest.trees c.args.self.now.forest.now in
+    let edition = c.args.self.now.plan.edition in
+    (omega (arith, c.decreases), (within, subst (λ r. CanWriteTree edition r c.args.level None d c.args.sibling c.args.end) (sym c.row.ensures) c.requires))
+
+pub write_sibling-write_run-requires : goal.write_sibling-write_run-requires
+write_sibling-write_run-requires g t c κs within =
+    let low = c.requires.stands.shallow in (
+      omega (arith, c.decreases, low),
+      (
+        within,
+        record {
+          document = c.requires.document;
+          run = c.requires.run;
+          deep = omega arith;
+          stand = (λ i. are_at (c.args.level + 1) (sorted c.args.self.now.plan.edition ((c.context_below-below.ensures ∙ ap below_row c.row-2.ensures) i) (c.requires.deeper i))) ∙ c.requires.below;
+        },
+      ),
+    )
+
+pub write_sibling-returns-clause-lines : goal.write_sibling-returns-clause-lines
+write_sibling-returns-clause-lines g t c = λ names h.
+    let d = g.F.Forest.trees c.args.self.now.forest.now in
+    let edition = c.args.self.now.plan.edition in
+    let new = number_of 1 names in
+    let r = row c.args.rows.now c.args.sibling.tag.now in
+    let own = structure_lines c.args.level (renamed_sibling new edition r None d c.args.sibling) in
+    subst (λ text. OnOk c.write_run.result (c.write_run.new.work.answer ≡ text))
+    ((λ i. c.write_at_once.new.work.answer ++ spelled_lines (lines_of (c.args.level + 1) (renamed new (sorted edition ((c.context_below-below.ensures ∙ ap below_row c.row-2.ensures) i) (c.requires.deeper i)))))
+    ∙ written_below c.args.work.now.answer c.write_at_once.new.work.answer own (lines_of (c.args.level + 1) (renamed new (sorted edition (below_row r) (below_at d c.args.sibling.place)))) (c.in_ok-write_at_once.ensures.lines names h c.if-not-branch.false))
+    (c.write_run.ensures.lines names h)
+
+pub write_sibling-returns-then-start-end-clause-lines : goal.write_sibling-returns-then-start-end-clause-lines
+write_sibling-returns-then-start-end-clause-lines g t c = λ names h.
+    let d = g.F.Forest.trees c.args.self.now.forest.now in
+    let place = c.args.sibling.place in
+    let edition = c.args.self.now.plan.edition in
+    let new = number_of 1 names in
+    let r = row c.args.rows.now c.args.sibling.tag.now in
+    let leaf : below_at d place ≡ none = sym c.requires.deeper ∙ run_ends d (place + 1) c.args.end (omega arith) in
+    let own = structure_lines c.args.level (renamed_sibling new edition r None d c.args.sibling) in
+    c.in_ok-write_at_once.ensures.lines names h c.if-not-branch.false
+    ∙ ap (λ ls. c.args.work.now.answer ++ spelled_lines ls) (sym (append-nil own))
+    ∙ ap (λ t. c.args.work.now.answer ++ spelled_lines (own ++ lines_of (c.args.level + 1) (renamed new (sorted edition (below_row r) t)))) (sym leaf)
+
 -- A run that is in order.
 
 pub write_run-loop-after-init : goal.write_run-loop-after-init
@@ -83,13 +134,13 @@ write_run-loop-after-init g t c =
       told = λ names h. ap (λ left. c.args.work.now.answer ++ spelled_lines (lines_of c.args.level (renamed (number_of 1 names) left))) same;
     }
 
-pub write_run-write_tree-requires : goal.write_run-write_tree-requires
-write_run-write_tree-requires g t c κs within =
+pub write_run-write_sibling-requires : goal.write_run-write_sibling-requires
+write_run-write_sibling-requires g t c κs within =
     let d = g.F.Forest.trees c.args.self.now.forest.now in
     let edition = c.args.self.now.plan.edition in
     let place = c.loop-after.place in
     let sibling : Sibling = record { tag = c.tag.result; place = place } in
-    let rule : option_map as_row (option_copied c.row-rule.result) ≡ row c.args.context sibling.tag.now = c.row-rule.ensures ∙ ap (λ k. row k sibling.tag.now) c.of-rows.ensures in
+    let rule : row c.of-rows.result sibling.tag.now ≡ row c.args.context sibling.tag.now = ap (λ k. row k sibling.tag.now) c.of-rows.ensures in
     let x = (structure_at d place).xref in
     let all = each_sorted edition c.args.context (trees_between d place c.args.end) in
     let rest = each_sorted edition c.args.context (trees_between d c.in-Some.after c.args.end) in
@@ -116,18 +167,18 @@ write_run-loop-after-preserved g t c =
     let edition = c.args.self.now.plan.edition in
     let place = c.loop-after.place in
     let sibling : Sibling = record { tag = c.tag.result; place = place } in
-    let rule : option_map as_row (option_copied c.row-rule.result) ≡ row c.args.context sibling.tag.now = c.row-rule.ensures ∙ ap (λ k. row k sibling.tag.now) c.of-rows.ensures in
+    let rule : row c.of-rows.result sibling.tag.now ≡ row c.args.context sibling.tag.now = ap (λ k. row k sibling.tag.now) c.of-rows.ensures in
     let x = (structure_at d place).xref in
     let all = each_sorted edition c.args.context (trees_between d place c.args.end) in
     let rest = each_sorted edition c.args.context (trees_between d c.in-Some.after c.args.end) in
     let is = run_first edition c.args.context d place c.args.end c.in-Some.after sibling c.loop-after.invariant.run c.in-Some.ensures refl c.tag.ensures in
     record {
       run = c.in-Some.ensures.rest;
-      kept = c.in_ok-write_tree.ensures.kept ∙ c.loop-after.invariant.kept;
+      kept = c.in_ok-write_sibling.ensures.kept ∙ c.loop-after.invariant.kept;
       stand = rest_stands edition c.args.context d c.args.level sibling x all rest is c.requires.deep c.loop-after.invariant.stand;
       told = λ names h. next_told edition c.args.context d c.args.level sibling x all rest is c.requires.deep c.loop-after.invariant.stand (number_of 1 names)
           (c.args.work.now.answer ++ spelled_lines (lines_of c.args.level (renamed (number_of 1 names) (sorted edition c.args.context (trees_between d c.args.start c.args.end)))))
-          c.loop-after.work.answer c.write_tree.new.work.answer (c.in_ok-write_tree.ensures.lines names h ∙ ap (λ bytes. c.loop-after.work.answer ++ bytes) (tree_lines (number_of 1 names) edition None d sibling c.args.level _ (row c.args.context sibling.tag.now) rule)) (c.loop-after.invariant.told names h);
+          c.loop-after.work.answer c.write_sibling.new.work.answer (c.in_ok-write_sibling.ensures.lines names h ∙ ap (λ bytes. c.loop-after.work.answer ++ bytes) (tree_lines (number_of 1 names) edition None d sibling c.args.level _ (row c.args.context sibling.tag.now) rule)) (c.loop-after.invariant.told names h);
     }
 
 pub write_run-returns-clause-lines : goal.write_run-returns-clause-lines
@@ -158,15 +209,15 @@ write_sorted-loop-number-init g t c =
       told = λ names h. ap (λ left. c.args.work.now.answer ++ spelled_lines (lines_of c.args.level (renamed (number_of 1 names) left))) whole;
     }
 
-pub write_sorted-write_tree-requires : goal.write_sorted-write_tree-requires
-write_sorted-write_tree-requires g t c κs within =
+pub write_sorted-write_sibling-requires : goal.write_sorted-write_sibling-requires
+write_sorted-write_sibling-requires g t c κs within =
     let d = g.F.Forest.trees c.args.self.now.forest.now in
     let edition = c.args.self.now.plan.edition in
     let items = c.loop-number.work.siblings.items in
     let at = c.loop-number.number in
     let ranked = c.index-ranked.result.now in
     let sibling = unranked ranked in
-    let rule : option_map as_row (option_copied c.row-rule.result) ≡ row c.args.context sibling.tag.now = c.row-rule.ensures ∙ ap (λ k. row k sibling.tag.now) c.of-rows.ensures in
+    let rule : row c.of-rows.result sibling.tag.now ≡ row c.args.context sibling.tag.now = ap (λ k. row k sibling.tag.now) c.of-rows.ensures in
     let x = used_xref (λ name. true) (structure_at d sibling.place).xref in
     let listed = next_left items at ranked (omega arith) c.index-ranked.ensures in
     let all = sibling_trees (λ name. true) edition c.args.context d (drop at items) in
@@ -194,17 +245,17 @@ write_sorted-loop-number-preserved g t c =
     let d = g.F.Forest.trees c.args.self.now.forest.now in
     let edition = c.args.self.now.plan.edition in
     let items = c.loop-number.work.siblings.items in
-    let now = c.write_tree.new.work.siblings.items in
+    let now = c.write_sibling.new.work.siblings.items in
     let at = c.loop-number.number in
     let ranked = c.index-ranked.result.now in
     let sibling = unranked ranked in
-    let rule : option_map as_row (option_copied c.row-rule.result) ≡ row c.args.context sibling.tag.now = c.row-rule.ensures ∙ ap (λ k. row k sibling.tag.now) c.of-rows.ensures in
+    let rule : row c.of-rows.result sibling.tag.now ≡ row c.args.context sibling.tag.now = ap (λ k. row k sibling.tag.now) c.of-rows.ensures in
     let x = used_xref (λ name. true) (structure_at d sibling.place).xref in
     let listed = next_left items at ranked (omega arith) c.index-ranked.ensures in
     let all = sibling_trees (λ name. true) edition c.args.context d (drop at items) in
     let rest = sibling_trees (λ name. true) edition c.args.context d (drop (at + 1) items) in
     let is = ap (sibling_trees (λ name. true) edition c.args.context d) listed in
-    let same : now ≡ items = c.in_ok-write_tree.ensures.kept in
+    let same : now ≡ items = c.in_ok-write_sibling.ensures.kept in
     record {
       kept = ap (take c.len-base.result) same ∙ c.loop-number.invariant.kept;
       within = subst (λ (xs : List RankedSibling). AllByRecursion (StandsRanked d) (drop (at + 1) xs)) (sym same)
@@ -212,10 +263,10 @@ write_sorted-loop-number-preserved g t c =
       stand = ap (λ (xs : List RankedSibling). are_at c.args.level (sibling_trees (λ name. true) edition c.args.context d (drop (at + 1) xs))) same
           ∙ rest_stands edition c.args.context d c.args.level sibling x all rest is c.requires.deep c.loop-number.invariant.stand;
       told = λ names h.
-          ap (λ (xs : List RankedSibling). c.write_tree.new.work.answer ++ spelled_lines (lines_of c.args.level (renamed (number_of 1 names) (sibling_trees (λ name. true) edition c.args.context d (drop (at + 1) xs))))) same
+          ap (λ (xs : List RankedSibling). c.write_sibling.new.work.answer ++ spelled_lines (lines_of c.args.level (renamed (number_of 1 names) (sibling_trees (λ name. true) edition c.args.context d (drop (at + 1) xs))))) same
           ∙ next_told edition c.args.context d c.args.level sibling x all rest is c.requires.deep c.loop-number.invariant.stand (number_of 1 names)
           (c.args.work.now.answer ++ spelled_lines (lines_of c.args.level (renamed (number_of 1 names) (sorted edition c.args.context (trees_between d c.args.start c.args.end)))))
-          c.loop-number.work.answer c.write_tree.new.work.answer (c.in_ok-write_tree.ensures.lines names h ∙ ap (λ bytes. c.loop-number.work.answer ++ bytes) (tree_lines (number_of 1 names) edition None d sibling c.args.level _ (row c.args.context sibling.tag.now) rule)) (c.loop-number.invariant.told names h);
+          c.loop-number.work.answer c.write_sibling.new.work.answer (c.in_ok-write_sibling.ensures.lines names h ∙ ap (λ bytes. c.loop-number.work.answer ++ bytes) (tree_lines (number_of 1 names) edition None d sibling c.args.level _ (row c.args.context sibling.tag.now) rule)) (c.loop-number.invariant.told names h);
     }
 
 pub write_sorted-returns-clause-lines : goal.write_sorted-returns-clause-lines
