@@ -40,6 +40,7 @@ check_forms() {
     head -c -1 "$form" >"$room/form-without-end.ged"
     sed 's/$/\r/' "$form" >"$room/form-with-returns.ged"
     { cat "$form"; echo '1 NOTE'; } >"$room/form-and-more.ged"
+    { printf "$mark"; cat "$one"; } >"$room/one-with-mark.ged"
     put marked-open.ged "${mark}0 HEAD\n"
     behind=$(($(wc -l <"$form") + 1))
     expect "a file and its canonical form" 0 "same\n" "" ./gedtool same "$one" "$form"
@@ -50,6 +51,10 @@ check_forms() {
     expect "a file and its tidy form" 0 "same\n" "" ./gedtool same "$one" "$tidy"
     expect "a file and its tidy form, where names count" 0 "same\n" "" ./gedtool same --keep-names "$one" "$tidy"
     expect "a tidy form and its file, where names count" 0 "same\n" "" ./gedtool same --keep-names "$tidy" "$one"
+    expect "a file with a mark and its canonical form" 0 "same\n" "" ./gedtool same "$room/one-with-mark.ged" "$form"
+    expect "a canonical form and its file with a mark" 0 "same\n" "" ./gedtool same "$form" "$room/one-with-mark.ged"
+    expect "a file with a mark and its tidy form, where names count" 0 "same\n" "" \
+        ./gedtool same --keep-names "$room/one-with-mark.ged" "$tidy"
     expect "a file and another's canonical form" 1 "different\n" "" ./gedtool same "$another" "$form"
     expect "a canonical form and another file" 1 "different\n" "" ./gedtool same "$form" "$another"
     expect "a canonical form with a line more" 1 "" "second file: fault 14 at line $behind: TrailerNotEmpty" \

@@ -11,8 +11,12 @@ use crate::comparison::{Comparison, Form};
 use crate::settings::Settings;
 use ged_canon::{Edition, SpelledForm};
 use ged_faults::{Fault, Which};
+use ged_line::split_pieces;
 use ged_schema::Profile;
 use std::alloc::Global;
+
+/// How many bytes of a file tell whether its records are numbered as those of a form.
+const FRONT: usize = 65_536;
 
 /// Why two files are not compared: what is wrong with one of them.
 #[derive(Clone, Copy, PartialEq, Eq, Debug)]
@@ -51,9 +55,10 @@ pub fn same_as(
 /// places, which leave each identifier as it is.
 ///
 /// Each file is put into the form, but for two files of equal bytes, which are judged once, and for a file that is the form of the other:
-/// the first, where that begins with a byte order mark, as a form does, else the second. What stands in a file as the form has it is not
-/// copied. Answers InFile with the first file's first fault, or where that file is accepted with the second's, or Memory for the file
-/// for which none was found; no other fault. Grows; the comparison takes no memory.
+/// the first, where that may be a form by its front, else the second. What stands in a file as the form has it is not copied.
+///
+/// Answers InFile with the first file's first fault, or where that file is accepted with the second's, or Memory for the file for which
+/// none was found; no other fault. Grows; the comparison takes no memory.
 pub fn same_by(
     alloc: Global,
     comparison: Comparison,
@@ -67,16 +72,32 @@ pub fn same_by(
     if are_equal(first, second) {
         return is_as_its_copy(alloc, comparison, first);
     }
-    if may_be_in_form(first) {
+    if may_be_form_of(first, second) {
         return compare_to_second(alloc, comparison, first, second);
     }
     compare_to_first(alloc, comparison, first, second)
 }
 
-/// Whether a file may be in a form, as its front tells: a form begins with a byte order mark. It says which file is put into the form
-/// first, and no clause rests on it.
-fn may_be_in_form(bytes: &[u8]) -> bool {
+/// Whether the first file may be the form of the second rather than the other way round, as their fronts tell: a form begins with a byte
+/// order mark, and where both do, the records of a canonical form are numbered. It says which file is put into the form first, and no
+/// clause rests on it.
+fn may_be_form_of(first: &[u8], second: &[u8]) -> bool {
+    begins_with_mark(first)
+        && (!begins_with_mark(second) || is_numbered(first) || !is_numbered(second))
+}
+
+fn begins_with_mark(bytes: &[u8]) -> bool {
     bytes.starts_with(&[0xEF, 0xBB, 0xBF])
+}
+
+/// Whether a record near the front of a file has the first identifier of a canonical form.
+fn is_numbered(bytes: &[u8]) -> bool {
+    for line in split_pieces(&bytes[..bytes.len().min(FRONT)]) {
+        if line.starts_with(b"0 @X1@ ") {
+            return true;
+        }
+    }
+    false
 }
 
 /// One of the two files in the form of a comparison, or why it is not compared.
