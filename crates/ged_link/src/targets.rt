@@ -91,13 +91,24 @@ const NEAR: usize = 32;
 fn move_near(targets: &[Target], place: usize, cursor: &mut PointerCursor)
     ensures { cursor.old.next ≤ cursor.new.next + 32 }
 {
-    let start = cursor.next.saturating_sub(NEAR);
     let end = targets.len().min(cursor.next.saturating_add(NEAR));
-    if let Some(near) = targets.get(start..end) {
-        let passed = near.partition_point(|target: &Target| -> bool {
-            (target.place as usize) < place
-        });
-        cursor.next = start.saturating_add(passed);
+    if let Some(ahead) = targets.get(cursor.next..end) {
+        let passed = ahead
+            .iter()
+            .position(|target: &Target| (target.place as usize) >= place)
+            .unwrap_or(ahead.len());
+        if passed > 0 {
+            cursor.next = cursor.next.saturating_add(passed);
+            return;
+        }
+    }
+    let start = cursor.next.saturating_sub(NEAR);
+    if let Some(behind) = targets.get(start..cursor.next) {
+        let left = behind
+            .iter()
+            .rposition(|target: &Target| (target.place as usize) < place)
+            .map_or(0, |last: usize| last + 1);
+        cursor.next = start.saturating_add(left);
     }
 }
 

@@ -2,7 +2,7 @@
 use Rattle.std.proofs.Common.{◌≡◌, ℕ, ◌+◌, Bool, true, false, cond, List, [], ◌∷◌, ◌++◌, map, Option, None, length, refl, sym, ap, ◌∙◌, ◌⊎◌, inl, inr, codes, decimal, arith}
 use Rattle.std.specs.Prelude.{◌==◌, ◌||◌}
 use Rattle.std.specs.List.{list_any}
-use Rattle.std.proofs.lemmas.Bool.{or_parts, true≢false}
+use Rattle.std.proofs.lemmas.Bool.{or_parts}
 use Rattle.ged_line.specs.Bytes.{Bytes}
 use Rattle.ged_line.specs.Lines.{LineParts, line_parts}
 use Rattle.ged_line.specs.Spelling.{value_part, spelled_lines}
@@ -82,8 +82,3 @@ module _ (edition : Edition) (r : Option Row) (new : Bytes → Bytes) (level : �
       ap (λ x. (decimal level ++ 32 ∷ x) ++ 10 ∷ []) is
       ∙ ap (λ further. spelled_lines (line_parts level None tag (first_value p) ∷ map (λ line. line_parts (level + 1) None (codes "CONT") (line_value line)) further)) (sym (nothing (further_lines p) few))
       ∙ ap (λ q. spelled_lines (lines_with q)) (sym (ap (renamed_payload new) same ∙ value_kept new p value))
-
-  pub pointer_line : (p : Payload) → is_pointer p ≡ true → line_parts level None tag (first_value (renamed_payload new p)) ∷ [] ≡ lines_with (renamed_payload new (brief edition r p))
-  pointer_line Void h = absurd (true≢false (sym h))
-  pointer_line (Pointer name) h = refl
-  pointer_line (Text lines) h = absurd (true≢false (sym h))

@@ -1,6 +1,7 @@
 -- The lines of the structures of a run, and of what stands below them.
 use Rattle.std.proofs.Common.{◌≡◌, ℕ, ◌+◌, ◌<◌, true, false, ◌&&◌, List, [], ◌∷◌, ◌++◌, Option, Some, None, length, drop, get_or, refl, sym, ap, ◌∙◌, subst, append_assoc, append-nil, arith}
 use Rattle.std.specs.Prelude.{◌==◌}
+use denote.Ref.{Bor}
 use Rattle.std.proofs.lemmas.List.{drop_more}
 use Rattle.std.proofs.lemmas.Bool.{and_parts, true≢false}
 use Rattle.std.proofs.lemmas.Bool.Decides.{nat_tests}
@@ -23,12 +24,12 @@ use Rattle.ged_canon.proofs.theory.Orders.{tags_of_order}
 use Rattle.ged_canon.specs.declared.edition.Edition.{Edition}
 use Rattle.ged_canon.specs.declared.writer.rank.RankedSibling.{RankedSibling}
 use Rattle.ged_canon.specs.declared.writer.siblings.Sibling.{Sibling}
-use Rattle.ged_canon.specs.Steps.{renamed}
+use Rattle.ged_canon.specs.Steps.{renamed_payload, renamed}
 use Rattle.ged_canon.specs.inner.StepParts.{with_identifier}
 use Rattle.ged_canon.specs.inner.Orders.{TagsInOrder, tags}
 use Rattle.ged_canon.specs.inner.Working.{used_xref, used_trees, put, brief, brief_structure, sorted, each_sorted}
 use Rattle.ged_canon.specs.inner.Siblings.{sibling_trees}
-use Rattle.ged_canon.specs.inner.Writing.{brief_sibling, renamed_sibling}
+use Rattle.ged_canon.specs.inner.Writing.{brief_sibling, renamed_sibling, sibling_at, sibling_lines, CanWriteTree}
 use Rattle.ged_canon.proofs.theory.Bare.{stands}
 use Rattle.ged_canon.proofs.theory.Sorting.{put_first}
 use Rattle.ged_canon.proofs.writer.SiblingTrees.{below_step}
@@ -55,6 +56,25 @@ pub tree_lines : (new : Bytes → Bytes) (edition : Edition) (xref : Option Byte
     ≡ spelled_lines (structure_lines level (renamed_sibling new edition q xref d sibling) ++ lines_of (level + 1) (renamed new (sorted edition (below_row q) (below_at d sibling.place))))
 tree_lines new edition xref d sibling level r q e =
     ap (λ x. spelled_lines (structure_lines level (renamed_sibling new edition x xref d sibling) ++ lines_of (level + 1) (renamed new (sorted edition (below_row x) (below_at d sibling.place))))) e
+
+-- The same, wherever the tag of the sibling was read.
+
+pub lines_alike : (new : Bytes → Bytes) (edition : Edition) (xref : Option Bytes) (d : Trees) (tag : Bor Bytes) (place level : ℕ) (r q : Option Row) → tag.now ≡ (structure_at d place).tag → r ≡ q
+    → spelled_lines (sibling_lines new edition r level xref d (record { tag = tag; place = place })) ≡ spelled_lines (sibling_lines new edition q level xref d (sibling_at d place))
+lines_alike new edition xref d tag place level r q same e = λ i.
+    spelled_lines (structure_lines level (record { xref = xref; tag = same i; payload = renamed_payload new (brief edition (e i) (structure_at d place).payload) })
+    ++ lines_of (level + 1) (renamed new (sorted edition (below_row (e i)) (below_at d place))))
+
+pub can_write_alike : (edition : Edition) (r : Option Row) (level : ℕ) (xref : Option Bytes) (d : Trees) (tag : Bor Bytes) (place end : ℕ) → tag.now ≡ (structure_at d place).tag
+    → CanWriteTree edition r level xref d (sibling_at d place) end → CanWriteTree edition r level xref d (record { tag = tag; place = place }) end
+can_write_alike edition r level xref d tag place end same can = record {
+  document = can.document;
+  within = (can.within.0, same);
+  run = can.run;
+  deeper = can.deeper;
+  stands = subst (λ t. HasLinesAt level (record { xref = xref; tag = t; payload = brief edition r (structure_at d place).payload })) (sym same) can.stands;
+  below = can.below;
+}
 
 -- where nothing is left, all is written
 pub written_all : (whole out : Bytes) (rest : List LineParts) → rest ≡ [] → out ++ spelled_lines rest ≡ whole → out ≡ whole

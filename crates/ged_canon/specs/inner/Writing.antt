@@ -35,6 +35,10 @@ row_of rule = option_map as_row (option_copied rule)
 abbrev pub may_be_dated : Bytes → Bool
 may_be_dated tag = bytes_eq tag (codes "DATE") || bytes_eq tag (codes "SDATE")
 
+-- the sibling at a place, by the tag of the structure there, wherever that is read
+abbrev pub sibling_at : Trees → ℕ → Sibling
+sibling_at d place = record { tag = record { ref_ptr = (0, 0); now = (structure_at d place).tag }; place = place }
+
 -- the structure of a document at a sibling's place, with the sibling's tag, this identifier, and what is left of its payload
 -- at a place with this row
 abbrev pub brief_sibling : Edition → Option Row → Option Bytes → Trees → Sibling → Structure

@@ -19,7 +19,7 @@ ghost use Rattle.ged_canon.specs.Steps.{renamed_payload};
 ghost use Rattle.ged_canon.specs.Normal.{IsBriefPayload, numbered as spells_number};
 ghost use Rattle.ged_canon.specs.inner.Siblings.{StandsIn};
 ghost use Rattle.ged_canon.specs.inner.Working.{brief, brief_line as spells_brief, number_of, IsNumberingOf};
-ghost use Rattle.ged_canon.specs.inner.Writing.{may_be_dated as tests_dated, row_of, brief_sibling, renamed_sibling, Writes};
+ghost use Rattle.ged_canon.specs.inner.Writing.{may_be_dated as tests_dated, row_of, brief_sibling, renamed_sibling, sibling_at, Writes};
 
 use crate::edition::Edition;
 use crate::writer::answer::{Answer, text_value};
@@ -142,6 +142,19 @@ impl<F: Forest> Writer<'_, '_, F> {
         }
     }
 
+    /// The name in the pointer at a place. A function of its own, so that the common path need not clear the stack's room for a payload.
+    #[inline(never)]
+    fn name_at(&self, place: usize) -> &str
+        requires within { place < trees_count (F.trees self.now.forest.now) }
+        requires points { is_pointer (structure_at (F.trees self.now.forest.now) place).payload ≡ true }
+        ensures { (structure_at (F.trees self.now.forest.now) place).payload ≡ PointerPayload result.now }
+    {
+        match self.forest.payload(place) {
+            PayloadView::Pointer(name) => name,
+            PayloadView::Void | PayloadView::Text(_) => unreachable!(),
+        }
+    }
+
     /// Appends the own line of a structure whose payload is a pointer. The cursor moves on from pointer to pointer.
     #[inline(always)]
     fn write_reference(
@@ -158,9 +171,7 @@ impl<F: Forest> Writer<'_, '_, F> {
         ensures lines { Writes (F.trees self.now.forest.now) self.now.plan result work.old.answer work.new.answer
             (λ new. line_parts level (option_copied xref.entry) sibling.entry.tag.now (first_value (renamed_payload new (structure_at (F.trees self.now.forest.now) sibling.entry.place).payload)) ∷ []) }
     {
-        let PayloadView::Pointer(name) = self.forest.payload(sibling.place) else {
-            unreachable!()
-        };
+        let name = self.name_at(sibling.place);
         let number = new_number_at(
             self.plan.index,
             self.plan.numbers,
@@ -204,33 +215,34 @@ impl<F: Forest> Writer<'_, '_, F> {
         }
     }
 
-    /// Appends the own line of a structure without an identifier, where it is told without the row of its context: that of a pointer, and in the
-    /// first edition the only line of any other payload, if it stays as it is at all places. It answers whether it has; else nothing is
-    /// appended.
+    /// Appends the own line of the structure at a place, which has no identifier, where it is told without the row of its context: that of a
+    /// pointer, and in the first edition the only line of any other payload, if it stays as it is at all places. It answers whether it has;
+    /// else nothing is appended.
     #[inline(always)]
     pub(crate) fn write_at_once(
         &self,
         rows: &ContextRows,
         level: u8,
-        sibling: Sibling<'_>,
+        place: usize,
         work: &mut Work<'_, '_>,
     ) -> Result<bool, AllocError>
-        requires within { StandsIn (F.trees self.now.forest.now) sibling }
-        requires stands { HasLinesAt level (brief_sibling self.now.plan.edition (row rows.now sibling.tag.now) None (F.trees self.now.forest.now) sibling) }
+        requires within { place < trees_count (F.trees self.now.forest.now) }
+        requires stands { HasLinesAt level (brief_sibling self.now.plan.edition (row rows.now (structure_at (F.trees self.now.forest.now) place).tag) None (F.trees self.now.forest.now) (sibling_at (F.trees self.now.forest.now) place)) }
         ensures kept { IfOk result (λ _. work.new.siblings.items ≡ work.old.siblings.items) }
         ensures lines { (names : List Bytes) → IsNumberingOf (F.trees self.now.forest.now) names self.now.plan.index.now self.now.plan.numbers.now → IfOk result (λ all. IsTrue all → work.new.answer ≡ work.old.answer
-            ++ spelled_lines (structure_lines level (renamed_sibling (number_of 1 names) self.now.plan.edition (row rows.now sibling.entry.tag.now) None (F.trees self.now.forest.now) sibling.entry))) }
+            ++ spelled_lines (structure_lines level (renamed_sibling (number_of 1 names) self.now.plan.edition (row rows.now (structure_at (F.trees self.now.forest.now) place).tag) None (F.trees self.now.forest.now) (sibling_at (F.trees self.now.forest.now) place)))) }
         ensures left { IfOk result (λ all. all ≡ false → work.new.answer ≡ work.old.answer) }
     {
-        let Some(line) = self.forest.own_line(sibling.place) else {
+        let Some(line) = self.forest.own_line(place) else {
             return Ok(false);
         };
         if line.points {
-            self.write_reference(level, None, sibling, work)?;
+            let tag = line.tag;
+            self.write_reference(level, None, Sibling { tag, place }, work)?;
             return Ok(true);
         }
         let stays = is_plain_line(self.plan.edition, line.tag, line.rest);
-        if !stays || self.forest.further(sibling.place) > 0 {
+        if !stays || self.forest.further(place) > 0 {
             return Ok(false);
         }
         let start = Some(line.start);

@@ -3,10 +3,11 @@ ghost use Rattle.std.specs.Prelude.{◌≡◌, ◌++◌, None, OnOk};
 ghost use Rattle.std.specs.Option.{option_copied};
 ghost use Rattle.ged_line.specs.Spelling.{spelled_lines};
 ghost use Rattle.ged_tree.specs.DocumentLines.{structure_lines};
+ghost use Rattle.ged_tree.specs.Places.{structure_at};
 ghost use Rattle.ged_tree.specs.inner.Walks.{HasLinesAt};
 ghost use Rattle.ged_schema.specs.Tables.{row};
 ghost use Rattle.ged_canon.specs.inner.Siblings.{StandsIn};
-ghost use Rattle.ged_canon.specs.inner.Writing.{row_of, brief_sibling, renamed_sibling, sibling_lines, run_lines, further_at, CanWriteFurther, CanWriteTree, CanWriteRun, Writes};
+ghost use Rattle.ged_canon.specs.inner.Writing.{row_of, brief_sibling, renamed_sibling, sibling_at, sibling_lines, run_lines, further_at, CanWriteFurther, CanWriteTree, CanWriteRun, Writes};
 
 use crate::writer::answer::{Answer, text_value};
 use crate::writer::order::are_in_order;
@@ -104,30 +105,51 @@ impl<'a, F: Forest> Writer<'a, '_, F> {
         self.write_run(context_below(rule), level + 1, start, end, work)
     }
 
-    /// The same for a structure without an identifier that stands among the rows of its context. Its row is looked up where it matters.
+    /// The same for a structure without an identifier that stands among the rows of its context, whose tag and row are looked up.
+    #[cycle(trees)]
+    #[inline(never)]
+    fn write_by_row(
+        &self,
+        rows: &ContextRows,
+        level: u8,
+        place: usize,
+        end: usize,
+        work: &mut Work<'a, '_>,
+    ) -> Result<(), AllocError>
+        requires { CanWriteTree self.now.plan.edition (row rows.now (structure_at (F.trees self.now.forest.now) place).tag) level None (F.trees self.now.forest.now) (sibling_at (F.trees self.now.forest.now) place) end }
+        ensures kept { OnOk result (work.new.siblings.items ≡ work.old.siblings.items) }
+        ensures lines { Writes (F.trees self.now.forest.now) self.now.plan result work.old.answer work.new.answer
+            (λ new. sibling_lines new self.now.plan.edition (row rows.now (structure_at (F.trees self.now.forest.now) place).tag) level None (F.trees self.now.forest.now) (sibling_at (F.trees self.now.forest.now) place)) }
+    {
+        let tag = self.forest.tag(place);
+        let rule = rows.row(tag);
+        self.write_tree(rule, level, None, Sibling { tag, place }, end, work)
+    }
+
+    /// The same, where the tag and the row are looked up only if they matter.
     #[cycle(trees)]
     #[inline(always)]
     fn write_sibling(
         &self,
         rows: &ContextRows,
         level: u8,
-        sibling: Sibling<'_>,
+        place: usize,
         end: usize,
         work: &mut Work<'a, '_>,
     ) -> Result<(), AllocError>
-        requires { CanWriteTree self.now.plan.edition (row rows.now sibling.tag.now) level None (F.trees self.now.forest.now) sibling end }
+        requires { CanWriteTree self.now.plan.edition (row rows.now (structure_at (F.trees self.now.forest.now) place).tag) level None (F.trees self.now.forest.now) (sibling_at (F.trees self.now.forest.now) place) end }
         ensures kept { OnOk result (work.new.siblings.items ≡ work.old.siblings.items) }
         ensures lines { Writes (F.trees self.now.forest.now) self.now.plan result work.old.answer work.new.answer
-            (λ new. sibling_lines new self.now.plan.edition (row rows.now sibling.entry.tag.now) level None (F.trees self.now.forest.now) sibling.entry) }
+            (λ new. sibling_lines new self.now.plan.edition (row rows.now (structure_at (F.trees self.now.forest.now) place).tag) level None (F.trees self.now.forest.now) (sibling_at (F.trees self.now.forest.now) place)) }
     {
-        if !self.write_at_once(rows, level, sibling, work)? {
-            return self.write_tree(rows.row(sibling.tag), level, None, sibling, end, work);
+        if !self.write_at_once(rows, level, place, work)? {
+            return self.write_by_row(rows, level, place, end, work);
         }
-        let start = sibling.place + 1;
+        let start = place + 1;
         if start >= end {
             return Ok(());
         }
-        let below = context_below(rows.row(sibling.tag));
+        let below = context_below(rows.row(self.forest.tag(place)));
         self.write_run(below, level + 1, start, end, work)
     }
 
@@ -153,11 +175,7 @@ impl<'a, F: Forest> Writer<'a, '_, F> {
         let rows = ContextRows::of(context);
         let mut place = start;
         while let Some(after) = next_in_run(self.forest, place, end) {
-            let sibling = Sibling {
-                tag: self.forest.tag(place),
-                place,
-            };
-            self.write_sibling(&rows, level, sibling, after, work)?;
+            self.write_sibling(&rows, level, place, after, work)?;
             place = after;
         }
         Ok(())
@@ -185,12 +203,8 @@ impl<'a, F: Forest> Writer<'a, '_, F> {
         let mut number = base;
         while number < work.siblings.len() {
             let ranked = work.siblings[number];
-            let sibling = Sibling {
-                tag: ranked.tag,
-                place: ranked.place,
-            };
-            let after = self.forest.after(sibling.place);
-            self.write_sibling(&rows, level, sibling, after, work)?;
+            let after = self.forest.after(ranked.place);
+            self.write_sibling(&rows, level, ranked.place, after, work)?;
             number += 1;
         }
         work.siblings.truncate(base);

@@ -167,7 +167,7 @@ impl<'a> Flat<'a> {
         ensures { result ≡ further_lines (structure_at self.now place).payload }
     {
         let start = self.further.before(place);
-        let end = self.further.before(place + 1);
+        let end = self.further.before_near(place + 1, start);
         FurtherLines::of(self.file, &self.further, start, end - start)
     }
 

@@ -13,13 +13,12 @@ use Rattle.ged_tree.proofs.CallerLemmas.{below_run, run_below, run_ends}
 use Rattle.ged_schema.specs.Rows.{as_row}
 use Rattle.ged_schema.specs.Tables.{row, below_row}
 use Rattle.ged_canon.specs.declared.writer.rank.RankedSibling.{RankedSibling}
-use Rattle.ged_canon.specs.declared.writer.siblings.Sibling.{Sibling}
 use Rattle.ged_canon.specs.Steps.{renamed}
-use Rattle.ged_canon.specs.inner.Working.{used_xref, number_of, sorted, each_sorted}
+use Rattle.ged_canon.specs.inner.Working.{used_xref, number_of, brief, sorted, each_sorted}
 use Rattle.ged_canon.specs.inner.Siblings.{sibling_trees, unranked, StandsRanked}
-use Rattle.ged_canon.specs.inner.Writing.{brief_sibling, renamed_sibling, CanWriteTree}
+use Rattle.ged_canon.specs.inner.Writing.{brief_sibling, renamed_sibling, sibling_at, CanWriteTree}
 use Rattle.ged_canon.proofs.writer.SiblingTrees.{below_step}
-use Rattle.ged_canon.proofs.writer.RunsWritten.{tree_lines, written_below, written_all, first_stands, below_stands, rest_stands, next_told, next_left, all_listed, in_order_sorted, run_first}
+use Rattle.ged_canon.proofs.writer.RunsWritten.{tree_lines, lines_alike, can_write_alike, written_below, written_all, first_stands, below_stands, rest_stands, next_told, next_left, all_listed, in_order_sorted, run_first}
 use Rattle.ged_canon.proofs.writer.plan.Writer.+trees.Goals as goal
 
 -- A structure, and what stands below it.
@@ -68,20 +67,41 @@ write_tree-returns-then-start-end-clause-lines g t c = λ names h.
     ∙ ap (λ ls. c.args.work.now.answer ++ spelled_lines ls) (sym (append-nil own))
     ∙ ap (λ t. c.args.work.now.answer ++ spelled_lines (own ++ lines_of (c.args.level + 1) (renamed new (sorted edition (below_row r) t)))) (sym leaf)
 
--- The same, among the rows of a context.
+-- The same, with the row that it has in a context.
+
+pub write_by_row-write_tree-requires : goal.write_by_row-write_tree-requires
+write_by_row-write_tree-requires g t c κs within =
+    let d = g.F.Forest.trees c.args.self.now.forest.now in
+    let edition = c.args.self.now.plan.edition in
+    let place = c.args.place in
+    let tag = c.tag-tag.result in
+    let rule = c.row-rule.ensures ∙ ap (row c.args.rows.now) c.tag-tag.ensures in (
+      omega (arith, c.decreases),
+      (
+        within,
+        subst (λ r. CanWriteTree edition r c.args.level None d (record { tag = tag; place = place }) c.args.end) (sym rule)
+            (can_write_alike edition (row c.args.rows.now (structure_at d place).tag) c.args.level None d tag place c.args.end c.tag-tag.ensures c.requires),
+      ),
+    )
+
+pub write_by_row-returns-clause-lines : goal.write_by_row-returns-clause-lines
+write_by_row-returns-clause-lines g t c = λ names h.
+    let d = g.F.Forest.trees c.args.self.now.forest.now in
+    let tag = c.tag-tag.result in
+    let rule = c.row-rule.ensures ∙ ap (row c.args.rows.now) c.tag-tag.ensures in
+    subst (λ text. OnOk c.write_tree.result (c.write_tree.new.work.answer ≡ c.args.work.now.answer ++ text))
+    (lines_alike (number_of 1 names) c.args.self.now.plan.edition None d tag c.args.place c.args.level _ _ c.tag-tag.ensures rule)
+    (c.write_tree.ensures.lines names h)
+
+-- The same, where they are looked up only if they matter.
 
 pub write_sibling-overflow_add-start : goal.write_sibling-overflow_add-start
 write_sibling-overflow_add-start g t c = omega (arith, c.requires.run.fills, c.ranges.end.fits)
 
-pub write_sibling-write_tree-requires : goal.write_sibling-write_tree-requires
-write_sibling-write_tree-requires g t c κs within =
-    let d = g.F.Forest.trees c.args.self.now.forest.now in
-    let edition = c.args.self.now.plan.edition in
-    (omega (arith, c.decreases), (within, subst (λ r. CanWriteTree edition r c.args.level None d c.args.sibling c.args.end) (sym c.row.ensures) c.requires))
-
 pub write_sibling-write_run-requires : goal.write_sibling-write_run-requires
 write_sibling-write_run-requires g t c κs within =
-    let low = c.requires.stands.shallow in (
+    let low = c.requires.stands.shallow in
+    let rule = c.row.ensures ∙ ap (row c.args.rows.now) c.tag.ensures in (
       omega (arith, c.decreases, low),
       (
         within,
@@ -89,7 +109,7 @@ write_sibling-write_run-requires g t c κs within =
           document = c.requires.document;
           run = c.requires.run;
           deep = omega arith;
-          stand = (λ i. are_at (c.args.level + 1) (sorted c.args.self.now.plan.edition ((c.context_below-below.ensures ∙ ap below_row c.row-2.ensures) i) (c.requires.deeper i))) ∙ c.requires.below;
+          stand = (λ i. are_at (c.args.level + 1) (sorted c.args.self.now.plan.edition ((c.context_below-below.ensures ∙ ap below_row rule) i) (c.requires.deeper i))) ∙ c.requires.below;
         },
       ),
     )
@@ -99,22 +119,23 @@ write_sibling-returns-clause-lines g t c = λ names h.
     let d = g.F.Forest.trees c.args.self.now.forest.now in
     let edition = c.args.self.now.plan.edition in
     let new = number_of 1 names in
-    let r = row c.args.rows.now c.args.sibling.tag.now in
-    let own = structure_lines c.args.level (renamed_sibling new edition r None d c.args.sibling) in
+    let r = row c.args.rows.now (structure_at d c.args.place).tag in
+    let rule = c.row.ensures ∙ ap (row c.args.rows.now) c.tag.ensures in
+    let own = structure_lines c.args.level (renamed_sibling new edition r None d (sibling_at d c.args.place)) in
     subst (λ text. OnOk c.write_run.result (c.write_run.new.work.answer ≡ text))
-    ((λ i. c.write_at_once.new.work.answer ++ spelled_lines (lines_of (c.args.level + 1) (renamed new (sorted edition ((c.context_below-below.ensures ∙ ap below_row c.row-2.ensures) i) (c.requires.deeper i)))))
-    ∙ written_below c.args.work.now.answer c.write_at_once.new.work.answer own (lines_of (c.args.level + 1) (renamed new (sorted edition (below_row r) (below_at d c.args.sibling.place)))) (c.in_ok-write_at_once.ensures.lines names h c.if-not-branch.false))
+    ((λ i. c.write_at_once.new.work.answer ++ spelled_lines (lines_of (c.args.level + 1) (renamed new (sorted edition ((c.context_below-below.ensures ∙ ap below_row rule) i) (c.requires.deeper i)))))
+    ∙ written_below c.args.work.now.answer c.write_at_once.new.work.answer own (lines_of (c.args.level + 1) (renamed new (sorted edition (below_row r) (below_at d c.args.place)))) (c.in_ok-write_at_once.ensures.lines names h c.if-not-branch.false))
     (c.write_run.ensures.lines names h)
 
 pub write_sibling-returns-then-start-end-clause-lines : goal.write_sibling-returns-then-start-end-clause-lines
 write_sibling-returns-then-start-end-clause-lines g t c = λ names h.
     let d = g.F.Forest.trees c.args.self.now.forest.now in
-    let place = c.args.sibling.place in
+    let place = c.args.place in
     let edition = c.args.self.now.plan.edition in
     let new = number_of 1 names in
-    let r = row c.args.rows.now c.args.sibling.tag.now in
+    let r = row c.args.rows.now (structure_at d place).tag in
     let leaf : below_at d place ≡ none = sym c.requires.deeper ∙ run_ends d (place + 1) c.args.end (omega arith) in
-    let own = structure_lines c.args.level (renamed_sibling new edition r None d c.args.sibling) in
+    let own = structure_lines c.args.level (renamed_sibling new edition r None d (sibling_at d place)) in
     c.in_ok-write_at_once.ensures.lines names h c.if-not-branch.false
     ∙ ap (λ ls. c.args.work.now.answer ++ spelled_lines ls) (sym (append-nil own))
     ∙ ap (λ t. c.args.work.now.answer ++ spelled_lines (own ++ lines_of (c.args.level + 1) (renamed new (sorted edition (below_row r) t)))) (sym leaf)
@@ -139,18 +160,18 @@ write_run-write_sibling-requires g t c κs within =
     let d = g.F.Forest.trees c.args.self.now.forest.now in
     let edition = c.args.self.now.plan.edition in
     let place = c.loop-after.place in
-    let sibling : Sibling = record { tag = c.tag.result; place = place } in
+    let sibling = sibling_at d place in
     let rule : row c.of-rows.result sibling.tag.now ≡ row c.args.context sibling.tag.now = ap (λ k. row k sibling.tag.now) c.of-rows.ensures in
     let x = (structure_at d place).xref in
     let all = each_sorted edition c.args.context (trees_between d place c.args.end) in
     let rest = each_sorted edition c.args.context (trees_between d c.in-Some.after c.args.end) in
-    let is = run_first edition c.args.context d place c.args.end c.in-Some.after sibling c.loop-after.invariant.run c.in-Some.ensures refl c.tag.ensures in (
+    let is = run_first edition c.args.context d place c.args.end c.in-Some.after sibling c.loop-after.invariant.run c.in-Some.ensures refl refl in (
       omega (arith, c.decreases),
       (
         within,
         record {
           document = c.requires.document;
-          within = (c.in-Some.ensures.within, c.tag.ensures);
+          within = (c.in-Some.ensures.within, refl);
           run = c.in-Some.ensures.below;
           deeper = below_step d place c.args.end c.in-Some.after c.loop-after.invariant.run c.in-Some.ensures;
           stands = subst (λ r. HasLinesAt c.args.level (brief_sibling edition r None d sibling)) (sym rule)
@@ -166,12 +187,12 @@ write_run-loop-after-preserved g t c =
     let d = g.F.Forest.trees c.args.self.now.forest.now in
     let edition = c.args.self.now.plan.edition in
     let place = c.loop-after.place in
-    let sibling : Sibling = record { tag = c.tag.result; place = place } in
+    let sibling = sibling_at d place in
     let rule : row c.of-rows.result sibling.tag.now ≡ row c.args.context sibling.tag.now = ap (λ k. row k sibling.tag.now) c.of-rows.ensures in
     let x = (structure_at d place).xref in
     let all = each_sorted edition c.args.context (trees_between d place c.args.end) in
     let rest = each_sorted edition c.args.context (trees_between d c.in-Some.after c.args.end) in
-    let is = run_first edition c.args.context d place c.args.end c.in-Some.after sibling c.loop-after.invariant.run c.in-Some.ensures refl c.tag.ensures in
+    let is = run_first edition c.args.context d place c.args.end c.in-Some.after sibling c.loop-after.invariant.run c.in-Some.ensures refl refl in
     record {
       run = c.in-Some.ensures.rest;
       kept = c.in_ok-write_sibling.ensures.kept ∙ c.loop-after.invariant.kept;
@@ -217,7 +238,8 @@ write_sorted-write_sibling-requires g t c κs within =
     let at = c.loop-number.number in
     let ranked = c.index-ranked.result.now in
     let sibling = unranked ranked in
-    let rule : row c.of-rows.result sibling.tag.now ≡ row c.args.context sibling.tag.now = ap (λ k. row k sibling.tag.now) c.of-rows.ensures in
+    let tag = (structure_at d sibling.place).tag in
+    let rule : row c.of-rows.result tag ≡ row c.args.context tag = ap (λ k. row k tag) c.of-rows.ensures in
     let x = used_xref (λ name. true) (structure_at d sibling.place).xref in
     let listed = next_left items at ranked (omega arith) c.index-ranked.ensures in
     let all = sibling_trees (λ name. true) edition c.args.context d (drop at items) in
@@ -229,12 +251,13 @@ write_sorted-write_sibling-requires g t c κs within =
         within,
         record {
           document = c.requires.document;
-          within = here;
+          within = (here.0, refl);
           run = subst (λ q. IsRunOfTrees d (sibling.place + 1) q) (sym c.after-after.ensures) (run_below d sibling.place here.0);
           deeper = ap (trees_between d (sibling.place + 1)) c.after-after.ensures ∙ below_run d sibling.place here.0;
-          stands = subst (λ r. HasLinesAt c.args.level (brief_sibling edition r None d sibling)) (sym rule)
-              (first_stands edition c.args.context d c.args.level sibling x all rest is c.requires.deep c.loop-number.invariant.stand);
-          below = ap (λ r. are_at (c.args.level + 1) (sorted edition (below_row r) (below_at d sibling.place))) rule
+          stands = subst (λ r. HasLinesAt c.args.level (brief_sibling edition r None d (sibling_at d sibling.place))) (sym rule)
+              (subst (λ t. HasLinesAt c.args.level (record { xref = None; tag = t; payload = brief edition (row c.args.context t) (structure_at d sibling.place).payload })) here.1
+              (first_stands edition c.args.context d c.args.level sibling x all rest is c.requires.deep c.loop-number.invariant.stand));
+          below = ap (λ r. are_at (c.args.level + 1) (sorted edition (below_row r) (below_at d sibling.place))) (rule ∙ ap (row c.args.context) (sym here.1))
               ∙ below_stands edition c.args.context d c.args.level sibling x all rest is c.requires.deep c.loop-number.invariant.stand;
         },
       ),
@@ -249,11 +272,13 @@ write_sorted-loop-number-preserved g t c =
     let at = c.loop-number.number in
     let ranked = c.index-ranked.result.now in
     let sibling = unranked ranked in
-    let rule : row c.of-rows.result sibling.tag.now ≡ row c.args.context sibling.tag.now = ap (λ k. row k sibling.tag.now) c.of-rows.ensures in
+    let tag = (structure_at d sibling.place).tag in
+    let rule : row c.of-rows.result tag ≡ row c.args.context tag = ap (λ k. row k tag) c.of-rows.ensures in
     let x = used_xref (λ name. true) (structure_at d sibling.place).xref in
     let listed = next_left items at ranked (omega arith) c.index-ranked.ensures in
     let all = sibling_trees (λ name. true) edition c.args.context d (drop at items) in
     let rest = sibling_trees (λ name. true) edition c.args.context d (drop (at + 1) items) in
+    let here = (subst (λ (xs : List RankedSibling). AllByRecursion (StandsRanked d) xs) listed c.loop-number.invariant.within).0 in
     let is = ap (sibling_trees (λ name. true) edition c.args.context d) listed in
     let same : now ≡ items = c.in_ok-write_sibling.ensures.kept in
     record {
@@ -266,7 +291,7 @@ write_sorted-loop-number-preserved g t c =
           ap (λ (xs : List RankedSibling). c.write_sibling.new.work.answer ++ spelled_lines (lines_of c.args.level (renamed (number_of 1 names) (sibling_trees (λ name. true) edition c.args.context d (drop (at + 1) xs))))) same
           ∙ next_told edition c.args.context d c.args.level sibling x all rest is c.requires.deep c.loop-number.invariant.stand (number_of 1 names)
           (c.args.work.now.answer ++ spelled_lines (lines_of c.args.level (renamed (number_of 1 names) (sorted edition c.args.context (trees_between d c.args.start c.args.end)))))
-          c.loop-number.work.answer c.write_sibling.new.work.answer (c.in_ok-write_sibling.ensures.lines names h ∙ ap (λ bytes. c.loop-number.work.answer ++ bytes) (tree_lines (number_of 1 names) edition None d sibling c.args.level _ (row c.args.context sibling.tag.now) rule)) (c.loop-number.invariant.told names h);
+          c.loop-number.work.answer c.write_sibling.new.work.answer (c.in_ok-write_sibling.ensures.lines names h ∙ ap (λ bytes. c.loop-number.work.answer ++ bytes) (sym (lines_alike (number_of 1 names) edition None d sibling.tag sibling.place c.args.level (row c.args.context sibling.tag.now) _ here.1 (ap (row c.args.context) here.1 ∙ sym rule)))) (c.loop-number.invariant.told names h);
     }
 
 pub write_sorted-returns-clause-lines : goal.write_sorted-returns-clause-lines

@@ -12,16 +12,19 @@ use Rattle.ged_canon.proofs.writer.plan.Writer.+trees.Given as goal
 
 -- each call below a structure is one level deeper, down to level 100
 abbrev pub decreases-write_tree : goal.decreases-write_tree
-decreases-write_tree g l = 4 * (101 - l.level)
+decreases-write_tree g l = 5 * (101 - l.level)
+
+abbrev pub decreases-write_by_row : goal.decreases-write_by_row
+decreases-write_by_row g l = 5 * (101 - l.level) + 1
 
 abbrev pub decreases-write_sibling : goal.decreases-write_sibling
-decreases-write_sibling g l = 4 * (101 - l.level) + 1
+decreases-write_sibling g l = 5 * (101 - l.level) + 2
 
 abbrev pub decreases-write_sorted : goal.decreases-write_sorted
-decreases-write_sorted g l = 4 * (101 - l.level) + 2
+decreases-write_sorted g l = 5 * (101 - l.level) + 3
 
 abbrev pub decreases-write_run : goal.decreases-write_run
-decreases-write_run g l = 4 * (101 - l.level) + 3
+decreases-write_run g l = 5 * (101 - l.level) + 4
 
 -- what is written, and what is left of a run that is in order, are the whole
 abbrev pub invariant-write_run-loop-after : goal.invariant-write_run-loop-after

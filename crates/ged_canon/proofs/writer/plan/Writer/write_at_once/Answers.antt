@@ -14,14 +14,13 @@ returns-clause-lines g c = λ names h t.
     let d = g.F.Forest.trees c.args.self.now.forest.now in
     let edition = c.args.self.now.plan.edition in
     let context = c.args.rows.now in
-    let tag = c.args.sibling.tag.now in
+    let tag = (structure_at d c.args.place).tag in
     let rest = c.in-Some.line.rest.now in
-    let p = (structure_at d c.args.sibling.place).payload in
-    let same : tag ≡ (structure_at d c.args.sibling.place).tag = c.requires.within.1 in
-    let is : rest ≡ tag ++ value_part (first_value p) = c.in-Some.ensures.rest ∙ ap (λ front. front ++ value_part (first_value p)) (sym same) in
+    let p = (structure_at d c.args.place).payload in
+    let is : rest ≡ tag ++ value_part (first_value p) = c.in-Some.ensures.rest in
     let value : is_pointer p ≡ false = sym c.in-Some.ensures.points ∙ c.if-line.false in
     let alone : length (further_lines p) ≡ 0 = omega (arith, c.further.ensures, c.if-further-gt0.false) in
-    let tells : TellsPlain tag rest = subst (λ front. TellsPlain front rest) (c.in-Some.ensures.tag ∙ sym same) (c.if-not-stays.ensures.plain refl) in
+    let tells : TellsPlain tag rest = subst (λ front. TellsPlain front rest) c.in-Some.ensures.tag (c.if-not-stays.ensures.plain refl) in
     c.in_ok-push_rest.ensures
     ∙ ap (λ text. c.args.work.now.answer ++ text)
     (plain_line edition (row context tag) (number_of 1 names) c.args.level tag p rest value alone (plain_brief edition context tag rest p (c.if-not-stays.ensures.first refl) is tells) is)
