@@ -8,7 +8,7 @@ ghost use Rattle.ged_devices.specs.Buffers.{GoesThrough, StopsWithin};
 ghost use Rattle.ged_line.specs.Bytes.{Bytes, space};
 ghost use Rattle.ged_tree.specs.Runs.{IsRunOfTrees, trees_between};
 ghost use Rattle.ged_schema.specs.Rows.{as_row};
-ghost use Rattle.ged_accept.specs.Shown.{row_word as word_of_row, structure_line, shown, IsShown};
+ghost use Rattle.ged_accept.specs.Shown.{structure_line, shown, IsShown};
 
 use crate::accepted::Accepted;
 use crate::endings::row_ending;
@@ -25,17 +25,7 @@ const BYTES_PER_LINE: usize = 16;
 /// How many bytes go to the text at a time.
 const BUFFER: usize = 65536;
 
-/// The word of a row's kind, or a hyphen where there is no row.
-fn row_word(rule: Option<&Rule>) -> &'static str
-    ensures { result.now ≡ word_of_row (option_map as_row (option_copied rule.entry)) }
-{
-    match rule {
-        Some(rule) => rule.kind.word(),
-        None => "-",
-    }
-}
-
-/// Writes a level of two digits or more, and a space.
+/// Writes a level of any number of digits, and a space.
 #[cold]
 #[inline(never)]
 fn write_deep_level<W: Sink>(
@@ -56,7 +46,7 @@ fn write_deep_level<W: Sink>(
     Ok(())
 }
 
-/// Writes a level and a space. Most levels have one digit.
+/// Writes a level and a space. A level of one digit, as most have, or of two is copied by a move, and not by a call.
 #[inline(always)]
 fn write_level<W: Sink>(level: usize, buffer: &mut Vec<u8>, writer: &mut W) -> Result<(), Failed>
     requires { W.failed writer.old ≡ false }
@@ -68,6 +58,10 @@ fn write_level<W: Sink>(level: usize, buffer: &mut Vec<u8>, writer: &mut W) -> R
 {
     if level < 10 {
         return write_buffered(writer, buffer, &[b'0' + level as u8, b' ']);
+    }
+    if level < 100 {
+        let (tens, ones) = ((level / 10) as u8, (level % 10) as u8);
+        return write_buffered(writer, buffer, &[b'0' + tens, b'0' + ones, b' ']);
     }
     write_deep_level(level, buffer, writer)
 }
@@ -93,9 +87,8 @@ fn write_parts<W: Sink>(
 {
     write_level(level, buffer, writer)?;
     write_buffered(writer, buffer, tag.as_bytes())?;
-    write_buffered(writer, buffer, b" ")?;
-    write_buffered(writer, buffer, row_word(rule).as_bytes())?;
-    write_buffered(writer, buffer, b"\n")?;
+    let ending = row_ending(rule);
+    write_buffered(writer, buffer, &ending[..usize::from(ending[15])])?;
     Ok(())
 }
 
