@@ -69,6 +69,8 @@ fn write_tree(shape: &str, bytes: usize, seed: u64, out: &mut impl Write) -> Res
         "alternating-tags" => grow("0 INDI\n", bytes, |number| FACTS[1 + number % 2].to_string(), out),
         // One person with very many structures, each with a tag of its own, the last in order first.
         "falling-tags" => grow("0 INDI\n", bytes, |number| format!("1 _T{:08}\n", 99_999_999 - number), out),
+        // The same in order, but for a first and a last one with very long tags, which begin as all others do.
+        "long-tags" => long_tags(bytes, out),
         // Very many persons with a tag that the tables do not list, which is a notice for each.
         "unlisted-tags" => grow("", bytes, |_| "0 INDI\n1 AFN 1\n".to_string(), out),
         // Very many dates with the default calendar's keyword and leading zeros, which canonical forms leave out.
@@ -102,6 +104,17 @@ fn grow(start: &str, bytes: usize, part: impl Fn(usize) -> String, out: &mut imp
         room -= part.len();
     }
     out.write_all(TRAILER.as_bytes())
+}
+
+/// A person's structures in the order of their tags, but for a first and a last one, whose tags have a third of the size each.
+fn long_tags(bytes: usize, out: &mut impl Write) -> Result<()> {
+    let long = "Z".repeat(bytes / 3);
+    let (first, last) = (format!("0 INDI\n1 _LONGTAGN{long}\n"), format!("1 _LONGTAGA{long}\n"));
+    let part = |number: usize| format!("1 _LONGTAGM{number:07}\n");
+    let room = bytes.saturating_sub(HEADER.len() + first.len() + last.len() + TRAILER.len());
+    write!(out, "{HEADER}{first}")?;
+    (0..room / part(0).len()).try_for_each(|number| out.write_all(part(number).as_bytes()))?;
+    write!(out, "{last}{TRAILER}")
 }
 
 /// A family and its children, each of whom has this answer to it.

@@ -14,6 +14,7 @@ pub mod Records
 pub mod RunsWritten
 pub mod SiblingNames
 pub mod SiblingTrees
+pub mod SortKeys
 pub mod SortedTail
 pub mod RunsKept
 pub mod SameRuns

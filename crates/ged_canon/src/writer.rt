@@ -1,6 +1,7 @@
 // The canonical spelling of a document, written from the document itself.
 pub(crate) mod answer;
 pub(crate) mod brief;
+pub(crate) mod compared;
 pub(crate) mod document;
 pub(crate) mod gathered;
 pub(crate) mod kept;

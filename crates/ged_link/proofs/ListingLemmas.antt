@@ -1,6 +1,8 @@
 -- What is listed of the records. Of a name it tells the number and the slot.
-use Rattle.std.proofs.Common.{◌≡◌, ℕ, suc, ◌+◌, ◌*◌, ◌/◌, ◌%◌, arith, drop, [], ◌∷◌, ◌++◌, List, Option, Some, None, refl, sym, ap, ◌∙◌, subst, map, fold, length, append_assoc, slice_index_or}
-use Rattle.std.proofs.lemmas.List.{append-nil}
+use Rattle.std.proofs.Common.{◌≡◌, ℕ, suc, ◌+◌, ◌-◌, ◌*◌, ◌/◌, ◌%◌, ◌<◌, ◌≤◌, ◌==◌, arith, drop, [], ◌∷◌, ◌++◌, List, Option, Some, None, is_some, Bool, true, false, not, refl, sym, ap, ◌∙◌, subst, map, fold, length, replicate, append_assoc, slice_index_or, eqb→eq, T, Bor}
+use Rattle.std.specs.Option.{option_copied}
+use Rattle.std.proofs.lemmas.Grind.{replicate_next}
+use Rattle.std.proofs.lemmas.List.{append-nil, length-append, length-map, length-replicate, get_or_append_left, get_or-append_right, get_or-replicate}
 use Rattle.ged_line.specs.Bytes.{Bytes}
 use Rattle.ged_tree.specs.Trees.{Structure, Trees, none, tree}
 use Rattle.ged_link.specs.Links.{identifiers}
@@ -8,10 +10,11 @@ use Rattle.ged_link.specs.NameNumbers.{short_number}
 use Rattle.ged_link.specs.RecordTypes.{IsTypeOf}
 use Rattle.ged_link.specs.Slots.{number_read, no_region, slot_within, slot_in, kept_in}
 use Rattle.ged_link.specs.inner.Layout.{counted}
-use Rattle.ged_link.specs.inner.Listing.{listed_with, listed_name, listed_halves, listed_digits, AreTypesOf}
+use Rattle.ged_link.specs.inner.Listing.{listed_with, listed_name, listed_halves, listed_digits, all_halves, all_digits, AreTypesOf}
 use Rattle.ged_link.specs.inner.Slots.{kept_at, IsMissed}
 use Rattle.ged_link.specs.declared.layout.Tally.{Tally}
 use Rattle.ged_link.specs.declared.listing.ListedName.{ListedName}
+use Rattle.ged_link.specs.declared.listing.RecordList.{RecordList}
 use Rattle.ged_link.specs.declared.names.Names.{Names}
 use Rattle.ged_link.specs.declared.record_type.RecordType.{RecordType}
 use Rattle.ged_link.specs.declared.slots.Region.{Region}
@@ -88,6 +91,45 @@ is_unnamed listed (Some (b ∷ bs)) e number digits = go (short_number (b ∷ bs
     go : (o : Option ℕ) → short_number (b ∷ bs) ≡ o → listed ≡ listed_with (number_read 0 bs) o → Some (b ∷ bs) ≡ None
     go None k is = absurd (omega (arith, digits, ap (λ (l : ListedName). l.digits) is))
     go (Some n) k is = absurd (omega (arith, above (b ∷ bs) n k, number, ap (λ (l : ListedName). l.number) is))
+
+-- one more record without a name, where none has one so far
+pub has_none : {X : Type 0} (told : Bool) (xref : Option (Bor X)) → is_some xref ≡ not told → told ≡ true → option_copied xref ≡ None
+has_none told None e is = refl
+has_none true (Some x) e is = absurd (cc)
+has_none false (Some x) e is = absurd (cc)
+
+pub are_none : (told : Bool) (counted long : ℕ) → told ≡ (counted == 0) → told ≡ true → counted ≡ long → long ≡ 0
+are_none told counted long e is same = sym same ∙ eqb→eq counted 0 (subst T (sym (sym e ∙ is)) tt)
+
+pub unnamed_more : {X Y Z : Type 0} (nothing : X) (names : List Y) (listed : List X) (old new : List Z) (one : Z) → new ≡ old ++ one ∷ [] → length names ≡ 0 → length listed ≡ 0
+    → replicate (length new - length names) nothing ++ listed ≡ (replicate (length old - length names) nothing ++ listed) ++ nothing ∷ []
+unnamed_more nothing names [] old new one adds empty bare =
+    append-nil (replicate (length new - length names) nothing)
+    ∙ ap (λ (n : ℕ). replicate n nothing) longer
+    ∙ replicate_next (length old - length names) nothing
+    ∙ ap (λ xs. xs ++ nothing ∷ []) (sym (append-nil (replicate (length old - length names) nothing)))
+  where
+    longer : length new - length names ≡ (length old - length names) + 1
+    longer = let f = simp length-append at (ap length adds) in omega (arith, f, empty)
+unnamed_more nothing names (x ∷ xs) old new one adds empty bare = absurd (omega (arith, bare))
+
+-- as many numbers of names are listed as numbers behind their first bytes
+pub as_many : (list : RecordList) (left all : List (Option Bytes)) → all_halves list ++ map listed_halves left ≡ map listed_halves all → all_digits list ++ map listed_digits left ≡ map listed_digits all
+    → length list.names.items ≡ length list.digits.items
+as_many list left all names digits =
+    let f = simp (length-append, length-replicate, length-map) at (ap length names) in
+    let k = simp (length-append, length-replicate, length-map) at (ap length digits) in
+    omega (arith, f, k)
+
+-- what stands at a place, where so many times the same stands before a list
+module _ {X : Type 0} (count : ℕ) (same : X) (list : List X) (k : ℕ) (other : X) where
+  pub before_listed : k < count → slice_index_or (replicate count same ++ list) k other ≡ same
+  before_listed within =
+      get_or_append_left (replicate count same) list other k (rw length-replicate within)
+      ∙ get_or-replicate count k same other within
+
+  pub at_listed : count ≤ k → slice_index_or (replicate count same ++ list) k other ≡ slice_index_or list (k - count) other
+  at_listed past = get_or-append_right (replicate count same) list count k other (length-replicate count same) past
 
 -- one more name is counted and listed; those that are left
 module _ (pushed xref : Option Bytes) (same : pushed ≡ xref) (left more : List (Option Bytes)) (is : left ≡ xref ∷ more) where

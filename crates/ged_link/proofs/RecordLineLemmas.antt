@@ -14,11 +14,12 @@ use Rattle.ged_tree.specs.DocumentLines.{line_value, first_value, lines_of, docu
 use Rattle.ged_link.specs.Links.{identifiers}
 use Rattle.ged_link.specs.RecordTypes.{IsTypeOf}
 use Rattle.ged_link.specs.inner.Layout.{counted, no_names}
-use Rattle.ged_link.specs.inner.Listing.{listed_halves, listed_digits, AreTypesOf, IsRecordList}
+use Rattle.ged_link.specs.inner.Listing.{listed_halves, listed_digits, all_halves, all_digits, AreTypesOf, IsRecordList}
 use Rattle.ged_link.specs.inner.RecordLines.{is_record_tag, record_lines, AreTypesByTags, AreListed}
 use Rattle.ged_link.specs.declared.listing.RecordList.{RecordList}
 use Rattle.ged_link.specs.declared.record_type.RecordType.{RecordType}
 use Rattle.ged_link.proofs.LinkLemmas.{both}
+use Rattle.ged_link.proofs.ListingLemmas.{as_many}
 
 -- ---- one line more
 
@@ -59,17 +60,19 @@ map_more : {X Y : Type 0} (f : X → Y) (xs : List X) (x : X) (old new : List Y)
 map_more {X} {Y} f xs x old new was is = is ∙ ap (λ (o : List Y). o ++ f x ∷ []) was ∙ sym (map-append f xs (x ∷ []))
 
 pub listed_more : (old new : RecordList) (known : Option RecordType) (lines : List LineParts) (line : LineParts) → IsTypeOf known line.tag
-    → new.tallies.items ≡ counted old.tallies.items line.xref → new.names.items ≡ old.names.items ++ listed_halves line.xref ∷ []
-    → new.digits.items ≡ old.digits.items ++ listed_digits line.xref ∷ [] → new.types.items ≡ old.types.items ++ known ∷ []
+    → new.tallies.items ≡ counted old.tallies.items line.xref → all_halves new ≡ all_halves old ++ listed_halves line.xref ∷ []
+    → (length old.names.items ≡ length old.digits.items → all_digits new ≡ all_digits old ++ listed_digits line.xref ∷ []) → new.types.items ≡ old.types.items ++ known ∷ []
     → AreListed old lines → AreListed new (lines ++ line ∷ [])
 listed_more old new known lines line is tallies names digits types before =
     let xrefs : map (λ (l : LineParts). l.xref) (lines ++ line ∷ []) ≡ map (λ (l : LineParts). l.xref) lines ++ line.xref ∷ [] = map-append (λ (l : LineParts). l.xref) lines (line ∷ []) in
     let before_xrefs = map (λ (l : LineParts). l.xref) lines in
+    let even : length old.names.items ≡ length old.digits.items =
+    as_many old [] before_xrefs (append-nil (all_halves old) ∙ before.names) (append-nil (all_digits old) ∙ before.digits) in
     record {
       tallies = fold_more counted (replicate 256 no_names) before_xrefs line.xref old.tallies.items new.tallies.items before.tallies tallies
           ∙ ap (λ (xs : List (Option Bytes)). fold counted (replicate 256 no_names) xs) (sym xrefs);
-      names = map_more listed_halves before_xrefs line.xref old.names.items new.names.items before.names names ∙ ap (λ (xs : List (Option Bytes)). map listed_halves xs) (sym xrefs);
-      digits = map_more listed_digits before_xrefs line.xref old.digits.items new.digits.items before.digits digits ∙ ap (λ (xs : List (Option Bytes)). map listed_digits xs) (sym xrefs);
+      names = map_more listed_halves before_xrefs line.xref (all_halves old) (all_halves new) before.names names ∙ ap (λ (xs : List (Option Bytes)). map listed_halves xs) (sym xrefs);
+      digits = map_more listed_digits before_xrefs line.xref (all_digits old) (all_digits new) before.digits (digits even) ∙ ap (λ (xs : List (Option Bytes)). map listed_digits xs) (sym xrefs);
       types = rw types (types_more old.types.items known lines line before.types is);
     }
 

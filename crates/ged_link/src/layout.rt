@@ -6,7 +6,7 @@ ghost use Rattle.ged_link.specs.inner.Layout.{counted_at, no_names, room, begun}
 use crate::slots::{Region, Slots};
 use std::alloc::{AllocError, Global};
 
-/// What is told of the names that begin with one byte.
+/// What is told of the names that begin with one byte and spell a number.
 #[derive(Clone, Copy)]
 pub(crate) struct Tally {
     count: u32,
@@ -27,7 +27,7 @@ pub(crate) fn no_tallies(alloc: Global) -> Result<Vec<Tally>, AllocError>
     vec![in alloc; NO_NAMES; 256]
 }
 
-/// Counts a name by its first byte, with the number behind that.
+/// Counts a name that spells a number by its first byte, with the number behind that.
 #[inline(always)]
 pub(crate) fn count_name(tallies: &mut Vec<Tally>, first: u8, number: u32)
     ensures { tallies.new.items ≡ counted_at tallies.old.items first number }

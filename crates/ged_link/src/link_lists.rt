@@ -21,7 +21,9 @@ pub(crate) struct Links {
     pub(crate) wide: Vec<(usize, usize)>,
     /// The number of the record that each of the pairs leads to.
     pub(crate) numbers: Vec<u32>,
-    /// How many of the pairs stand before those of each record. The first is HEAD, which has no number.
+    /// How many records begin before the first of the pairs. The first is HEAD, which has no number.
+    pub(crate) without: usize,
+    /// How many of the pairs stand before those of each later record. So a document without links takes no memory here.
     pub(crate) starts: Vec<u32>,
 }
 
@@ -47,6 +49,7 @@ impl Links {
             pairs: Vec::new(alloc),
             wide: Vec::new(alloc),
             numbers: Vec::new(alloc),
+            without: 0,
             starts: Vec::new(alloc),
         }
     }
@@ -63,6 +66,7 @@ impl Links {
             pairs,
             wide: Vec::new(alloc),
             numbers,
+            without: 0,
             starts: Vec::new(alloc),
         }
     }
@@ -72,8 +76,24 @@ impl Links {
         ensures pairs { OnOk result (self.new.pairs ≡ self.old.pairs) }
         ensures wide { OnOk result (self.new.wide ≡ self.old.wide) }
     {
+        if self.pairs.is_empty() {
+            self.without = self.without.saturating_add(1);
+            return Ok(());
+        }
         self.starts.push(kept_place(self.pairs.len()))?;
         Ok(())
+    }
+
+    /// Where the links of a record should begin among the pairs. The records are counted from 0, which is HEAD.
+    #[inline(always)]
+    pub(crate) fn start_of(&self, record: usize) -> usize {
+        match record.checked_sub(self.without) {
+            Some(later) => match self.starts.get(later) {
+                Some(start) => *start as usize,
+                None => self.pairs.len(),
+            },
+            None => 0,
+        }
     }
 
     /// Adds that the record at a place points to another one. Grows.

@@ -1,11 +1,12 @@
 // What is listed of the records: enough to keep each in its slot without another look at its text.
-ghost use Rattle.std.specs.Prelude.{◌≡◌, ◌+◌, ◌*◌, ◌/◌, ◌%◌, ◌++◌, ◌∷◌, [], IfOk, OnOk, fold, map, replicate};
+ghost use Rattle.std.specs.Prelude.{◌≡◌, ◌+◌, ◌*◌, ◌/◌, ◌%◌, ◌<◌, ◌++◌, ◌∷◌, [], List, Option, IfOk, OnOk, drop, fold, length, map, replicate};
 ghost use Rattle.std.specs.Option.{option_copied};
+ghost use Rattle.ged_line.specs.Bytes.{Bytes};
 ghost use Rattle.ged_tree.specs.Trees.{records_of, trees_count};
 ghost use Rattle.ged_tree.specs.Runs.{trees_between, IsRunOfTrees};
 ghost use Rattle.ged_link.specs.Links.{identifiers};
 ghost use Rattle.ged_link.specs.inner.Layout.{counted, no_names};
-ghost use Rattle.ged_link.specs.inner.Listing.{listed_name, listed_halves, listed_digits, AreTypesOf, IsRecordList};
+ghost use Rattle.ged_link.specs.inner.Listing.{listed_name, listed_halves, listed_digits, unnamed_in, all_halves, all_digits, AreTypesOf, IsRecordList};
 
 use crate::layout::{Tally, count_name, no_tallies};
 use crate::names::number_of;
@@ -36,20 +37,22 @@ const NO_NUMBER: ListedName = ListedName {
 
 /// What is told of the records, by their numbers.
 ///
-/// What is listed of the names stands in two vectors whose elements are those of [`crate::link_lists::Links`], which takes over their
-/// memory: to give back so large a block and ask for others makes an allocator copy these as they grow.
+/// What is listed of the names begins with the first record that has one, so it takes no memory where none has. It stands in two
+/// vectors whose elements are those of [`crate::link_lists::Links`], which takes over their memory: to give back so large a block and
+/// ask for others makes an allocator copy these as they grow.
 #[derive(Drop)]
 pub(crate) struct RecordList {
-    /// How many names begin with each byte.
+    /// How many names that spell a number begin with each byte.
     pub(crate) tallies: Vec<Tally>,
-    /// The numbers of the names, each by its low and its high half.
+    /// The numbers of the names, each by its low and its high half, from the first record on that has a name.
     pub(crate) names: Vec<(u32, u32)>,
     /// The numbers behind their first bytes.
     pub(crate) digits: Vec<u32>,
+    /// The types of all records.
     pub(crate) types: Vec<Option<RecordType>>,
 }
 
-/// Counts the name of a record. The answer is what is listed of it.
+/// Counts the name of a record, if it spells a number. The answer is what is listed of it.
 #[inline(always)]
 fn list_name(tallies: &mut Vec<Tally>, xref: Option<&str>) -> ListedName
     ensures counted { tallies.new.items ≡ counted tallies.old.items (option_copied xref.entry) }
@@ -61,12 +64,12 @@ fn list_name(tallies: &mut Vec<Tally>, xref: Option<&str>) -> ListedName
     let [first, digits @ ..] = name.as_bytes() else {
         return NO_NUMBER;
     };
+    let Some(number) = number_of(name) else {
+        return NO_NUMBER;
+    };
     let digits = read_number(digits);
     count_name(tallies, *first, digits);
-    match number_of(name) {
-        Some(number) => ListedName { number, digits },
-        None => NO_NUMBER,
-    }
+    ListedName { number, digits }
 }
 
 /// The low and the high half of a number.
@@ -82,7 +85,7 @@ fn halves(number: u64) -> (u32, u32)
 
 /// The number that has these halves.
 #[inline(always)]
-pub(crate) fn joined(halves: (u32, u32)) -> u64
+fn joined(halves: (u32, u32)) -> u64
     ensures { result ≡ halves.0 + halves.1 * 4294967296 }
 {
     let (low, high) = halves;
@@ -105,7 +108,7 @@ impl RecordList {
         })
     }
 
-    /// One more record. Grows.
+    /// One more record. Where neither it nor one before it has a name, only its type is listed. Grows.
     #[inline(always)]
     pub(crate) fn push(
         &mut self,
@@ -113,15 +116,56 @@ impl RecordList {
         record_type: Option<RecordType>,
     ) -> Result<(), AllocError>
         ensures tallies { OnOk result (self.new.tallies.items ≡ counted self.old.tallies.items (option_copied xref.entry)) }
-        ensures names { OnOk result (self.new.names.items ≡ self.old.names.items ++ listed_halves (option_copied xref.entry) ∷ []) }
-        ensures digits { OnOk result (self.new.digits.items ≡ self.old.digits.items ++ listed_digits (option_copied xref.entry) ∷ []) }
+        ensures names { OnOk result (all_halves self.new ≡ all_halves self.old ++ listed_halves (option_copied xref.entry) ∷ []) }
+        ensures digits { length self.old.names.items ≡ length self.old.digits.items
+            → OnOk result (all_digits self.new ≡ all_digits self.old ++ listed_digits (option_copied xref.entry) ∷ []) }
         ensures types { OnOk result (self.new.types.items ≡ self.old.types.items ++ record_type ∷ []) }
     {
+        if xref.is_none() && self.names.is_empty() {
+            self.types.push(record_type)?;
+            return Ok(());
+        }
         let name = list_name(&mut self.tallies, xref);
         self.names.push(halves(name.number))?;
         self.digits.push(name.digits)?;
         self.types.push(record_type)?;
         Ok(())
+    }
+
+    /// How many records stand before the first that has a name: those of which only the types are listed.
+    pub(crate) fn unnamed(&self) -> usize
+        ensures { result ≡ unnamed_in self.now }
+    {
+        self.types.len().saturating_sub(self.names.len())
+    }
+
+    /// How many names spell no number.
+    pub(crate) fn long_names(&self) -> usize {
+        self.digits
+            .iter()
+            .zip(&self.names)
+            .filter(|(digits, halves)| **digits == NO_NUMBER.digits && **halves == (0, 0))
+            .count()
+    }
+
+    /// What is listed of the name of the record with a number, where so many stand before the first that has a name. Of those nothing
+    /// is read.
+    #[inline(always)]
+    pub(crate) fn name_at(&self, unnamed: usize, number: usize) -> ListedName
+        requires unnamed { unnamed ≡ unnamed_in self.now }
+        requires names { number < length (all_halves self.now) }
+        requires digits { number < length (all_digits self.now) }
+        ensures { (xref : Option Bytes) (more : List (Option Bytes)) → drop number (all_halves self.now) ≡ map listed_halves (xref ∷ more)
+            → drop number (all_digits self.now) ≡ map listed_digits (xref ∷ more) → result ≡ listed_name xref }
+    {
+        if number < unnamed {
+            return NO_NAME;
+        }
+        let at = number - unnamed;
+        ListedName {
+            number: joined(self.names[at]),
+            digits: self.digits[at],
+        }
     }
 }
 
@@ -147,8 +191,8 @@ fn list_between<F: Forest>(
     requires run { IsRunOfTrees (F.trees forest.now) start end }
     requires records { trees_between (F.trees forest.now) start end ≡ records_of (F.trees forest.now) }
     ensures tallies { IfOk result (λ list. list.tallies.items ≡ fold counted (replicate 256 no_names) (identifiers (records_of (F.trees forest.now)))) }
-    ensures names { IfOk result (λ list. list.names.items ≡ map listed_halves (identifiers (records_of (F.trees forest.now)))) }
-    ensures digits { IfOk result (λ list. list.digits.items ≡ map listed_digits (identifiers (records_of (F.trees forest.now)))) }
+    ensures names { IfOk result (λ list. all_halves list ≡ map listed_halves (identifiers (records_of (F.trees forest.now)))) }
+    ensures digits { IfOk result (λ list. all_digits list ≡ map listed_digits (identifiers (records_of (F.trees forest.now)))) }
     ensures types { IfOk result (λ list. AreTypesOf list.types.items (records_of (F.trees forest.now))) }
 {
     let mut list = RecordList::new(alloc)?;

@@ -62,17 +62,11 @@ fn stands_there(links: &Links, number: usize, from: usize, to: usize) -> bool
     ensures { result ≡ true → is_listed links.now.pairs.items (from, to) ≡ true }
 {
     let next = number.saturating_add(1);
-    let Some(start) = links.starts.get(next) else {
-        return false;
-    };
-    let start = *start as usize;
+    let start = links.start_of(next);
     if stands_near(&links.pairs, start, from, to) {
         return true;
     }
-    let end = match links.starts.get(next.saturating_add(1)) {
-        Some(end) => *end as usize,
-        None => links.pairs.len(),
-    };
+    let end = links.start_of(next.saturating_add(1));
     stands_in_order(&links.pairs, start, end, from, to)
 }
 

@@ -11,7 +11,7 @@ ghost use Rattle.ged_link.specs.Places.{ArePlaces};
 ghost use Rattle.ged_link.specs.Indexes.{IsIndexOf, AreRecords, AreTyped, found_in};
 ghost use Rattle.ged_link.specs.inner.Indexes.{HasKey, HasNoOthers, IsKeyed, IsKeyedFrom};
 ghost use Rattle.ged_link.specs.inner.Keys.{names_key as key_of_names};
-ghost use Rattle.ged_link.specs.inner.Listing.{listed_name, listed_halves, listed_digits, AreTypesOf, IsRecordList};
+ghost use Rattle.ged_link.specs.inner.Listing.{listed_name, listed_halves, listed_digits, all_halves, all_digits, AreTypesOf, IsRecordList};
 ghost use Rattle.ged_link.specs.inner.PairSets.{lists_have};
 ghost use Rattle.ged_link.specs.inner.Resolving.{AddsRecord};
 ghost use Rattle.ged_link.specs.inner.Slots.{IsMissed};
@@ -24,7 +24,7 @@ use crate::keys::names_key;
 use crate::layout::slots_for;
 use crate::link_lists::LinkLists;
 use crate::links::find_one_way;
-use crate::listing::{ListedName, RecordList, first_record, joined, list_records};
+use crate::listing::{ListedName, RecordList, first_record, list_records};
 use crate::names::Names;
 use crate::places::push_place;
 use crate::pointers::{Records, follow_pointers};
@@ -96,18 +96,25 @@ fn resolve_listed<F: Forest>(
     })
 }
 
-/// Gives the maps, where they are empty, their key: that of all names from a record's own on.
-fn begin_others<F: Forest>(alloc: Global, forest: &F, end: usize, records: &mut Names, place: usize)
+/// Gives the maps, where they are empty, their key: that of all names from a record's own on. Takes memory for the long ones.
+fn begin_others<F: Forest>(
+    alloc: Global,
+    forest: &F,
+    end: usize,
+    records: &mut Names,
+    place: usize,
+) -> Result<(), AllocError>
     requires { IsRunOfTrees (F.trees forest.now) place end }
     ensures same { (name : _) → found_in records.new name ≡ found_in records.old name }
     ensures slots { records.new.slots ≡ records.old.slots }
-    ensures key { HasNoOthers records.old → HasKey records.new (key_of_names (identifiers (trees_between (F.trees forest.now) place end))) }
+    ensures key { HasNoOthers records.old → OnOk result (HasKey records.new (key_of_names (identifiers (trees_between (F.trees forest.now) place end)))) }
     ensures stays { (HasNoOthers records.old → ⊥) → records.new ≡ records.old }
-    ensures keyed { IsKeyed (F.trees forest.now) place end records.old → (first : ℕ) × IsKeyedFrom (F.trees forest.now) first place end records.new }
+    ensures keyed { IsKeyed (F.trees forest.now) place end records.old → OnOk result ((first : ℕ) × IsKeyedFrom (F.trees forest.now) first place end records.new) }
 {
     if records.has_no_others() {
-        records.set_key(alloc, names_key(forest, place, end));
+        records.set_key(alloc, names_key(forest, place, end))?;
     }
+    Ok(())
 }
 
 /// Adds a record whose name has no slot: by the number that is listed of the name, or where that is 0, by the name, which is read
@@ -129,7 +136,7 @@ fn add_other<F: Forest>(
     ensures added { IfOk result (AddsRecord records.old records.new (structure_at (F.trees forest.now) found.place).xref found) }
     ensures keyed { IsKeyed (F.trees forest.now) found.place end records.old → OnOk result (IsKeyed (F.trees forest.now) found.place end records.new) }
 {
-    begin_others(alloc, forest, end, records, found.place);
+    begin_others(alloc, forest, end, records, found.place)?;
     if number != 0 {
         return records.insert_short(number, found);
     }
@@ -179,8 +186,8 @@ fn add_records<F: Forest>(
     requires all { trees_between (F.trees forest.now) start end ≡ records_of (F.trees forest.now) }
     requires end { end ≡ trees_count (F.trees forest.now) }
     requires document { is_document (F.trees forest.now) ≡ true }
-    requires names { list.now.names.items ≡ map listed_halves (identifiers (records_of (F.trees forest.now))) }
-    requires digits { list.now.digits.items ≡ map listed_digits (identifiers (records_of (F.trees forest.now))) }
+    requires names { all_halves list.now ≡ map listed_halves (identifiers (records_of (F.trees forest.now))) }
+    requires digits { all_digits list.now ≡ map listed_digits (identifiers (records_of (F.trees forest.now))) }
     requires none { (name : _) → found_in records.old name ≡ None }
     requires others { HasNoOthers records.old }
     ensures records { OnOk result (AreRecords (F.trees forest.now) records.new) }
@@ -193,14 +200,12 @@ fn add_records<F: Forest>(
     let Ok(mut places) = Vec::with_capacity(alloc, list.types.len()) else {
         return Err(LinkFault::Memory(AllocError));
     };
+    let unnamed = list.unnamed();
     let mut place = start;
     let mut number: usize = 0;
     while let Some(after) = next_in_run(forest, place, end) {
         let found = RecordPlace { number, place };
-        let listed = ListedName {
-            number: joined(list.names[number]),
-            digits: list.digits[number],
-        };
+        let listed = list.name_at(unnamed, number);
         match add_record(alloc, forest, end, records, listed, found) {
             Ok(true) => {}
             Ok(false) => return Err(LinkFault::Duplicate(forest.line(place))),
@@ -250,7 +255,7 @@ fn find_records<F: Forest>(
 {
     let start = first_record(forest, end);
     let slots = slots_for(alloc, &list.tallies)?;
-    let mut names = Names::new(alloc, slots);
+    let mut names = Names::new(alloc, slots, list.long_names());
     let places = add_records(alloc, forest, start, end, &list, &mut names)?;
     Ok(FoundRecords {
         names,

@@ -2,42 +2,30 @@
 use Rattle.std.proofs.Common.{◌≡◌, ℕ, zero, suc, ◌+◌, ◌<◌, ◌≤◌, ◌%◌, ◌==◌, ◌++◌, Bool, true, false, cond, List, [], ◌∷◌, filter, length, take, drop, append_assoc, append-nil, drop-cons, Vec, Global, refl, sym, ap, ◌∙◌, subst, inl, inr, arith}
 use Rattle.std.specs.List.{AllByRecursion, slice_index_or, slice_set}
 use Rattle.std.proofs.lemmas.List.Elements.{filter-append}
-use Rattle.std.specs.List.Sorted.{IsPermutation}
-use Rattle.std.specs.Ordering.{is_gt, nat_cmp}
 use Rattle.std.proofs.lemmas.Bool.Decides.{nat_tests}
-use Rattle.std.proofs.lemmas.List.Sorted.{IsPermutation-refl, IsPermutation-cons, IsPermutation-middle, IsPermutation-trans}
 use Rattle.std.proofs.lemmas.Slice.{take-put_mid}
 use borrow.Rule.Slice.PartMut.{put_mid}
-use Rattle.ged_line.specs.Bytes.{Bytes}
 use Rattle.ged_canon.specs.declared.writer.rank.RankedSibling.{RankedSibling}
-use Rattle.ged_canon.specs.inner.Gathered.{has_rank, groups_of, members, joined, placed, IsRising, IsAmongRanks, HasBytes}
-use Rattle.ged_canon.specs.inner.Ranks.{tag_rank}
-use Rattle.ged_canon.specs.inner.Working.{falls}
-use Rattle.ged_canon.proofs.writer.RankOrder.{by_ranks}
+use Rattle.ged_canon.specs.inner.Gathered.{has_rank, groups_of, members, joined, placed, IsRising, IsAmongRanks}
+use Rattle.ged_canon.specs.inner.Siblings.{IsTold, rank_key}
+use Rattle.ged_canon.proofs.writer.SortKeys.{all_weaker, stays, falls_below}
 use Rattle.ged_canon.proofs.writer.StableSort.{put, put_all}
 
-abbrev pub own_tag : RankedSibling → Bytes
-own_tag sibling = sibling.tag.now
-
 -- Lists.
-
-all_weaker : (P Q : RankedSibling → Type 0) (xs : List RankedSibling) → ((x : RankedSibling) → P x → Q x) → AllByRecursion P xs → AllByRecursion Q xs
-all_weaker P Q [] f h = tt
-all_weaker P Q (x ∷ xs) f h = (f x h.0, all_weaker P Q xs f h.1)
 
 all_both : (P : RankedSibling → Type 0) (xs ys : List RankedSibling) → AllByRecursion P xs → AllByRecursion P ys → AllByRecursion P (xs ++ ys)
 all_both P [] ys h k = k
 all_both P (x ∷ xs) ys h k = (h.0, all_both P xs ys h.1 k)
 
-filtered : (P : RankedSibling → Type 0) (r : ℕ) (xs : List RankedSibling) → AllByRecursion P xs → AllByRecursion (λ y. P y × (y.rank ≡ r)) (filter (has_rank r) xs)
-filtered P r [] h = tt
-filtered P r (x ∷ xs) h = by (has_rank r x) refl (filtered P r xs h.1)
+filtered : (r : ℕ) (xs : List RankedSibling) → AllByRecursion (λ y. y.rank ≡ r) (filter (has_rank r) xs)
+filtered r [] = tt
+filtered r (x ∷ xs) = by (has_rank r x) refl (filtered r xs)
   where
     same : (n m : ℕ) → (n == m) ≡ true → n ≡ m
     same n m e = grind (arith, nat_tests)
 
-    by : (t : Bool) → has_rank r x ≡ t → AllByRecursion (λ y. P y × (y.rank ≡ r)) (filter (has_rank r) xs) → AllByRecursion (λ y. P y × (y.rank ≡ r)) (cond t (x ∷ filter (has_rank r) xs) (filter (has_rank r) xs))
-    by true e rest = ((h.0, same x.rank r e), rest)
+    by : (t : Bool) → has_rank r x ≡ t → AllByRecursion (λ y. y.rank ≡ r) (filter (has_rank r) xs) → AllByRecursion (λ y. y.rank ≡ r) (cond t (x ∷ filter (has_rank r) xs) (filter (has_rank r) xs))
+    by true e rest = (same x.rank r e, rest)
     by false e rest = rest
 
 is_rank : (r n : ℕ) → n ≡ r → (n == r) ≡ true
@@ -49,37 +37,15 @@ is_above r n h = grind (arith, nat_tests)
 is_below : (r n : ℕ) → n < r → (n == r) ≡ false
 is_below r n h = grind (arith, nat_tests)
 
--- The order of tags.
+-- Siblings put in one at a time.
 
-not_gt : (n m : ℕ) → n ≤ m → is_gt (nat_cmp n m) ≡ false
-not_gt n m h = grind (arith, nat_tests)
-
-gt : (n m : ℕ) → m < n → is_gt (nat_cmp n m) ≡ true
-gt n m h = grind (arith, nat_tests)
-
--- a short tag does not fall to one whose rank is as high
-stays : (x y : RankedSibling) → HasBytes x → HasBytes y → x.rank ≤ y.rank → x.rank % 256 ≤ 8 → falls (own_tag x) (own_tag y) ≡ false
-unfolding Rattle.ged_canon.specs.inner.Working.falls
-stays x y s t h short =
-    let whole : tag_rank (own_tag x) % 256 ≤ 8 = omega (arith, x.ranked) in
-    ap is_gt (sym (by_ranks (own_tag x) (own_tag y) s t (λ e. whole)))
-    ∙ (λ i. is_gt (nat_cmp (sym x.ranked i) (sym y.ranked i)))
-    ∙ not_gt x.rank y.rank h
-
-falls_below : (x y : RankedSibling) → HasBytes x → HasBytes y → y.rank < x.rank → falls (own_tag x) (own_tag y) ≡ true
-unfolding Rattle.ged_canon.specs.inner.Working.falls
-falls_below x y s t h =
-    ap is_gt (sym (by_ranks (own_tag x) (own_tag y) s t (λ e. absurd (omega (arith, e, x.ranked, y.ranked)))))
-    ∙ (λ i. is_gt (nat_cmp (sym x.ranked i) (sym y.ranked i)))
-    ∙ gt x.rank y.rank h
-
-put_behind : (x : RankedSibling) (ys zs : List RankedSibling) → AllByRecursion (λ y. falls (own_tag x) (own_tag y) ≡ true) ys → put own_tag x (ys ++ zs) ≡ ys ++ put own_tag x zs
+put_behind : (x : RankedSibling) (ys zs : List RankedSibling) → AllByRecursion (λ y. y.rank < x.rank) ys → put rank_key x (ys ++ zs) ≡ ys ++ put rank_key x zs
 put_behind x [] zs h = refl
-put_behind x (y ∷ ys) zs h = let e = h.0 in rw e (ap (λ l. y ∷ l) (put_behind x ys zs h.1))
+put_behind x (y ∷ ys) zs h = let e = falls_below x y h.0 in rw e (ap (λ l. y ∷ l) (put_behind x ys zs h.1))
 
-put_ahead : (x : RankedSibling) (ys : List RankedSibling) → AllByRecursion (λ y. falls (own_tag x) (own_tag y) ≡ false) ys → put own_tag x ys ≡ x ∷ ys
+put_ahead : (x : RankedSibling) (ys : List RankedSibling) → AllByRecursion (λ y. x.rank ≤ y.rank) ys → put rank_key x ys ≡ x ∷ ys
 put_ahead x [] h = refl
-put_ahead x (y ∷ ys) h = let e = h.0 in rw e
+put_ahead x (y ∷ ys) h = let e = stays x y h.0 in rw e
 
 -- Groups.
 
@@ -92,12 +58,12 @@ above n (r ∷ ranks) x h (inl e) = omega (arith, h.0, e)
 above n (r ∷ ranks) x h (inr m) = above n ranks x h.1 m
 
 -- what is gathered by ranks above one has ranks above it
-later : (n : ℕ) (ranks : List ℕ) (xs : List RankedSibling) → AllByRecursion (λ next. n < next) ranks → AllByRecursion HasBytes xs → AllByRecursion (λ y. HasBytes y × (n < y.rank)) (gathered ranks xs)
-later n [] xs h s = tt
-later n (r ∷ ranks) xs h s =
-    all_both (λ y. HasBytes y × (n < y.rank)) (filter (has_rank r) xs) (gathered ranks xs)
-    (all_weaker (λ y. HasBytes y × (y.rank ≡ r)) (λ y. HasBytes y × (n < y.rank)) (filter (has_rank r) xs) (λ y k. (k.0, omega (arith, k.1, h.0))) (filtered HasBytes r xs s))
-    (later n ranks xs h.1 s)
+later : (n : ℕ) (ranks : List ℕ) (xs : List RankedSibling) → AllByRecursion (λ next. n < next) ranks → AllByRecursion (λ y. n < y.rank) (gathered ranks xs)
+later n [] xs h = tt
+later n (r ∷ ranks) xs h =
+    all_both (λ y. n < y.rank) (filter (has_rank r) xs) (gathered ranks xs)
+    (all_weaker (λ y. y.rank ≡ r) (λ y. n < y.rank) (filter (has_rank r) xs) (λ y k. omega (arith, k, h.0)) (filtered r xs))
+    (later n ranks xs h.1)
 
 absent : (x : RankedSibling) (ranks : List ℕ) (xs : List RankedSibling) → AllByRecursion (λ next. x.rank < next) ranks → gathered ranks (x ∷ xs) ≡ gathered ranks xs
 absent x [] xs h = refl
@@ -105,25 +71,24 @@ absent x (r ∷ ranks) xs h =
     let e : (x.rank == r) ≡ false = is_below r x.rank h.0 in
     rw e (ap (λ l. filter (has_rank r) xs ++ l) (absent x ranks xs h.1))
 
-gather_one : (ranks : List ℕ) (x : RankedSibling) (xs : List RankedSibling) → IsRising ranks → IsAmongRanks ranks x → HasBytes x → AllByRecursion HasBytes xs → gathered ranks (x ∷ xs) ≡ put own_tag x (gathered ranks xs)
-gather_one [] x xs rise m s t = absurd m
-gather_one (r ∷ ranks) x xs rise (inl e) s t =
+gather_one : (ranks : List ℕ) (x : RankedSibling) (xs : List RankedSibling) → IsRising ranks → IsAmongRanks ranks x → gathered ranks (x ∷ xs) ≡ put rank_key x (gathered ranks xs)
+gather_one [] x xs rise m = absurd m
+gather_one (r ∷ ranks) x xs rise (inl e) =
     let here : (x.rank == r) ≡ true = is_rank r x.rank e in
     let own = filter (has_rank r) xs in
     let rest = subst (λ n. AllByRecursion (λ next. n < next) ranks) (sym e) rise.1 in
-    let short : x.rank % 256 ≤ 8 = omega (arith, rise.0, e) in
-    let firsts = all_weaker (λ y. HasBytes y × (y.rank ≡ r)) (λ y. falls (own_tag x) (own_tag y) ≡ false) own (λ y k. stays x y s k.0 (omega (arith, e, k.1)) short) (filtered HasBytes r xs t) in
-    let lasts = all_weaker (λ y. HasBytes y × (r < y.rank)) (λ y. falls (own_tag x) (own_tag y) ≡ false) (gathered ranks xs) (λ y k. stays x y s k.0 (omega (arith, e, k.1)) short) (later r ranks xs rise.1 t) in
+    let firsts = all_weaker (λ y. y.rank ≡ r) (λ y. x.rank ≤ y.rank) own (λ y k. omega (arith, e, k)) (filtered r xs) in
+    let lasts = all_weaker (λ y. r < y.rank) (λ y. x.rank ≤ y.rank) (gathered ranks xs) (λ y k. omega (arith, e, k)) (later r ranks xs rise.1) in
     ap (λ b. cond b (x ∷ own) own ++ gathered ranks (x ∷ xs)) here
     ∙ ap (λ l. x ∷ (own ++ l)) (absent x ranks xs rest)
-    ∙ sym (put_ahead x (own ++ gathered ranks xs) (all_both (λ y. falls (own_tag x) (own_tag y) ≡ false) own (gathered ranks xs) firsts lasts))
-gather_one (r ∷ ranks) x xs rise (inr m) s t =
+    ∙ sym (put_ahead x (own ++ gathered ranks xs) (all_both (λ y. x.rank ≤ y.rank) own (gathered ranks xs) firsts lasts))
+gather_one (r ∷ ranks) x xs rise (inr m) =
     let higher : r < x.rank = above r ranks x rise.1 m in
     let here : (x.rank == r) ≡ false = is_above r x.rank higher in
     let own = filter (has_rank r) xs in
-    let firsts = all_weaker (λ y. HasBytes y × (y.rank ≡ r)) (λ y. falls (own_tag x) (own_tag y) ≡ true) own (λ y k. falls_below x y s k.0 (omega (arith, higher, k.1))) (filtered HasBytes r xs t) in
+    let firsts = all_weaker (λ y. y.rank ≡ r) (λ y. y.rank < x.rank) own (λ y k. omega (arith, higher, k)) (filtered r xs) in
     ap (λ b. cond b (x ∷ own) own ++ gathered ranks (x ∷ xs)) here
-    ∙ ap (λ l. own ++ l) (gather_one ranks x xs rise.2 m s t)
+    ∙ ap (λ l. own ++ l) (gather_one ranks x xs rise.2 m)
     ∙ sym (put_behind x own (gathered ranks xs) firsts)
 
 none_gathered : (ranks : List ℕ) → gathered ranks [] ≡ []
@@ -131,24 +96,18 @@ none_gathered [] = refl
 none_gathered (r ∷ ranks) = none_gathered ranks
 
 -- siblings, all of these ranks, gathered, are siblings put in one at a time
-pub gathered_is : (ranks : List ℕ) (xs : List RankedSibling) → IsRising ranks → AllByRecursion (IsAmongRanks ranks) xs → AllByRecursion HasBytes xs → joined (groups_of ranks xs) ≡ put_all own_tag xs
-gathered_is ranks [] rise m t = none_gathered ranks
-gathered_is ranks (x ∷ xs) rise m t = gather_one ranks x xs rise m.0 t.0 t.1 ∙ ap (put own_tag x) (gathered_is ranks xs rise m.1 t.1)
+pub gathered_is : (ranks : List ℕ) (xs : List RankedSibling) → IsRising ranks → AllByRecursion (IsAmongRanks ranks) xs → joined (groups_of ranks xs) ≡ put_all rank_key xs
+gathered_is ranks [] rise m = none_gathered ranks
+gathered_is ranks (x ∷ xs) rise m = gather_one ranks x xs rise m.0 ∙ ap (put rank_key x) (gathered_is ranks xs rise m.1)
 
-put_permutes : (x : RankedSibling) (xs : List RankedSibling) → IsPermutation (x ∷ xs) (put own_tag x xs)
-put_permutes x [] = IsPermutation-refl (x ∷ [])
-put_permutes x (y ∷ ys) = by (falls (own_tag x) (own_tag y)) (put_permutes x ys)
+-- and their ranks tell their tags
+pub all_told : (ranks : List ℕ) (xs : List RankedSibling) → IsRising ranks → AllByRecursion (IsAmongRanks ranks) xs → AllByRecursion IsTold xs
+all_told ranks xs rise m = all_weaker (IsAmongRanks ranks) IsTold xs (λ x k. told ranks x rise k) m
   where
-    by : (t : Bool) → IsPermutation (x ∷ ys) (put own_tag x ys) → IsPermutation (x ∷ (y ∷ ys)) (cond t (y ∷ put own_tag x ys) (x ∷ (y ∷ ys)))
-    by true h =
-        IsPermutation-trans (x ∷ (y ∷ ys)) (y ∷ (x ∷ ys)) (y ∷ put own_tag x ys)
-        (IsPermutation-middle (x ∷ []) y ys)
-        (IsPermutation-cons y (x ∷ ys) (put own_tag x ys) h)
-    by false h = IsPermutation-refl (x ∷ (y ∷ ys))
-
-pub all_permutes : (xs : List RankedSibling) → IsPermutation xs (put_all own_tag xs)
-all_permutes [] = IsPermutation-refl []
-all_permutes (x ∷ xs) = IsPermutation-trans (x ∷ xs) (x ∷ put_all own_tag xs) (put own_tag x (put_all own_tag xs)) (IsPermutation-cons x xs (put_all own_tag xs) (all_permutes xs)) (put_permutes x (put_all own_tag xs))
+    told : (ranks : List ℕ) (x : RankedSibling) → IsRising ranks → IsAmongRanks ranks x → IsTold x
+    told [] x rise k = absurd k
+    told (r ∷ ranks) x rise (inl e) = omega (arith, rise.0, e)
+    told (r ∷ ranks) x rise (inr k) = told ranks x rise.2 k
 
 -- One sibling more.
 

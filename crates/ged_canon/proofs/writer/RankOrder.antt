@@ -1,6 +1,6 @@
 -- The order of tags is that of their ranks.
 use Rattle.std.proofs.Common.{◌≡◌, ℕ, zero, suc, ◌+◌, ◌*◌, ◌<◌, ◌≤◌, ◌%◌, ◌==◌, Bool, true, false, cond, [], ◌∷◌, length, get_or, refl, sym, ap, ◌∙◌, arith}
-use Rattle.std.specs.Prelude.{codes, min}
+use Rattle.std.specs.Prelude.{codes, min, nat_lt}
 use Rattle.std.specs.Str.{bytes_eq}
 use Rattle.std.specs.Cmp.{nat_cmp_is, ranks}
 use Rattle.std.specs.Ordering.{nat_cmp, ordering_then, ordering_reverse, MatchOrdering}
@@ -11,7 +11,7 @@ use Rattle.std.proofs.lemmas.Bool.Decides.{nat_tests}
 use Rattle.std.proofs.lemmas.Cmp.{nat_cmp_total, nat_list_cmp_total, tied_itself}
 use Rattle.ged_line.specs.Bytes.{Bytes}
 use Rattle.ged_line.specs.Names.{tag_order}
-use Rattle.ged_canon.specs.inner.Ranks.{unit, front, counted, own_rank, tag_rank}
+use Rattle.ged_canon.specs.inner.Ranks.{unit, front, counted, own_rank, tag_rank, rest_of_tag}
 
 abbrev AreBytes : Bytes → Type 0
 AreBytes bytes = (i : ℕ) → get_or bytes i 0 < 256
@@ -110,6 +110,74 @@ by_ranks a b s t whole = by (bytes_eq a (codes "GEDC")) (bytes_eq b (codes "GEDC
     by true false w = sym (nat_cmp_is 0 (own_rank b) Less (omega arith))
     by false true w = sym (nat_cmp_is (own_rank a) 0 Greater (omega arith))
     by false false w = own_order a b s t (λ e. let r : own_rank a % 256 ≤ 8 = w e in omega (arith, r, few 7 a))
+
+-- Ranks, and behind them what they do not tell.
+
+is_short : (rank : ℕ) → rank % 256 ≤ 8 → nat_lt 8 (rank % 256) ≡ false
+is_short rank h = grind (arith, nat_tests)
+
+is_long : (rank : ℕ) → 8 < rank % 256 → nat_lt 8 (rank % 256) ≡ true
+is_long rank h = grind (arith, nat_tests)
+
+-- ranks tell the order, unless they are one rank of long tags
+pub order_told : (r q : ℕ) (a b : Bytes) → (r ≡ q → r % 256 ≤ 8) → ordering_then (nat_cmp r q) (slice_cmp nat_cmp (rest_of_tag r a) (rest_of_tag q b)) ≡ nat_cmp r q
+order_told r q a b short = by (nat_cmp r q) (ranks r q)
+  where
+    by : (o : Ordering) → MatchOrdering o (r < q) (r ≡ q) (q < r) → ordering_then o (slice_cmp nat_cmp (rest_of_tag r a) (rest_of_tag q b)) ≡ o
+    by Less i = refl
+    by Equal i =
+        let first = is_short r (short i) in
+        let second = is_short q (omega (arith, i, short i)) in
+        λ j. slice_cmp nat_cmp (cond (first j) a []) (cond (second j) b [])
+    by Greater i = refl
+
+-- else the tags do
+pub order_left : (r q : ℕ) (a b : Bytes) → r ≡ q → 8 < r % 256 → ordering_then (nat_cmp r q) (slice_cmp nat_cmp (rest_of_tag r a) (rest_of_tag q b)) ≡ slice_cmp nat_cmp a b
+order_left r q a b e long =
+    let tied = sym (nat_cmp_is r q Equal e) in
+    let first = is_long r long in
+    let second = is_long q (omega (arith, e, long)) in
+    λ j. ordering_then (tied j) (slice_cmp nat_cmp (cond (first j) a []) (cond (second j) b []))
+
+not_gedc : (tag : Bytes) → 8 < tag_rank tag % 256 → bytes_eq tag (codes "GEDC") ≡ false
+not_gedc tag long = by (bytes_eq tag (codes "GEDC")) long
+  where
+    by : (t : Bool) → 8 < cond t 0 (own_rank tag) % 256 → t ≡ false
+    by true h = absurd (omega (arith, h))
+    by false h = refl
+
+-- both together are the order of tags
+pub by_keys : (a b : Bytes) → AreBytes a → AreBytes b
+    → ordering_then (nat_cmp (tag_rank a) (tag_rank b)) (slice_cmp nat_cmp (rest_of_tag (tag_rank a) a) (rest_of_tag (tag_rank b) b)) ≡ tag_order a b
+by_keys a b s t = by (tag_rank a == tag_rank b) (nat_lt 8 (tag_rank a % 256)) refl refl
+  where
+    same : (n m : ℕ) → (n == m) ≡ true → n ≡ m
+    same n m e = grind (arith, nat_tests)
+
+    other : (n m : ℕ) → (n == m) ≡ false → n ≡ m → ⊥
+    other n m e i = grind (arith, nat_tests)
+
+    above : (n : ℕ) → nat_lt 8 n ≡ true → 8 < n
+    above n e = grind (arith, nat_tests)
+
+    below : (n : ℕ) → nat_lt 8 n ≡ false → n ≤ 8
+    below n e = grind (arith, nat_tests)
+
+    by : (level long : Bool) → (tag_rank a == tag_rank b) ≡ level → nat_lt 8 (tag_rank a % 256) ≡ long
+        → ordering_then (nat_cmp (tag_rank a) (tag_rank b)) (slice_cmp nat_cmp (rest_of_tag (tag_rank a) a) (rest_of_tag (tag_rank b) b)) ≡ tag_order a b
+    by true true p q =
+        let e = same (tag_rank a) (tag_rank b) p in
+        let long : 8 < tag_rank a % 256 = above (tag_rank a % 256) q in
+        let first = not_gedc a long in
+        let second = not_gedc b (omega (arith, e, long)) in
+        order_left (tag_rank a) (tag_rank b) a b e long
+        ∙ sym (λ i. cond (first i) (cond (second i) Equal Less) (cond (second i) Greater (slice_cmp nat_cmp a b)))
+    by true false p q =
+        let short : tag_rank a % 256 ≤ 8 = below (tag_rank a % 256) q in
+        order_told (tag_rank a) (tag_rank b) a b (λ e. short) ∙ by_ranks a b s t (λ e. short)
+    by false long p q =
+        let apart = other (tag_rank a) (tag_rank b) p in
+        order_told (tag_rank a) (tag_rank b) a b (λ e. absurd (apart e)) ∙ by_ranks a b s t (λ e. absurd (apart e))
 
 -- The rank of four bytes, and of any.
 

@@ -27,8 +27,8 @@ use Rattle.ged_canon.specs.inner.StepParts.{renamed_structure, renamed_xref}
 use Rattle.ged_canon.specs.Normal.{numbered, IsNormalForm}
 use Rattle.ged_canon.specs.CanonText.{CanonText}
 use Rattle.ged_canon.specs.inner.Working.{is_named, used_xref, used_structure, used_trees, used_document, brief_structure, sorted, sorted_document, number_among, number_of, canon}
-use Rattle.ged_canon.specs.inner.Siblings.{unranked, sibling_structure, sibling_trees, sibling_names}
-use Rattle.ged_canon.specs.inner.Writing.{brief_sibling, renamed_sibling}
+use Rattle.ged_canon.specs.inner.Siblings.{own_tag, sibling_trees, sibling_names}
+use Rattle.ged_canon.specs.inner.Writing.{brief_sibling, renamed_sibling, sibling_at}
 use Rattle.ged_canon.specs.inner.CanonBytes.{AreNamed, number_at, numbered_siblings, spelled_siblings}
 use Rattle.ged_canon.proofs.theory.Texts.{same_bytes, equal_bytes}
 use Rattle.ged_canon.proofs.theory.Bare.{stands}
@@ -48,13 +48,13 @@ use Rattle.ged_canon.proofs.writer.OwnLines.{spelled_append, lines_with}
 
 -- HEAD and the records behind it, in order, are the document in order
 pub document_listed : (used : Bytes → Bool) (edition : Edition) (d : Trees) (end after : ℕ) (head : RankedSibling) (records : List RankedSibling) → trees_between d 0 end ≡ d → IsRunOfTrees d 0 end → IsStep d 0 end after
-    → head.place ≡ 0 → head.tag.now ≡ (structure_at d 0).tag
+    → head.place ≡ 0
     → sibling_trees used edition File d records ≡ sorted edition File (used_trees used (trees_between d after end))
     → sibling_trees used edition File d (head ∷ records) ≡ sorted_document edition (used_trees used d)
-document_listed used edition d end after head records all run step at tag e =
+document_listed used edition d end after head records all run step at e =
     let s = structure_at d 0 in
-    (λ i. tree (brief_structure edition File (used_structure used (record { xref = (structure_at d (at i)).xref; tag = tag i; payload = (structure_at d (at i)).payload })))
-    (sorted edition (context_below File (tag i)) (below_at d (at i)))
+    (λ i. tree (brief_structure edition File (used_structure used (structure_at d (at i))))
+    (sorted edition (context_below File (structure_at d (at i)).tag) (below_at d (at i)))
     (e i))
     ∙ ap (λ b. tree (brief_structure edition File (used_structure used s)) (sorted edition (context_below File s.tag) b) (sorted edition File (used_trees used (trees_between d after end)))) (sym (below_step d 0 end after run step))
     ∙ ap (λ t. sorted_document edition (used_trees used t)) (sym step.first ∙ all)
@@ -126,16 +126,16 @@ at_top (Some name) h = h
 
 module _ (used : Bytes → Bool) (edition : Edition) (d : Trees) (sibling : RankedSibling) (rest : List RankedSibling) (h : are_at 0 (sibling_trees used edition File d (sibling ∷ rest)) ≡ true) where
   abbrev own : Structure
-  own = brief_structure edition File (used_structure used (sibling_structure d sibling))
+  own = brief_structure edition File (used_structure used (structure_at d sibling.place))
 
   abbrev below : Trees
-  below = sorted edition (context_below File sibling.tag.now) (below_at d sibling.place)
+  below = sorted edition (context_below File (own_tag d sibling)) (below_at d sibling.place)
 
   abbrev others : Trees
   others = sibling_trees used edition File d rest
 
   -- the first of siblings has lines, with any identifier
-  pub own_stands : (xref : Option Bytes) → may_be_xref xref ≡ true → HasLinesAt 0 (brief_sibling edition (row File sibling.tag.now) xref d (unranked sibling))
+  pub own_stands : (xref : Option Bytes) → may_be_xref xref ≡ true → HasLinesAt 0 (brief_sibling edition (row File (own_tag d sibling)) xref d (sibling_at d sibling.place))
   own_stands xref named = lines_with 0 own xref ((and_parts (is_structure_at 0 own) (are_at 1 below && are_at 0 others) h).0) named
 
   -- its own identifier, where that is used, is one
@@ -169,22 +169,22 @@ siblings_stand used edition d e xs is listed = ap (are_at 0) listed ∙ at_of_do
 
 -- the lines of one sibling with its new identifier
 pub record_spelled : (used : Bytes → Bool) (edition : Edition) (names : List Bytes) (d : Trees) (x : RankedSibling) (xref : Option Bytes) → renamed_xref (number_of 1 names) (used_xref used (structure_at d x.place).xref) ≡ xref
-    → spelled_lines (structure_lines 0 (renamed_sibling (number_of 1 names) edition (row File x.tag.now) xref d (unranked x)) ++ lines_of 1 (renamed (number_of 1 names) (sorted edition (context_below File x.tag.now) (below_at d x.place))))
+    → spelled_lines (structure_lines 0 (renamed_sibling (number_of 1 names) edition (row File (own_tag d x)) xref d (sibling_at d x.place)) ++ lines_of 1 (renamed (number_of 1 names) (sorted edition (context_below File (own_tag d x)) (below_at d x.place))))
     ≡ spelled_siblings used edition names d (x ∷ [])
 record_spelled used edition names d x xref e =
     let f = number_of 1 names in
-    let deep = lines_of 1 (renamed f (sorted edition (context_below File x.tag.now) (below_at d x.place))) in
-    ap (λ (y : Option Bytes). spelled_lines (structure_lines 0 (renamed_sibling f edition (row File x.tag.now) y d (unranked x)) ++ deep)) (sym e)
-    ∙ ap spelled_lines (sym (append-nil (structure_lines 0 (renamed_sibling f edition (row File x.tag.now) (renamed_xref f (used_xref used (structure_at d x.place).xref)) d (unranked x)) ++ deep)))
+    let deep = lines_of 1 (renamed f (sorted edition (context_below File (own_tag d x)) (below_at d x.place))) in
+    ap (λ (y : Option Bytes). spelled_lines (structure_lines 0 (renamed_sibling f edition (row File (own_tag d x)) y d (sibling_at d x.place)) ++ deep)) (sym e)
+    ∙ ap spelled_lines (sym (append-nil (structure_lines 0 (renamed_sibling f edition (row File (own_tag d x)) (renamed_xref f (used_xref used (structure_at d x.place).xref)) d (sibling_at d x.place)) ++ deep)))
 
 -- one sibling and the others behind it
 pub siblings_spelled : (used : Bytes → Bool) (edition : Edition) (names : List Bytes) (d : Trees) (x : RankedSibling) (xs : List RankedSibling)
     → spelled_siblings used edition names d (x ∷ xs) ≡ spelled_siblings used edition names d (x ∷ []) ++ spelled_siblings used edition names d xs
 siblings_spelled used edition names d x xs =
     let f = number_of 1 names in
-    let s = brief_structure edition File (used_structure used (sibling_structure d x)) in
+    let s = brief_structure edition File (used_structure used (structure_at d x.place)) in
     let own = structure_lines 0 (renamed_structure f s) in
-    let deep = lines_of 1 (renamed f (sorted edition (context_below File x.tag.now) (below_at d x.place))) in
+    let deep = lines_of 1 (renamed f (sorted edition (context_below File (own_tag d x)) (below_at d x.place))) in
     let rest = lines_of 0 (numbered_siblings used edition names d xs) in
     spelled_append (own ++ deep) rest ∙ ap (λ ls. spelled_lines ls ++ spelled_lines rest) (sym (append-nil (own ++ deep)))
 

@@ -14,7 +14,7 @@ use Rattle.ged_schema.specs.Tables.{context_below}
 use Rattle.ged_canon.specs.declared.edition.Edition.{Edition}
 use Rattle.ged_canon.specs.declared.writer.rank.RankedSibling.{RankedSibling}
 use Rattle.ged_canon.specs.inner.Working.{used_structure, used_trees, brief_structure, sorted, each_sorted}
-use Rattle.ged_canon.specs.inner.Siblings.{sibling_structure, sibling_trees}
+use Rattle.ged_canon.specs.inner.Siblings.{own_tag, sibling_trees}
 use Rattle.ged_canon.proofs.writer.StableSort.{AreListed}
 
 same_below : (s : Structure) (b n c m : Trees) → tree s b n ≡ tree s c m → b ≡ c
@@ -29,20 +29,20 @@ below_step d place end after run step =
 
 -- the trees of siblings, of which the first is the first of a run
 pub first_sibling : (used : Bytes → Bool) (edition : Edition) (context : Context) (d : Trees) (place end after : ℕ) (sibling : RankedSibling) (rest : List RankedSibling)
-    → IsRunOfTrees d place end → IsStep d place end after → sibling.place ≡ place → sibling.tag.now ≡ (structure_at d place).tag
+    → IsRunOfTrees d place end → IsStep d place end after → sibling.place ≡ place
     → sibling_trees used edition context d rest ≡ each_sorted edition context (used_trees used (trees_between d after end))
     → sibling_trees used edition context d (sibling ∷ rest) ≡ each_sorted edition context (used_trees used (trees_between d place end))
-first_sibling used edition context d place end after sibling rest run step at tag e =
+first_sibling used edition context d place end after sibling rest run step at e =
     let s = structure_at d place in
-    (λ i. tree (brief_structure edition context (used_structure used (record { xref = (structure_at d (at i)).xref; tag = tag i; payload = (structure_at d (at i)).payload })))
-    (sorted edition (context_below context (tag i)) (below_at d (at i)))
+    (λ i. tree (brief_structure edition context (used_structure used (structure_at d (at i))))
+    (sorted edition (context_below context (structure_at d (at i)).tag) (below_at d (at i)))
     (e i))
     ∙ ap (λ b. tree (brief_structure edition context (used_structure used s)) (sorted edition (context_below context s.tag) b) (each_sorted edition context (used_trees used (trees_between d after end)))) (sym (below_step d place end after run step))
     ∙ ap (λ t. each_sorted edition context (used_trees used t)) (sym step.first)
 
 -- siblings are listed as trees
 pub siblings_listed : (used : Bytes → Bool) (edition : Edition) (context : Context) (d : Trees)
-    → AreListed (λ (x : RankedSibling). brief_structure edition context (used_structure used (sibling_structure d x))) (λ x. sorted edition (context_below context x.tag.now) (below_at d x.place)) (sibling_trees used edition context d)
+    → AreListed (λ (x : RankedSibling). brief_structure edition context (used_structure used (structure_at d x.place))) (λ x. sorted edition (context_below context (own_tag d x)) (below_at d x.place)) (sibling_trees used edition context d)
 siblings_listed used edition context d = record { nothing = refl; first = λ x xs. refl }
 
 pub all_with : (P : RankedSibling → Type 0) (xs : List RankedSibling) (x : RankedSibling) → AllByRecursion P xs → P x → AllByRecursion P (xs ++ x ∷ [])

@@ -181,9 +181,6 @@ module _ {A : Type 0} (structure : A → Structure) (below : A → Trees) (trees
   all_put [] = listed.nothing ∙ ap grouped (sym listed.nothing)
   all_put (x ∷ xs) = trees_put x (put_all own_tag xs) ∙ ap (put_tree (structure x) (below x)) (all_put xs) ∙ ap grouped (sym (listed.first x xs))
 
-  pub a_stable_sort_of_trees : (xs ys : List A) → IsSortedBy (before own_tag) ys → IsStableBy (before own_tag) xs ys → trees ys ≡ grouped (trees xs)
-  a_stable_sort_of_trees xs ys h k = ap trees (a_stable_sort own_tag xs ys h k) ∙ all_put xs
-
 pub grouped_is_sorted : (edition : Edition) (context : Context) (xs : Trees) → grouped (each_sorted edition context xs) ≡ sorted edition context xs
 grouped_is_sorted edition context none = refl
 grouped_is_sorted edition context (tree s below next) = ap (put_tree (brief_structure edition context s) (sorted edition (context_below context s.tag) below)) (grouped_is_sorted edition context next)

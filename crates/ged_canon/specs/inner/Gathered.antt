@@ -3,7 +3,7 @@
 use Rattle.std.specs.Prelude.{◌≡◌, ◌<◌, ◌≤◌, ◌%◌, ◌==◌, ◌++◌, ⊤, ℕ, Bool, List, [], ◌∷◌, filter, zero, suc, ◌⊎◌}
 use Rattle.std.specs.Prelude.{Vec}
 use Rattle.std.specs.Global.{Global}
-use Rattle.std.specs.List.{AllByRecursion, slice_index_or}
+use Rattle.std.specs.List.{AllByRecursion}
 use Rattle.ged_canon.specs.declared.writer.rank.RankedSibling.{RankedSibling}
 
 -- a sibling's tag has this rank
@@ -40,7 +40,3 @@ IsRising (rank ∷ ranks) = (rank % 256 ≤ 8) × AllByRecursion (λ next. rank 
 abbrev pub IsAmongRanks : List ℕ → RankedSibling → Type 0
 IsAmongRanks [] sibling = ⊥
 IsAmongRanks (rank ∷ ranks) sibling = (sibling.rank ≡ rank) ⊎ IsAmongRanks ranks sibling
-
--- a tag's bytes are bytes
-abbrev pub HasBytes : RankedSibling → Type 0
-HasBytes sibling = (place : ℕ) → slice_index_or sibling.tag.now place 0 < 256

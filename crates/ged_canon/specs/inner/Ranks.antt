@@ -1,6 +1,6 @@
 -- Nothing here need be believed: only private contracts and proofs cite it.
 -- The ranks of tags, which are compared in place of the tags.
-use Rattle.std.specs.Prelude.{ℕ, ◌+◌, ◌*◌, zero, suc, [], ◌∷◌, cond, codes}
+use Rattle.std.specs.Prelude.{ℕ, ◌+◌, ◌*◌, ◌%◌, zero, suc, [], ◌∷◌, cond, nat_lt, codes}
 use Rattle.std.specs.Str.{bytes_eq}
 use Rattle.ged_line.specs.Bytes.{Bytes}
 
@@ -28,3 +28,7 @@ own_rank tag = front 7 tag * 256 + (counted 7 tag + 1)
 -- GEDC has the lowest rank
 abbrev pub tag_rank : Bytes → ℕ
 tag_rank tag = cond (bytes_eq tag (codes "GEDC")) 0 (own_rank tag)
+
+-- what a rank does not tell of a tag: nothing, or, where the tag has more than seven bytes, all of it
+abbrev pub rest_of_tag : ℕ → Bytes → Bytes
+rest_of_tag rank tag = cond (nat_lt 8 (rank % 256)) tag []

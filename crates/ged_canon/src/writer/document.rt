@@ -23,8 +23,8 @@ use crate::writer::answer::Answer;
 use crate::writer::lines::put_identifier;
 use crate::writer::numbers::new_number_with;
 use crate::writer::plan::{Plan, Work, Writer};
-use crate::writer::rank::{RankedSibling, ranked_sibling};
-use crate::writer::siblings::{Sibling, numbers_in_order, push_sorted};
+use crate::writer::rank::RankedSibling;
+use crate::writer::siblings::{Sibling, numbers_in_order, push_sorted, ranked_sibling};
 use ged_line::ValueView;
 use ged_link::{Index, RecordCursor};
 use ged_schema::{Context, ContextRows};
@@ -42,7 +42,7 @@ const FEW_RECORDS: usize = 4;
 pub(crate) fn document_siblings<F: Forest>(
     alloc: Global,
     forest: &F,
-) -> Result<Vec<RankedSibling<'_>>, AllocError>
+) -> Result<Vec<RankedSibling>, AllocError>
     ensures within { IfOk result (λ made. AllByRecursion (StandsRanked (F.trees forest.now)) made.items) }
     ensures count { IfOk result (λ made. length (identifiers (records_of (F.trees forest.now))) ≤ length made.items) }
     ensures trees { (used : Bytes → Bool) (edition : AnyEdition) → IfOk result (λ made. sibling_trees used edition File (F.trees forest.now) made.items
@@ -55,12 +55,12 @@ pub(crate) fn document_siblings<F: Forest>(
     };
     let room = forest.size() / STRUCTURES_PER_RECORD + FEW_RECORDS;
     let mut made = Vec::with_capacity(alloc, room)?;
-    made.push(ranked_sibling(forest.tag(0), 0))?;
+    made.push(ranked_sibling(forest, 0))?;
     push_sorted(alloc, forest, records, end, &mut made)?;
     Ok(made)
 }
 
-impl<'a, F: Forest> Writer<'a, '_, F> {
+impl<F: Forest> Writer<'_, '_, F> {
     /// The new number of the record at a place, or 0 where it gets none.
     fn own_number(&self, place: usize, records: &mut RecordCursor) -> usize
         requires { place < trees_count (F.trees self.now.forest.now) }
@@ -77,21 +77,20 @@ impl<'a, F: Forest> Writer<'a, '_, F> {
     /// Appends the lines of HEAD or of a record, and of what stands below it. The text takes the record's new identifier.
     fn write_record(
         &self,
-        sibling: RankedSibling<'_>,
+        sibling: RankedSibling,
         name: &mut String,
-        work: &mut Work<'a, '_>,
+        work: &mut Work<'_>,
     ) -> Result<(), AllocError>
         requires { CanWriteRecords (is_named (F.trees self.now.forest.now)) self.now.plan.edition (F.trees self.now.forest.now) (sibling ∷ []) }
-        ensures { WritesRecords (F.trees self.now.forest.now) self.now.plan result work.old.answer work.new.answer (sibling.entry ∷ []) }
+        ensures { WritesRecords (F.trees self.now.forest.now) self.now.plan result work.old.answer work.new.answer (sibling ∷ []) }
     {
         let rows = ContextRows::of(Context::File);
-        let rule = rows.row(sibling.tag);
-        let end = self.forest.after(sibling.place);
-        let own = Sibling {
-            tag: sibling.tag,
-            place: sibling.place,
-        };
-        let number = self.own_number(sibling.place, &mut work.records);
+        let place = sibling.place;
+        let tag = self.forest.tag(place);
+        let rule = rows.row(tag);
+        let end = self.forest.after(place);
+        let own = Sibling { tag, place };
+        let number = self.own_number(place, &mut work.records);
         if number == 0 {
             return self.write_tree(rule, 0, None, own, end, work);
         }
@@ -103,8 +102,8 @@ impl<'a, F: Forest> Writer<'a, '_, F> {
     /// Appends the lines of HEAD and the records, and of what stands below them.
     fn write_records(
         &self,
-        siblings: &[RankedSibling<'_>],
-        work: &mut Work<'a, '_>,
+        siblings: &[RankedSibling],
+        work: &mut Work<'_>,
     ) -> Result<(), AllocError>
         requires { CanWriteRecords (is_named (F.trees self.now.forest.now)) self.now.plan.edition (F.trees self.now.forest.now) siblings.now }
         ensures { WritesRecords (F.trees self.now.forest.now) self.now.plan result work.old.answer work.new.answer siblings.now }

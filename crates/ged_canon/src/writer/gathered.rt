@@ -1,5 +1,5 @@
 // Long runs of siblings with few different tags, put in order without comparing siblings with one another.
-ghost use Rattle.std.specs.Prelude.{◌≡◌, ◌<◌, [], ℕ, Bool, false, IsTrue, IfOk, OnOk, IfSome, length, slice_index_or};
+ghost use Rattle.std.specs.Prelude.{◌≡◌, ◌<◌, [], Bool, false, IsTrue, IfOk, OnOk, IfSome, length, slice_index_or};
 ghost use Rattle.std.specs.List.{AllByRecursion};
 ghost use Rattle.std.specs.List.Sorted.{IsPermutation};
 ghost use Rattle.ged_line.specs.Bytes.{Bytes};
@@ -7,8 +7,8 @@ ghost use Rattle.ged_tree.specs.Trees.{Trees};
 ghost use Rattle.ged_schema.specs.declared.context.Context.{Context as AnyContext};
 ghost use Rattle.ged_canon.specs.declared.edition.Edition.{Edition as AnyEdition};
 ghost use Rattle.ged_canon.specs.inner.Working.{grouped};
-ghost use Rattle.ged_canon.specs.inner.Siblings.{sibling_trees};
-ghost use Rattle.ged_canon.specs.inner.Gathered.{IsRising, IsAmongRanks, HasBytes, groups_of, members, joined, placed};
+ghost use Rattle.ged_canon.specs.inner.Siblings.{StandsRanked, AreGrouped};
+ghost use Rattle.ged_canon.specs.inner.Gathered.{IsRising, IsAmongRanks, groups_of, members, joined, placed};
 
 use crate::writer::rank::RankedSibling;
 use std::alloc::{AllocError, Global};
@@ -39,7 +39,7 @@ fn has_counted(tallies: &mut [Tally], rank: u64) -> bool {
 }
 
 /// Whether siblings of one tag mostly stand apart from one another. Others are in stretches, which a sort by comparison takes as they are.
-fn are_mixed(siblings: &[RankedSibling<'_>]) -> bool {
+fn are_mixed(siblings: &[RankedSibling]) -> bool {
     let few = siblings.len() / LONG_STRETCH;
     let mut stretches = 0usize;
     let mut last = u64::MAX;
@@ -57,7 +57,7 @@ fn are_mixed(siblings: &[RankedSibling<'_>]) -> bool {
 
 /// The ranks of siblings, the lowest first, and how many have each; none where there are more than [`MOST_TAGS`]. This is a guess, which
 /// whoever makes groups by it tests. Grows.
-fn tallies_of(alloc: Global, siblings: &[RankedSibling<'_>]) -> Result<Vec<Tally>, AllocError> {
+fn tallies_of(alloc: Global, siblings: &[RankedSibling]) -> Result<Vec<Tally>, AllocError> {
     let mut tallies = Vec::with_capacity(alloc, MOST_TAGS)?;
     for each in siblings {
         if !has_counted(&mut tallies, each.rank) {
@@ -75,11 +75,11 @@ fn tallies_of(alloc: Global, siblings: &[RankedSibling<'_>]) -> Result<Vec<Tally
 }
 
 /// Appends the ranks, and for each a group with room for its siblings, and answers whether the ranks rise and are of short tags. Grows.
-fn make_groups<'a>(
+fn make_groups(
     alloc: Global,
     tallies: &[Tally],
     ranks: &mut Vec<u64>,
-    groups: &mut Vec<Vec<RankedSibling<'a>>>,
+    groups: &mut Vec<Vec<RankedSibling>>,
 ) -> Result<bool, AllocError>
     requires no_rank { ranks.old.items ≡ [] }
     requires no_group { groups.old.items ≡ [] }
@@ -115,50 +115,40 @@ fn place_of(ranks: &[u64], rank: u64) -> Option<usize>
 
 /// Appends a sibling to the group at a place. Grows.
 #[inline(always)]
-fn push_at<'a>(
-    groups: &mut [Vec<RankedSibling<'a>>],
+fn push_at(
+    groups: &mut [Vec<RankedSibling>],
     at: usize,
-    sibling: RankedSibling<'a>,
+    sibling: RankedSibling,
 ) -> Result<(), AllocError>
     requires { at < length groups.old }
-    ensures { OnOk result (members groups.new ≡ placed (members groups.old) at sibling.entry) }
+    ensures { OnOk result (members groups.new ≡ placed (members groups.old) at sibling) }
 {
     groups[at].push(sibling)?;
     Ok(())
 }
 
-/// That each place of a tag has a byte. Only a proof needs this.
-#[inline(always)]
-fn know_bytes(tag: &str)
-    ensures { (place : ℕ) → slice_index_or tag.now place 0 < 256 }
-{
-    let _known = tag;
-}
-
 /// Appends siblings to the groups of their ranks, each to one, and answers whether each has its rank among these. Grows.
-fn fill_groups<'a>(
-    siblings: &[RankedSibling<'a>],
+fn fill_groups(
+    siblings: &[RankedSibling],
     ranks: &[u64],
-    groups: &mut [Vec<RankedSibling<'a>>],
+    groups: &mut [Vec<RankedSibling>],
 ) -> Result<bool, AllocError>
     requires rising { IsRising ranks.now }
     requires empty { members groups.old ≡ groups_of ranks.now [] }
     ensures filled { IfOk result (λ all. IsTrue all → members groups.new ≡ groups_of ranks.now siblings.now) }
     ensures among { IfOk result (λ all. IsTrue all → AllByRecursion (IsAmongRanks ranks.now) siblings.now) }
-    ensures bytes { IfOk result (λ all. IsTrue all → AllByRecursion HasBytes siblings.now) }
 {
     for each in siblings {
         let Some(at) = place_of(ranks, each.rank) else {
             return Ok(false);
         };
-        know_bytes(each.tag);
         push_at(groups, at, *each)?;
     }
     Ok(true)
 }
 
 /// Writes the siblings of all groups, those of the first one first.
-fn write_groups<'a>(groups: &[Vec<RankedSibling<'a>>], siblings: &mut [RankedSibling<'a>])
+fn write_groups(groups: &[Vec<RankedSibling>], siblings: &mut [RankedSibling])
     requires { length (joined (members groups.now)) ≡ length siblings.old }
     ensures { siblings.new ≡ joined (members groups.now) }
 {
@@ -172,16 +162,15 @@ fn write_groups<'a>(groups: &[Vec<RankedSibling<'a>>], siblings: &mut [RankedSib
 
 /// Puts siblings in the order of their tags by empty groups for these ranks, and answers whether each has its rank among these; those with
 /// one tag keep their order. Else they stay as they are. Grows.
-fn place_siblings<'a>(
+fn place_siblings(
     ranks: &[u64],
-    groups: &mut [Vec<RankedSibling<'a>>],
-    siblings: &mut [RankedSibling<'a>],
+    groups: &mut [Vec<RankedSibling>],
+    siblings: &mut [RankedSibling],
 ) -> Result<bool, AllocError>
     requires rising { IsRising ranks.now }
     requires empty { members groups.old ≡ groups_of ranks.now [] }
     ensures permutation { IsPermutation siblings.old siblings.new }
-    ensures trees { (d : Trees) (used : Bytes → Bool) (edition : AnyEdition) (context : AnyContext) →
-        IfOk result (λ all. IsTrue all → sibling_trees used edition context d siblings.new ≡ grouped (sibling_trees used edition context d siblings.old)) }
+    ensures trees { (d : Trees) → AllByRecursion (StandsRanked d) siblings.old → IfOk result (λ all. IsTrue all → AreGrouped d siblings.old siblings.new) }
     ensures unchanged { IfOk result (λ all. all ≡ false → siblings.new ≡ siblings.old) }
 {
     if !fill_groups(siblings, ranks, groups)? {
@@ -197,11 +186,10 @@ fn place_siblings<'a>(
 #[inline(never)]
 pub(crate) fn gather_siblings(
     alloc: Global,
-    siblings: &mut [RankedSibling<'_>],
+    siblings: &mut [RankedSibling],
 ) -> Result<bool, AllocError>
     ensures permutation { IsPermutation siblings.old siblings.new }
-    ensures trees { (d : Trees) (used : Bytes → Bool) (edition : AnyEdition) (context : AnyContext) →
-        IfOk result (λ all. IsTrue all → sibling_trees used edition context d siblings.new ≡ grouped (sibling_trees used edition context d siblings.old)) }
+    ensures trees { (d : Trees) → AllByRecursion (StandsRanked d) siblings.old → IfOk result (λ all. IsTrue all → AreGrouped d siblings.old siblings.new) }
     ensures unchanged { IfOk result (λ all. all ≡ false → siblings.new ≡ siblings.old) }
 {
     if !are_mixed(siblings) {

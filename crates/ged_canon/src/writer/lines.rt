@@ -162,7 +162,7 @@ impl<F: Forest> Writer<'_, '_, F> {
         level: u8,
         xref: Option<&str>,
         sibling: Sibling<'_>,
-        work: &mut Work<'_, '_>,
+        work: &mut Work<'_>,
     ) -> Result<(), AllocError>
         requires within { StandsIn (F.trees self.now.forest.now) sibling }
         requires points { is_pointer (structure_at (F.trees self.now.forest.now) sibling.place).payload ≡ true }
@@ -224,7 +224,7 @@ impl<F: Forest> Writer<'_, '_, F> {
         rows: &ContextRows,
         level: u8,
         place: usize,
-        work: &mut Work<'_, '_>,
+        work: &mut Work<'_>,
     ) -> Result<bool, AllocError>
         requires within { place < trees_count (F.trees self.now.forest.now) }
         requires stands { HasLinesAt level (brief_sibling self.now.plan.edition (row rows.now (structure_at (F.trees self.now.forest.now) place).tag) None (F.trees self.now.forest.now) (sibling_at (F.trees self.now.forest.now) place)) }
@@ -259,7 +259,7 @@ impl<F: Forest> Writer<'_, '_, F> {
         level: u8,
         xref: Option<&str>,
         sibling: Sibling<'_>,
-        work: &mut Work<'_, '_>,
+        work: &mut Work<'_>,
     ) -> Result<(), AllocError>
         requires within { StandsIn (F.trees self.now.forest.now) sibling }
         requires stands { HasLinesAt level (brief_sibling self.now.plan.edition (row_of rule) (option_copied xref) (F.trees self.now.forest.now) sibling) }

@@ -27,14 +27,14 @@ pub(crate) struct Writer<'a, 'p, F> {
 /// What a writer has done: its answer; where the index looks for the next pointer and for the next record; and the siblings of
 /// each run in another order that is being written, those of a deeper run behind those of the runs above it.
 #[derive(Drop)]
-pub(crate) struct Work<'a, 'f> {
+pub(crate) struct Work<'f> {
     pub(crate) answer: Answer<'f>,
     pub(crate) pointers: PointerCursor,
     pub(crate) records: RecordCursor,
-    pub(crate) siblings: Vec<RankedSibling<'a>>,
+    pub(crate) siblings: Vec<RankedSibling>,
 }
 
-impl<'f> Work<'_, 'f> {
+impl<'f> Work<'f> {
     /// Work of which only the beginning of the answer is done. Takes no memory.
     pub(crate) fn new(alloc: Global, answer: Answer<'f>) -> Self
         ensures { result.answer ≡ answer.entry }

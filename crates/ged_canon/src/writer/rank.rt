@@ -1,5 +1,5 @@
 // The ranks of tags, which are compared in place of the tags.
-ghost use Rattle.std.specs.Prelude.{◌≡◌, ◌<◌, ◌+◌, slice_index_or};
+ghost use Rattle.std.specs.Prelude.{◌≡◌, ◌<◌, ◌+◌, ℕ, slice_index_or};
 ghost use Rattle.ged_line.specs.Names.{tag_order as order_of_tags};
 ghost use Rattle.ged_canon.specs.inner.Ranks.{own_rank, tag_rank};
 
@@ -9,14 +9,21 @@ use std::cmp::Ordering;
 /// How many bytes of a tag its rank has. Only longer tags of one rank need be read to be told apart.
 const BYTES_IN_RANK: usize = 7;
 
-/// A structure among its siblings: its tag, the rank of that, and its place among all structures.
+/// A structure among its siblings: the rank of its tag, and its place among all structures. The tag itself is asked of the forest where
+/// its rank does not tell all of it, so that what a sort moves is short.
 #[derive(Clone, Copy, Debug)]
-pub(crate) struct RankedSibling<'a> {
+pub(crate) struct RankedSibling {
     pub(crate) rank: u64,
-    pub(crate) tag: &'a str,
     pub(crate) place: usize,
+}
 
-    ghost ranked: { rank ≡ tag_rank tag.now },
+/// A sibling with its tag, for the few that are told apart by more than their ranks.
+#[derive(Clone, Copy, Debug)]
+pub(crate) struct TaggedSibling<'a> {
+    pub(crate) tag: &'a str,
+    pub(crate) sibling: RankedSibling,
+
+    ghost ranked: { sibling.rank ≡ tag_rank tag.now },
 }
 
 /// The byte at a place of a tag, or 0 behind its end.
@@ -49,7 +56,8 @@ fn rank_of_any(tag: &[u8]) -> u64
 /// than seven. That of GEDC is the lowest.
 #[inline(always)]
 pub(crate) fn rank_of(tag: &str) -> u64
-    ensures { result ≡ tag_rank tag.now }
+    ensures rank { result ≡ tag_rank tag.now }
+    ensures bytes { (at : ℕ) → slice_index_or tag.now at 0 < 256 }
 {
     match tag.as_bytes() {
         [a, b, c, d] => {
@@ -60,19 +68,6 @@ pub(crate) fn rank_of(tag: &str) -> u64
             u64::from(number) * 0x1_0000_0000 + (4 + 1)
         }
         bytes => rank_of_any(bytes),
-    }
-}
-
-/// The structure at a place, with this tag.
-#[inline(always)]
-pub(crate) fn ranked_sibling(tag: &str, place: usize) -> RankedSibling<'_>
-    ensures tag { result.tag.now ≡ tag.now }
-    ensures place { result.place ≡ place }
-{
-    RankedSibling {
-        rank: rank_of(tag),
-        tag,
-        place,
     }
 }
 

@@ -5,7 +5,6 @@ ghost use Rattle.std.specs.List.Sorted.{IsPermutation};
 ghost use Rattle.ged_line.specs.Bytes.{Bytes};
 ghost use Rattle.ged_tree.specs.Trees.{Trees, trees_count, records_of};
 ghost use Rattle.ged_tree.specs.Documents.{is_document};
-ghost use Rattle.ged_tree.specs.Places.{structure_at};
 ghost use Rattle.ged_canon.specs.declared.writer.rank.RankedSibling.{RankedSibling as RankedSiblingData};
 ghost use Rattle.ged_tree.specs.Runs.{IsRunOfTrees, trees_between};
 ghost use Rattle.ged_schema.specs.declared.context.Context.{Context as AnyContext};
@@ -13,10 +12,11 @@ ghost use Rattle.ged_canon.specs.declared.edition.Edition.{Edition as AnyEdition
 ghost use Rattle.ged_link.specs.Links.{identifiers, xrefs, IsAmong, AreDistinct};
 ghost use Rattle.ged_link.specs.Indexes.{IsIndexOf};
 ghost use Rattle.ged_canon.specs.inner.Working.{grouped, sorted, each_sorted, used_trees, AreNumbersOf};
-ghost use Rattle.ged_canon.specs.inner.Siblings.{StandsRanked, sibling_trees, sibling_names};
+ghost use Rattle.ged_canon.specs.inner.Siblings.{StandsRanked, AreGrouped, sibling_trees, sibling_names};
 
+use crate::writer::compared::compare_siblings;
 use crate::writer::gathered::gather_siblings;
-use crate::writer::rank::{RankedSibling, ranked_order, ranked_sibling};
+use crate::writer::rank::{RankedSibling, rank_of};
 use ged_link::{Index, RecordCursor};
 use ged_tree::{Forest, next_in_run};
 use std::alloc::{AllocError, Global};
@@ -31,27 +31,38 @@ pub(crate) struct Sibling<'a> {
     pub(crate) place: usize,
 }
 
+/// The structure at a place.
+#[inline(always)]
+pub(crate) fn ranked_sibling<F: Forest>(forest: &F, place: usize) -> RankedSibling
+    requires { place < trees_count (F.trees forest.now) }
+    ensures place { result.place ≡ place }
+    ensures stands { StandsRanked (F.trees forest.now) result }
+{
+    let rank = rank_of(forest.tag(place));
+    RankedSibling { rank, place }
+}
+
 /// Appends the structure at a place. Grows.
 #[inline(always)]
-fn push_sibling<'a, F: Forest>(
-    forest: &'a F,
+fn push_sibling<F: Forest>(
+    forest: &F,
     place: usize,
-    siblings: &mut Vec<RankedSibling<'a>>,
+    siblings: &mut Vec<RankedSibling>,
 ) -> Result<(), AllocError>
     requires { place < trees_count (F.trees forest.now) }
     ensures { OnOk result ((last : RankedSiblingData) × (siblings.new.items ≡ siblings.old.items ++ last ∷ [])
-        × (last.place ≡ place) × (last.tag.now ≡ (structure_at (F.trees forest.now) place).tag)) }
+        × (last.place ≡ place) × StandsRanked (F.trees forest.now) last) }
 {
-    siblings.push(ranked_sibling(forest.tag(place), place))?;
+    siblings.push(ranked_sibling(forest, place))?;
     Ok(())
 }
 
 /// Appends the structures of a run in their own order. Grows.
-fn push_siblings<'a, F: Forest>(
-    forest: &'a F,
+fn push_siblings<F: Forest>(
+    forest: &F,
     start: usize,
     end: usize,
-    siblings: &mut Vec<RankedSibling<'a>>,
+    siblings: &mut Vec<RankedSibling>,
 ) -> Result<(), AllocError>
     requires { IsRunOfTrees (F.trees forest.now) start end }
     ensures kept { OnOk result (take (length siblings.old.items) siblings.new.items ≡ siblings.old.items) }
@@ -68,25 +79,12 @@ fn push_siblings<'a, F: Forest>(
     Ok(())
 }
 
-/// Puts siblings in the order of their tags by comparing them; those with one tag keep their order. Takes memory for more than 20.
-#[inline(always)]
-fn compare_siblings(alloc: Global, siblings: &mut [RankedSibling<'_>]) -> Result<(), AllocError>
-    ensures permutation { IsPermutation siblings.old siblings.new }
-    ensures trees { (d : Trees) (used : Bytes → Bool) (edition : AnyEdition) (context : AnyContext) →
-        OnOk result (sibling_trees used edition context d siblings.new ≡ grouped (sibling_trees used edition context d siblings.old)) }
-{
-    siblings.sort_by(alloc, |a: &RankedSibling<'_>, b: &RankedSibling<'_>| {
-        ranked_order(a.rank, a.tag, b.rank, b.tag)
-    })
-}
-
 /// Puts the siblings of a long run in the order of their tags, where they can be gathered, and answers whether it has; those with one tag
 /// keep their order. Else they stay as they are. Grows.
 #[inline(always)]
-fn gather_long(alloc: Global, siblings: &mut [RankedSibling<'_>]) -> Result<bool, AllocError>
+fn gather_long(alloc: Global, siblings: &mut [RankedSibling]) -> Result<bool, AllocError>
     ensures permutation { IsPermutation siblings.old siblings.new }
-    ensures trees { (d : Trees) (used : Bytes → Bool) (edition : AnyEdition) (context : AnyContext) →
-        IfOk result (λ all. IsTrue all → sibling_trees used edition context d siblings.new ≡ grouped (sibling_trees used edition context d siblings.old)) }
+    ensures trees { (d : Trees) → AllByRecursion (StandsRanked d) siblings.old → IfOk result (λ all. IsTrue all → AreGrouped d siblings.old siblings.new) }
     ensures unchanged { IfOk result (λ all. all ≡ false → siblings.new ≡ siblings.old) }
 {
     if siblings.len() > SHORT_RUN {
@@ -95,25 +93,29 @@ fn gather_long(alloc: Global, siblings: &mut [RankedSibling<'_>]) -> Result<bool
     Ok(false)
 }
 
-/// Puts siblings in the order of their tags; those with one tag keep their order. Takes memory for more than 20.
-fn sort_siblings(alloc: Global, siblings: &mut [RankedSibling<'_>]) -> Result<(), AllocError>
+/// Puts siblings in the order of their tags; those with one tag keep their order. Grows.
+fn sort_siblings<F: Forest>(
+    alloc: Global,
+    forest: &F,
+    siblings: &mut [RankedSibling],
+) -> Result<(), AllocError>
+    requires { AllByRecursion (StandsRanked (F.trees forest.now)) siblings.old }
     ensures permutation { IsPermutation siblings.old siblings.new }
-    ensures trees { (d : Trees) (used : Bytes → Bool) (edition : AnyEdition) (context : AnyContext) →
-        OnOk result (sibling_trees used edition context d siblings.new ≡ grouped (sibling_trees used edition context d siblings.old)) }
+    ensures trees { OnOk result (AreGrouped (F.trees forest.now) siblings.old siblings.new) }
 {
     if gather_long(alloc, siblings)? {
         return Ok(());
     }
-    compare_siblings(alloc, siblings)
+    compare_siblings(alloc, forest, siblings)
 }
 
 /// Appends the structures of a run in the order of their tags; those with one tag keep their order. Grows.
-pub(crate) fn push_sorted<'a, F: Forest>(
+pub(crate) fn push_sorted<F: Forest>(
     alloc: Global,
-    forest: &'a F,
+    forest: &F,
     start: usize,
     end: usize,
-    siblings: &mut Vec<RankedSibling<'a>>,
+    siblings: &mut Vec<RankedSibling>,
 ) -> Result<(), AllocError>
     requires { IsRunOfTrees (F.trees forest.now) start end }
     ensures kept { OnOk result (take (length siblings.old.items) siblings.new.items ≡ siblings.old.items) }
@@ -124,7 +126,7 @@ pub(crate) fn push_sorted<'a, F: Forest>(
 {
     let base = siblings.len();
     push_siblings(forest, start, end, siblings)?;
-    sort_siblings(alloc, &mut siblings[base..])
+    sort_siblings(alloc, forest, &mut siblings[base..])
 }
 
 /// The new numbers of a document's records, counted from 1, by the numbers that the records have in the document: those of
@@ -134,7 +136,7 @@ pub(crate) fn numbers_in_order<F: Forest>(
     alloc: Global,
     forest: &F,
     index: &Index,
-    records: &[RankedSibling<'_>],
+    records: &[RankedSibling],
 ) -> Result<Vec<usize>, AllocError>
     requires index { IsIndexOf (F.trees forest.now) index.now }
     requires document { is_document (F.trees forest.now) ≡ true }

@@ -17,7 +17,7 @@ use ged_schema::{Context, ContextRows, Rule, context_below};
 use ged_tree::{Forest, next_in_run};
 use std::alloc::AllocError;
 
-impl<'a, F: Forest> Writer<'a, '_, F> {
+impl<F: Forest> Writer<'_, '_, F> {
     /// Appends a CONT line for each further line of the payload of the structure at a place, which stands at this level. The
     /// forest has them only one by one.
     #[inline(never)]
@@ -64,7 +64,7 @@ impl<'a, F: Forest> Writer<'a, '_, F> {
         level: u8,
         xref: Option<&str>,
         sibling: Sibling<'_>,
-        work: &mut Work<'_, '_>,
+        work: &mut Work<'_>,
     ) -> Result<(), AllocError>
         requires within { StandsIn (F.trees self.now.forest.now) sibling }
         requires stands { HasLinesAt level (brief_sibling self.now.plan.edition (row_of rule) (option_copied xref) (F.trees self.now.forest.now) sibling) }
@@ -90,7 +90,7 @@ impl<'a, F: Forest> Writer<'a, '_, F> {
         xref: Option<&str>,
         sibling: Sibling<'_>,
         end: usize,
-        work: &mut Work<'a, '_>,
+        work: &mut Work<'_>,
     ) -> Result<(), AllocError>
         requires { CanWriteTree self.now.plan.edition (row_of rule) level (option_copied xref) (F.trees self.now.forest.now) sibling end }
         ensures kept { OnOk result (work.new.siblings.items ≡ work.old.siblings.items) }
@@ -114,7 +114,7 @@ impl<'a, F: Forest> Writer<'a, '_, F> {
         level: u8,
         place: usize,
         end: usize,
-        work: &mut Work<'a, '_>,
+        work: &mut Work<'_>,
     ) -> Result<(), AllocError>
         requires { CanWriteTree self.now.plan.edition (row rows.now (structure_at (F.trees self.now.forest.now) place).tag) level None (F.trees self.now.forest.now) (sibling_at (F.trees self.now.forest.now) place) end }
         ensures kept { OnOk result (work.new.siblings.items ≡ work.old.siblings.items) }
@@ -135,7 +135,7 @@ impl<'a, F: Forest> Writer<'a, '_, F> {
         level: u8,
         place: usize,
         end: usize,
-        work: &mut Work<'a, '_>,
+        work: &mut Work<'_>,
     ) -> Result<(), AllocError>
         requires { CanWriteTree self.now.plan.edition (row rows.now (structure_at (F.trees self.now.forest.now) place).tag) level None (F.trees self.now.forest.now) (sibling_at (F.trees self.now.forest.now) place) end }
         ensures kept { OnOk result (work.new.siblings.items ≡ work.old.siblings.items) }
@@ -162,7 +162,7 @@ impl<'a, F: Forest> Writer<'a, '_, F> {
         level: u8,
         start: usize,
         end: usize,
-        work: &mut Work<'a, '_>,
+        work: &mut Work<'_>,
     ) -> Result<(), AllocError>
         requires { CanWriteRun self.now.plan.edition context level (F.trees self.now.forest.now) start end }
         ensures kept { OnOk result (work.new.siblings.items ≡ work.old.siblings.items) }
@@ -182,15 +182,16 @@ impl<'a, F: Forest> Writer<'a, '_, F> {
     }
 
     /// The same for a run that is in another order: its siblings are put in order behind those that the work has, and taken
-    /// away again.
+    /// away again. A function of its own, so that the other run's path has the registers to itself.
     #[cycle(trees)]
+    #[inline(never)]
     fn write_sorted(
         &self,
         context: Context,
         level: u8,
         start: usize,
         end: usize,
-        work: &mut Work<'a, '_>,
+        work: &mut Work<'_>,
     ) -> Result<(), AllocError>
         requires { CanWriteRun self.now.plan.edition context level (F.trees self.now.forest.now) start end }
         ensures kept { OnOk result (work.new.siblings.items ≡ work.old.siblings.items) }

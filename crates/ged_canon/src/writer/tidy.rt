@@ -21,32 +21,31 @@ use ged_schema::{Context, ContextRows};
 use ged_tree::Forest;
 use std::alloc::{AllocError, Global};
 
-impl<'a, F: Forest> Writer<'a, '_, F> {
+impl<F: Forest> Writer<'_, '_, F> {
     /// Appends the lines of HEAD or of a record with its own identifier, and of what stands below it.
     fn write_kept_record(
         &self,
-        sibling: RankedSibling<'_>,
-        work: &mut Work<'a, '_>,
+        sibling: RankedSibling,
+        work: &mut Work<'_>,
     ) -> Result<(), AllocError>
         requires { CanWriteRecords each_used self.now.plan.edition (F.trees self.now.forest.now) (sibling ∷ []) }
-        ensures { WritesKept (F.trees self.now.forest.now) self.now.plan result work.old.answer work.new.answer (sibling.entry ∷ []) }
+        ensures { WritesKept (F.trees self.now.forest.now) self.now.plan result work.old.answer work.new.answer (sibling ∷ []) }
     {
         let rows = ContextRows::of(Context::File);
-        let rule = rows.row(sibling.tag);
-        let end = self.forest.after(sibling.place);
-        let xref = self.forest.xref(sibling.place);
-        let own = Sibling {
-            tag: sibling.tag,
-            place: sibling.place,
-        };
+        let place = sibling.place;
+        let tag = self.forest.tag(place);
+        let rule = rows.row(tag);
+        let end = self.forest.after(place);
+        let xref = self.forest.xref(place);
+        let own = Sibling { tag, place };
         self.write_tree(rule, 0, xref, own, end, work)
     }
 
     /// Appends the lines of HEAD and the records with their own identifiers, and of what stands below them.
     fn write_kept_records(
         &self,
-        siblings: &[RankedSibling<'_>],
-        work: &mut Work<'a, '_>,
+        siblings: &[RankedSibling],
+        work: &mut Work<'_>,
     ) -> Result<(), AllocError>
         requires { CanWriteRecords each_used self.now.plan.edition (F.trees self.now.forest.now) siblings.now }
         ensures { WritesKept (F.trees self.now.forest.now) self.now.plan result work.old.answer work.new.answer siblings.now }

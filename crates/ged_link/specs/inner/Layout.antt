@@ -4,6 +4,7 @@ use Rattle.std.specs.Prelude.{ℕ, ◌+◌, ◌*◌, min, max, cond, nat_eq, Lis
 use Rattle.ged_line.specs.Bytes.{Bytes}
 use Rattle.ged_link.specs.declared.layout.Tally.{Tally}
 use Rattle.ged_link.specs.declared.slots.Region.{Region}
+use Rattle.ged_link.specs.NameNumbers.{short_number}
 use Rattle.ged_link.specs.Slots.{number_read}
 
 abbrev pub no_names : Tally
@@ -17,9 +18,14 @@ tallied tally number = record { count = min (tally.count + 1) 4294967295; greate
 abbrev pub counted_at : List Tally → ℕ → ℕ → List Tally
 counted_at tallies first number = set tallies first (tallied (slice_index_or tallies first no_names) number)
 
+-- where it spells a number: no other name has a slot
+abbrev pub counted_as : List Tally → ℕ → ℕ → Option ℕ → List Tally
+counted_as tallies first digits None = tallies
+counted_as tallies first digits (Some number) = counted_at tallies first digits
+
 abbrev pub counted_name : List Tally → Bytes → List Tally
 counted_name tallies [] = tallies
-counted_name tallies (b ∷ bs) = counted_at tallies b (number_read 0 bs)
+counted_name tallies (b ∷ bs) = counted_as tallies b (number_read 0 bs) (short_number (b ∷ bs))
 
 abbrev pub counted : List Tally → Option Bytes → List Tally
 counted tallies None = tallies

@@ -1,6 +1,6 @@
 -- Nothing here need be believed: only private contracts and proofs cite it.
 -- What is listed of each of the records.
-use Rattle.std.specs.Prelude.{◌≡◌, ℕ, ◌/◌, ◌%◌, List, [], ◌∷◌, Option, Some, None, ⊤, fold, map, replicate}
+use Rattle.std.specs.Prelude.{◌≡◌, ℕ, ◌-◌, ◌/◌, ◌%◌, List, [], ◌∷◌, ◌++◌, Option, Some, None, ⊤, fold, length, map, replicate}
 use Rattle.ged_line.specs.Bytes.{Bytes}
 use Rattle.ged_tree.specs.Trees.{Trees, none, tree, records_of}
 use Rattle.ged_link.specs.Links.{identifiers}
@@ -39,6 +39,17 @@ listed_halves xref = ((listed_name xref).number % 4294967296, (listed_name xref)
 abbrev pub listed_digits : Option Bytes → ℕ
 listed_digits xref = (listed_name xref).digits
 
+-- how many records stand before the first whose name is listed: none of them has one
+abbrev pub unnamed_in : RecordList → ℕ
+unnamed_in list = length list.types.items - length list.names.items
+
+-- what is listed of the names of all records, theirs included
+abbrev pub all_halves : RecordList → List (ℕ × ℕ)
+all_halves list = replicate (unnamed_in list) (listed_halves None) ++ list.names.items
+
+abbrev pub all_digits : RecordList → List ℕ
+all_digits list = replicate (unnamed_in list) (listed_digits None) ++ list.digits.items
+
 -- the types of trees side by side, one for each
 abbrev pub AreTypesOf : List (Option RecordType) → Trees → Type 0
 AreTypesOf [] none = ⊤
@@ -49,6 +60,6 @@ AreTypesOf (known ∷ more) (tree s below next) = IsTypeOf known s.tag × AreTyp
 -- the list has the records of a document
 pub record IsRecordList (d : Trees) (list : RecordList) : Type 0 where
   pub tallies : list.tallies.items ≡ fold counted (replicate 256 no_names) (identifiers (records_of d))
-  pub names : list.names.items ≡ map listed_halves (identifiers (records_of d))
-  pub digits : list.digits.items ≡ map listed_digits (identifiers (records_of d))
+  pub names : all_halves list ≡ map listed_halves (identifiers (records_of d))
+  pub digits : all_digits list ≡ map listed_digits (identifiers (records_of d))
   pub types : AreTypesOf list.types.items (records_of d)

@@ -7,7 +7,7 @@ use Rattle.ged_line.specs.Bytes.{Bytes}
 use Rattle.ged_line.specs.Lines.{LineParts}
 use Rattle.ged_link.specs.RecordTypes.{IsTypeOf}
 use Rattle.ged_link.specs.inner.Layout.{counted, no_names}
-use Rattle.ged_link.specs.inner.Listing.{listed_halves, listed_digits}
+use Rattle.ged_link.specs.inner.Listing.{listed_halves, listed_digits, all_halves, all_digits}
 use Rattle.ged_link.specs.declared.listing.RecordList.{RecordList}
 use Rattle.ged_link.specs.declared.record_reader.RecordReader.{RecordReader}
 use Rattle.ged_link.specs.declared.record_type.RecordType.{RecordType}
@@ -30,8 +30,8 @@ AreTypesByTags (known ∷ more) (line ∷ lines) = IsTypeOf known line.tag × Ar
 -- the list has the records that begin on these lines
 pub record AreListed (list : RecordList) (lines : List LineParts) : Type 0 where
   pub tallies : list.tallies.items ≡ fold counted (replicate 256 no_names) (map (λ line. line.xref) lines)
-  pub names : list.names.items ≡ map listed_halves (map (λ line. line.xref) lines)
-  pub digits : list.digits.items ≡ map listed_digits (map (λ line. line.xref) lines)
+  pub names : all_halves list ≡ map listed_halves (map (λ line. line.xref) lines)
+  pub digits : all_digits list ≡ map listed_digits (map (λ line. line.xref) lines)
   pub types : AreTypesByTags list.types.items lines
 
 -- the lines were read

@@ -26,9 +26,6 @@ const _: () = prove!(size_of::<FurtherSlice>() == 12);
 /// The greatest number that is kept of a slice.
 const GREATEST: usize = u32::MAX as usize;
 
-/// How many slices are looked at one by one before they are searched: few payloads have as many lines.
-const FEW: usize = 8;
-
 /// For each row of so many structures it is kept how many slices stand before its first one.
 const BLOCK: usize = 64;
 
@@ -205,37 +202,6 @@ impl<'a> FurtherTable<'a> {
                     ensures { result ≡ nat_le line.now.after place }
                 { line.after <= place },
             )
-    }
-
-    /// How many slices stand before the structure at a place, if they are so many or few more, and another one stands behind them; else
-    /// `None`.
-    fn few_before(&self, place: usize, least: usize) -> Option<usize>
-        requires { IsNonDecreasingBy (λ line. line.after) self.now.slices.items }
-        ensures { IfSome result (λ number. (number < length self.now.slices.items) × (number ≡ further_before place (map (λ line. line.after) self.now.slices.items))) }
-    {
-        let slices = self.slices.as_slice();
-        let few = slices.get(least..least.saturating_add(FEW).min(slices.len()))?;
-        let passed = few
-            .iter()
-            .position(|line: &FurtherSlice| line.after as usize > place)?;
-        let number = least.saturating_add(passed);
-        if number < slices.len() && ends_before(slices, place, number) {
-            return Some(number);
-        }
-        None
-    }
-
-    /// The same as [`FurtherTable::before`], where it is known how many lines stand before an earlier structure near by.
-    #[inline(always)]
-    pub(crate) fn before_near(&self, place: usize, least: usize) -> usize
-        requires slices { IsNonDecreasingBy (λ line. line.after) self.now.slices.items }
-        requires apart { IsNonDecreasingBy (λ line. line.after) self.now.apart.items }
-        ensures { (file : Bytes) → result ≡ further_before place (places_of (further_of file self.now)) }
-    {
-        match self.few_before(place, least) {
-            Some(number) => number,
-            None => self.before(place),
-        }
     }
 
     /// The text of the line of a number.

@@ -141,11 +141,25 @@ impl<'a> Flat<'a> {
     }
 
     /// How many further lines the payload at a place has.
+    #[inline(always)]
     fn further_count(&self, place: usize) -> usize
         requires { place < trees_count self.now }
         ensures { result ≡ length (further_lines (structure_at self.now place).payload) }
     {
-        self.further_lines_at(place).count()
+        if !self.structures[place].has_further() {
+            return 0;
+        }
+        self.found_count_at(place)
+    }
+
+    /// The same, looked up among those of all structures. A function of its own, so that the common path, on which there are none, need not
+    /// clear the stack's room for them.
+    #[inline(never)]
+    fn found_count_at(&self, place: usize) -> usize
+        requires { place < trees_count self.now }
+        ensures { result ≡ length (further_lines (structure_at self.now place).payload) }
+    {
+        self.found_lines_at(place).count()
     }
 
     /// The further lines of the payload at a place.
@@ -167,7 +181,7 @@ impl<'a> Flat<'a> {
         ensures { result ≡ further_lines (structure_at self.now place).payload }
     {
         let start = self.further.before(place);
-        let end = self.further.before_near(place + 1, start);
+        let end = self.further.before(place + 1);
         FurtherLines::of(self.file, &self.further, start, end - start)
     }
 

@@ -4,7 +4,7 @@ use Rattle.ged_tree.specs.Runs.{trees_between, IsRunOfTrees}
 use Rattle.ged_link.specs.Links.{identifiers}
 use Rattle.ged_link.specs.declared.record_type.RecordType.{RecordType}
 use Rattle.ged_link.specs.inner.Layout.{counted, no_names}
-use Rattle.ged_link.specs.inner.Listing.{listed_halves, listed_digits, AreTypesOf}
+use Rattle.ged_link.specs.inner.Listing.{listed_halves, listed_digits, all_halves, all_digits, AreTypesOf}
 use Rattle.ged_link.proofs.listing.list_between.Given as goal
 
 abbrev pub invariant-loop-after : goal.invariant-loop-after
@@ -13,8 +13,8 @@ invariant-loop-after g l =
     record {
       run : IsRunOfTrees trees l.place l.end;
       tallies : fold counted l.list.tallies.items (identifiers (trees_between trees l.place l.end)) ≡ fold counted (replicate 256 no_names) (identifiers (records_of trees));
-      names : l.list.names.items ++ map listed_halves (identifiers (trees_between trees l.place l.end)) ≡ map listed_halves (identifiers (records_of trees));
-      digits : l.list.digits.items ++ map listed_digits (identifiers (trees_between trees l.place l.end)) ≡ map listed_digits (identifiers (records_of trees));
+      names : all_halves l.list ++ map listed_halves (identifiers (trees_between trees l.place l.end)) ≡ map listed_halves (identifiers (records_of trees));
+      digits : all_digits l.list ++ map listed_digits (identifiers (trees_between trees l.place l.end)) ≡ map listed_digits (identifiers (records_of trees));
       types : (more : List (Option RecordType)) → AreTypesOf more (trees_between trees l.place l.end) → AreTypesOf (l.list.types.items ++ more) (records_of trees);
     }
 

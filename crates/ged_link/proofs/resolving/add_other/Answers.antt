@@ -27,7 +27,7 @@ returns-clause-added g c =
 pub returns-clause-keyed : goal.returns-clause-keyed
 returns-clause-keyed g c keyed =
     let w = g.F.Forest.trees c.args.forest.now in
-    let (first, is) = c.begin_others.ensures.keyed keyed in
+    let (first, is) = c.in_ok-begin_others.ensures.keyed keyed in
     let among = subst (λ (xref : Option Bytes). IsAmong xref (identifiers (trees_between w first c.args.end))) (sym c.in-Some.ensures) (is.more (structure_at w c.args.found.place).xref c.requires.among) in
     keyed_more w c.args.found.place c.args.end first c.begin_others.new.records c.insert_long.new.self is c.insert_long.result (c.insert_long.ensures.keyed _ is.key) (c.insert_long.ensures.held _ among is.held)
 
@@ -35,7 +35,7 @@ pub returns-then-number-ne0-clause-keyed : goal.returns-then-number-ne0-clause-k
 returns-then-number-ne0-clause-keyed g c keyed =
     let w = g.F.Forest.trees c.args.forest.now in
     let missed = c.requires.missed in
-    let (first, is) = c.begin_others.ensures.keyed keyed in
+    let (first, is) = c.in_ok-begin_others.ensures.keyed keyed in
     let among = subst (λ (xref : Option Bytes). IsAmong xref (identifiers (trees_between w first c.args.end))) missed.is (is.more (structure_at w c.args.found.place).xref c.requires.among) in
     keyed_more w c.args.found.place c.args.end first c.begin_others.new.records c.insert_short.new.self is c.insert_short.result (c.insert_short.ensures.keyed _ is.key)
     (c.insert_short.ensures.held _ missed.name (missed.short c.if-number-ne0.true) among is.held)

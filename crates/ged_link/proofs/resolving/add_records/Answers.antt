@@ -1,4 +1,4 @@
-use Rattle.std.proofs.Common.{◌≡◌, ◌<◌, ◌+◌, ◌∷◌, ℕ, Option, List, length, None, true, false, inr, inl, sym, ap, ◌∙◌, refl, arith, subst, map, slice_index_or, drop}
+use Rattle.std.proofs.Common.{◌≡◌, ◌+◌, ◌∷◌, ℕ, Option, List, length, None, true, false, inr, inl, sym, ap, ◌∙◌, refl, arith, subst, map, slice_index_or, drop}
 use Rattle.ged_line.specs.Bytes.{Bytes}
 use Rattle.ged_tree.specs.Places.{structure_at}
 use Rattle.ged_tree.specs.Trees.{Trees}
@@ -9,11 +9,11 @@ use Rattle.ged_link.specs.declared.names.Names.{Names}
 use Rattle.ged_link.specs.declared.index.RecordPlace.{RecordPlace}
 use Rattle.ged_link.specs.RecordTypes.{IsTypeOf}
 use Rattle.ged_link.specs.inner.Indexes.{IsKeyed}
-use Rattle.ged_link.specs.inner.Listing.{listed_halves, listed_digits, AreTypesOf}
+use Rattle.ged_link.specs.inner.Listing.{listed_halves, listed_digits, all_halves, all_digits, AreTypesOf}
 use Rattle.ged_link.specs.inner.Resolving.{AddsRecord}
 use Rattle.ged_link.proofs.KeyLemmas.{among_here, keyed_next}
 use Rattle.ged_link.proofs.KeptPlaces.{none_placed}
-use Rattle.ged_link.proofs.ListingLemmas.{types_next, listed_here}
+use Rattle.ged_link.proofs.ListingLemmas.{types_next}
 use Rattle.ged_link.proofs.RecordLemmas.{left_within, left_next, left_after, level_next, xref_here, number_within, numbered_here, records_start, records_level, records_next, records_all, repeated_here, none_repeated_all, typed_start, typed_next}
 use Rattle.ged_link.proofs.WalkLemmas.{nearer}
 use Rattle.ged_link.proofs.resolving.add_records.Goals as goal
@@ -66,8 +66,8 @@ loop-after-preserved g c =
       run = step.rest;
       level = level_next w p e a k step inv.left inv.level;
       left = left_after w p e a k step inv.left;
-      names = left_next c.args.list.now.names.items k (listed_halves here.xref) (map listed_halves (identifiers (trees_between w a e))) (inv.names ∙ ap (λ (t : Trees). map listed_halves (identifiers t)) step.first);
-      digits = left_next c.args.list.now.digits.items k (listed_digits here.xref) (map listed_digits (identifiers (trees_between w a e))) (inv.digits ∙ ap (λ (t : Trees). map listed_digits (identifiers t)) step.first);
+      names = left_next (all_halves c.args.list.now) k (listed_halves here.xref) (map listed_halves (identifiers (trees_between w a e))) (inv.names ∙ ap (λ (t : Trees). map listed_halves (identifiers t)) step.first);
+      digits = left_next (all_digits c.args.list.now) k (listed_digits here.xref) (map listed_digits (identifiers (trees_between w a e))) (inv.digits ∙ ap (λ (t : Trees). map listed_digits (identifiers t)) step.first);
       few = number_within w p e a k step inv.left;
       fits = omega (arith, inv.fits, step.forth);
       found = records_next w p e a k step inv.left inv.level old new one refl refl adds inv.found;
@@ -104,39 +104,34 @@ add_record-requires-clause-listed g c =
     let step : IsStep w p c.args.end c.in-Some.after = c.in-Some.ensures in
     let more = identifiers (trees_between w c.in-Some.after c.args.end) in
     let ids : identifiers (trees_between w p c.args.end) ≡ (structure_at w p).xref ∷ more = ap identifiers step.first in
-    listed_here c.args.list.now.names.items c.args.list.now.digits.items c.loop-after.number (structure_at w p).xref more
+    c.name_at-listed.ensures (structure_at w p).xref more
     (inv.names ∙ ap (λ (xs : List (Option Bytes)). map listed_halves xs) ids)
     (inv.digits ∙ ap (λ (xs : List (Option Bytes)). map listed_digits xs) ids)
-    c.joined.result c.index-in-Some.result.now c.index.result.now c.index.result.now c.index.ensures c.joined.ensures c.index-in-Some.result.now c.index-in-Some.ensures
 
 pub add_record-requires-clause-named : goal.add_record-requires-clause-named
 add_record-requires-clause-named g c =
     let inv = c.loop-after.invariant in
     xref_here (g.F.Forest.trees c.args.forest.now) c.loop-after.place c.args.end c.in-Some.after c.loop-after.number c.in-Some.ensures inv.left inv.level
 
-pub index-requires : goal.index-requires
-index-requires g c =
+pub name_at-listed-requires-clause-names : goal.name_at-listed-requires-clause-names
+name_at-listed-requires-clause-names g c =
     let w = g.F.Forest.trees c.args.forest.now in
     let p = c.loop-after.place in
     let e = c.args.end in
     let a = c.in-Some.after in
     let step : IsStep w p e a = c.in-Some.ensures in
-    let named : c.loop-after.number < length c.args.list.now.names.items =
-    left_within c.args.list.now.names.items c.loop-after.number (listed_halves (structure_at w p).xref) (map listed_halves (identifiers (trees_between w a e)))
-    (c.loop-after.invariant.names ∙ ap (λ (t : Trees). map listed_halves (identifiers t)) step.first) in
-    subst (λ (n : ℕ). c.loop-after.number < n) (sym c.args.list.now.names.ok.0) named
+    left_within (all_halves c.args.list.now) c.loop-after.number (listed_halves (structure_at w p).xref) (map listed_halves (identifiers (trees_between w a e)))
+    (c.loop-after.invariant.names ∙ ap (λ (t : Trees). map listed_halves (identifiers t)) step.first)
 
-pub index-requires-in-Some : goal.index-requires-in-Some
-index-requires-in-Some g c =
+pub name_at-listed-requires-clause-digits : goal.name_at-listed-requires-clause-digits
+name_at-listed-requires-clause-digits g c =
     let w = g.F.Forest.trees c.args.forest.now in
     let p = c.loop-after.place in
     let e = c.args.end in
     let a = c.in-Some.after in
     let step : IsStep w p e a = c.in-Some.ensures in
-    let counted : c.loop-after.number < length c.args.list.now.digits.items =
-    left_within c.args.list.now.digits.items c.loop-after.number (listed_digits (structure_at w p).xref) (map listed_digits (identifiers (trees_between w a e)))
-    (c.loop-after.invariant.digits ∙ ap (λ (t : Trees). map listed_digits (identifiers t)) step.first) in
-    subst (λ (n : ℕ). c.loop-after.number < n) (sym c.args.list.now.digits.ok.0) counted
+    left_within (all_digits c.args.list.now) c.loop-after.number (listed_digits (structure_at w p).xref) (map listed_digits (identifiers (trees_between w a e)))
+    (c.loop-after.invariant.digits ∙ ap (λ (t : Trees). map listed_digits (identifiers t)) step.first)
 
 pub returns-in_default-clause-records : goal.returns-in_default-clause-records
 returns-in_default-clause-records g c = tt

@@ -1,6 +1,5 @@
 use Rattle.std.proofs.Common.{List, [], ◌∷◌, ◌++◌, length, drop, sym, ap, ◌∙◌, subst, arith}
 use Rattle.std.specs.List.{AllByRecursion}
-use Rattle.ged_tree.specs.Places.{structure_at}
 use Rattle.ged_link.specs.Links.{identifiers}
 use Rattle.ged_schema.specs.declared.context.Context.TheVariants.{File}
 use Rattle.ged_canon.specs.declared.writer.rank.RankedSibling.{RankedSibling}
@@ -15,7 +14,7 @@ returns-clause-within g c =
     let head = c.ranked_sibling.result in
     subst (λ (xs : List RankedSibling). AllByRecursion (StandsRanked d) xs)
     (sym (headed c.push.new.self.items c.push_sorted.new.siblings.items head (c.in_ok-push.ensures.items ∙ ap (λ (xs : List RankedSibling). xs ++ head ∷ []) c.in_ok-made.ensures.items) c.in_ok-push_sorted.ensures.kept))
-    ((omega (arith, c.in-Some.ensures.within, c.ranked_sibling.ensures.place), c.ranked_sibling.ensures.tag ∙ c.tag.ensures ∙ ap (λ n. (structure_at d n).tag) (sym c.ranked_sibling.ensures.place)), c.in_ok-push_sorted.ensures.within)
+    (c.ranked_sibling.ensures.stands, c.in_ok-push_sorted.ensures.within)
 
 pub returns-clause-count : goal.returns-clause-count
 returns-clause-count g c =
@@ -31,5 +30,5 @@ returns-clause-trees g c = λ used edition.
     let head = c.ranked_sibling.result in
     let behind = drop (length c.push.new.self.items) c.push_sorted.new.siblings.items in
     ap (sibling_trees used edition File d) (headed c.push.new.self.items c.push_sorted.new.siblings.items head (c.in_ok-push.ensures.items ∙ ap (λ (xs : List RankedSibling). xs ++ head ∷ []) c.in_ok-made.ensures.items) c.in_ok-push_sorted.ensures.kept)
-    ∙ document_listed used edition d c.end_of_all-end.result c.in-Some.records head behind c.end_of_all-end.ensures.all c.end_of_all-end.ensures.run c.in-Some.ensures c.ranked_sibling.ensures.place (c.ranked_sibling.ensures.tag ∙ c.tag.ensures)
+    ∙ document_listed used edition d c.end_of_all-end.result c.in-Some.records head behind c.end_of_all-end.ensures.all c.end_of_all-end.ensures.run c.in-Some.ensures c.ranked_sibling.ensures.place
     (c.in_ok-push_sorted.ensures.trees used edition File)

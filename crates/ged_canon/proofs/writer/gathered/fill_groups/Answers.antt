@@ -1,8 +1,8 @@
-use Rattle.std.proofs.Common.{◌≡◌, ◌+◌, ◌++◌, List, [], ◌∷◌, length, take, sym, ap, ◌∙◌, subst, arith}
+use Rattle.std.proofs.Common.{◌≡◌, ◌+◌, ◌++◌, List, [], ◌∷◌, length, take, get_or, sym, ap, ◌∙◌, subst, arith}
 use Rattle.std.specs.List.{AllByRecursion}
 use Rattle.std.proofs.lemmas.List.{take_more, take_all}
 use Rattle.ged_canon.specs.declared.writer.rank.RankedSibling.{RankedSibling}
-use Rattle.ged_canon.specs.inner.Gathered.{IsAmongRanks, HasBytes, groups_of, placed}
+use Rattle.ged_canon.specs.inner.Gathered.{IsAmongRanks, groups_of, placed}
 use Rattle.ged_canon.proofs.writer.SiblingTrees.{all_with}
 use Rattle.ged_canon.proofs.writer.RankGroups.{among_at, place_one, count_members, count_groups}
 use Rattle.ged_canon.proofs.writer.gathered.fill_groups.Goals as goal
@@ -15,9 +15,10 @@ pub loop-each-preserved : goal.loop-each-preserved
 loop-each-preserved c =
     let ranks = c.args.ranks.now in
     let all = c.args.siblings.now in
-    let x = c.each-item.result in
-    let done = take c.loop-each.each-index all in
-    let more : take (c.loop-each.each-index + 1) all ≡ done ++ x ∷ [] = take_more all c.loop-each.each-index x c.loop-each-test.true ∙ ap (λ y. done ++ y ∷ []) (sym c.each-item.is) in
+    let number = c.loop-each.each-index in
+    let x : RankedSibling = get_or all number (record { rank = 0; place = 0 }) in
+    let done = take number all in
+    let more : take (number + 1) all ≡ done ++ x ∷ [] = take_more all number (record { rank = 0; place = 0 }) c.loop-each-test.true in
     let at = c.in-Some.at in
     record {
       filled =
@@ -26,7 +27,6 @@ loop-each-preserved c =
           ∙ sym (place_one ranks at x done c.requires.rising c.in-Some.ensures.0 c.in-Some.ensures.1)
           ∙ ap (groups_of ranks) (sym more);
       among = subst (λ (xs : List RankedSibling). AllByRecursion (IsAmongRanks ranks) xs) (sym more) (all_with (IsAmongRanks ranks) done x c.loop-each.invariant.among (among_at ranks at x c.in-Some.ensures.0 c.in-Some.ensures.1));
-      bytes = subst (λ (xs : List RankedSibling). AllByRecursion HasBytes xs) (sym more) (all_with HasBytes done x c.loop-each.invariant.bytes c.know_bytes.ensures);
     }
 
 pub returns-clause-filled : goal.returns-clause-filled
@@ -34,6 +34,3 @@ returns-clause-filled c = λ full. c.loop-each.invariant.filled ∙ ap (groups_o
 
 pub returns-clause-among : goal.returns-clause-among
 returns-clause-among c = λ full. subst (λ (xs : List RankedSibling). AllByRecursion (IsAmongRanks c.args.ranks.now) xs) (take_all c.loop-each.each-index c.args.siblings.now (omega arith)) c.loop-each.invariant.among
-
-pub returns-clause-bytes : goal.returns-clause-bytes
-returns-clause-bytes c = λ full. subst (λ (xs : List RankedSibling). AllByRecursion HasBytes xs) (take_all c.loop-each.each-index c.args.siblings.now (omega arith)) c.loop-each.invariant.bytes

@@ -1,6 +1,6 @@
 use Rattle.std.proofs.Common.{◌≡◌, take}
 use Rattle.std.specs.List.{AllByRecursion}
-use Rattle.ged_canon.specs.inner.Gathered.{IsAmongRanks, HasBytes, groups_of, members}
+use Rattle.ged_canon.specs.inner.Gathered.{IsAmongRanks, groups_of, members}
 use Rattle.ged_canon.proofs.writer.gathered.fill_groups.Given as goal
 
 -- the groups hold the siblings so far
@@ -10,5 +10,4 @@ invariant-loop-each l =
     record {
       filled : members l.groups ≡ groups_of l.ranks done;
       among : AllByRecursion (IsAmongRanks l.ranks) done;
-      bytes : AllByRecursion HasBytes done;
     }

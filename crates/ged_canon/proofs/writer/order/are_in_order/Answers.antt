@@ -29,7 +29,7 @@ loop-after-init g c =
     record {
       run = c.in-Some.ensures.rest;
       utf8 = c.tag-before.utf8;
-      rank = c.rank_of-rank.ensures;
+      rank = c.rank_of-rank.ensures.rank;
       same = (
         λ o. subst (λ t. InOrder t) (sym first) (order_of_tags whole (subst (λ t. TagsInOrder (t ∷ tags rest)) c.tag-before.ensures o)),
         λ o. subst (λ t. TagsInOrder (t ∷ tags rest)) (sym c.tag-before.ensures) (tags_of_order whole (subst (λ t. InOrder t) first o)),

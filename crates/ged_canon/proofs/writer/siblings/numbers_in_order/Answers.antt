@@ -4,7 +4,7 @@ use Rattle.std.specs.List.{AllByRecursion}
 use Rattle.std.proofs.Math.ListN.{length-set}
 use Rattle.std.proofs.Math.Seq.{take_all}
 use Rattle.std.proofs.lemmas.Bool.{false≢true}
-use Rattle.std.proofs.lemmas.List.{length_push}
+use Rattle.std.proofs.lemmas.List.{length_push, get_or_default}
 use Rattle.std.proofs.lemmas.Option.{slice_get_within}
 use Rattle.ged_line.specs.Bytes.{Bytes}
 use Rattle.ged_tree.specs.Trees.{Trees, records_of}
@@ -31,16 +31,16 @@ loop-each-preserved g c =
     let rs = c.args.records.now in
     let at = c.loop-each.each-index in
     let inv = c.loop-each.invariant in
-    let x = c.each-item.result in
-    let here_is : get_or rs at x ≡ x = sym c.each-item.is in
+    let x : RankedSibling = get_or rs at (record { rank = 0; place = 0 }) in
     let within : at < length rs = c.loop-each-test.true in
+    let here_is : get_or rs at x ≡ x = sym (get_or_default rs at (record { rank = 0; place = 0 }) x within) in
     let stands : StandsRanked d x = subst (StandsRanked d) here_is (stands_at d rs at x within c.requires.within) in
     let before = sibling_names d (take at rs) in
     let items = c.loop-each.numbers.items in
     elim c.match-xref.branch [
       | in-Some+in-Some-record_with+then-is_used w ↦ (
           let name = w.in-Some.name.now in
-          let has : HasXref d x.place name = (stands.0, sym c.xref.ensures ∙ ap option_copied w.in-Some.is) in
+          let has : HasXref d x.place name = (stands.within, sym c.xref.ensures ∙ ap option_copied w.in-Some.is) in
           let place = w.in-Some-record_with.record in
           let told = w.record_with.ensures d c.requires.index has in
           let here : IsRecordNumber d place name = (told place).0 w.in-Some-record_with.is in
@@ -59,7 +59,7 @@ loop-each-preserved g c =
           })
       | in-Some+in-Some-record_with+else-is_used w ↦ (
           let name = w.in-Some.name.now in
-          let has : HasXref d x.place name = (stands.0, sym c.xref.ensures ∙ ap option_copied w.in-Some.is) in
+          let has : HasXref d x.place name = (stands.within, sym c.xref.ensures ∙ ap option_copied w.in-Some.is) in
           let place = w.in-Some-record_with.record in
           let here : IsRecordNumber d place name = (w.record_with.ensures d c.requires.index has place).0 w.in-Some-record_with.is in
           let none_kept = dropped_unused d place name here (λ used. false≢true (sym w.if-is_used.false ∙ (w.is_used.ensures d c.requires.index).1 used)) in
@@ -72,7 +72,7 @@ loop-each-preserved g c =
           })
       | in-Some+in_default-record_with w ↦ (
           let name = w.in-Some.name.now in
-          let has : HasXref d x.place name = (stands.0, sym c.xref.ensures ∙ ap option_copied w.in-Some.is) in
+          let has : HasXref d x.place name = (stands.within, sym c.xref.ensures ∙ ap option_copied w.in-Some.is) in
           let unknown : (k : ℕ) → IsRecordNumber d k name → ⊥ = λ k h. w.in_default-record_with.not-Some k ((w.record_with.ensures d c.requires.index has k).1 h) in
           let none_kept = unknown_dropped d name c.requires.index.resolved c.requires.document unknown in
           let names = unchanged d rs at x x within here_is (ap (used_xref (is_named d)) (sym c.xref.ensures ∙ ap option_copied w.in-Some.is) ∙ none_kept) in

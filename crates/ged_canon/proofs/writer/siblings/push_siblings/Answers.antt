@@ -1,8 +1,6 @@
-use Rattle.std.proofs.Common.{◌≡◌, ◌<◌, ◌++◌, List, [], ◌∷◌, length, drop, sym, ap, ◌∙◌, subst, arith}
+use Rattle.std.proofs.Common.{◌≡◌, ◌++◌, List, [], ◌∷◌, length, drop, sym, ap, ◌∙◌, subst, arith}
 use Rattle.std.specs.List.{AllByRecursion}
 use Rattle.std.proofs.lemmas.List.{append-nil, append_assoc, length_push, take_all, drop_all}
-use Rattle.ged_tree.specs.Trees.{trees_count}
-use Rattle.ged_tree.specs.Places.{structure_at}
 use Rattle.ged_link.specs.Links.{identifiers}
 use Rattle.ged_canon.specs.declared.writer.rank.RankedSibling.{RankedSibling}
 use Rattle.ged_canon.specs.inner.Working.{used_trees, each_sorted}
@@ -32,7 +30,6 @@ loop-after-preserved g c =
     let pushed_one = c.in_ok-push_sibling.ensures in
     let last = pushed_one.0 in
     let at = pushed_one.2 in
-    let own_tag = pushed_one.3 in
     let start = c.args.siblings.now.items in
     let now = c.loop-after.siblings.items in
     let inv = c.loop-after.invariant in
@@ -41,7 +38,7 @@ loop-after-preserved g c =
       run = step.rest;
       kept = still_kept start now c.push_sibling.new.siblings.items last inv.long pushed_one.1 inv.kept;
       long = still_long start now c.push_sibling.new.siblings.items last inv.long pushed_one.1;
-      within = subst (λ (xs : List RankedSibling). AllByRecursion (StandsRanked d) xs) (sym more) (all_with (StandsRanked d) (drop (length start) now) last inv.within (subst (λ n. n < trees_count d) (sym at) step.within, own_tag ∙ ap (λ n. (structure_at d n).tag) (sym at)));
+      within = subst (λ (xs : List RankedSibling). AllByRecursion (StandsRanked d) xs) (sym more) (all_with (StandsRanked d) (drop (length start) now) last inv.within pushed_one.3);
       counted =
           let pushed = ap (λ (xs : List RankedSibling). length xs) more ∙ length_push (drop (length start) now) last in
           let first = ap (λ t. length (identifiers t)) step.first in
@@ -50,7 +47,7 @@ loop-after-preserved g c =
           ap (λ (xs : List RankedSibling). sibling_trees used edition context d (xs ++ rest)) more
           ∙ ap (sibling_trees used edition context d) (append_assoc (drop (length start) now) (last ∷ []) rest)
           ∙ inv.listed used edition context (last ∷ rest)
-          (first_sibling used edition context d c.loop-after.place c.args.end c.in-Some.after last rest inv.run step at own_tag e);
+          (first_sibling used edition context d c.loop-after.place c.args.end c.in-Some.after last rest inv.run step at e);
     }
 
 pub returns-clause-trees : goal.returns-clause-trees

@@ -17,6 +17,19 @@ either_way : {A E P : Type 0} (r : Result A E) → P → OnOk r P
 either_way (Ok a) p = p
 either_way (Err e) p = tt
 
+pub sort_siblings-requires : goal.sort_siblings-requires
+sort_siblings-requires g c =
+    let d = g.F.Forest.trees c.args.forest.now in
+    let old = c.args.siblings.now.items in
+    let pushed = c.push_siblings.new.siblings.items in
+    let all = c.deref_mut.result.now in
+    let base = c.len-base.result in
+    let from : base ≡ length old = omega arith in
+    let whole : all ≡ pushed = c.deref_mut.ensures.value in
+    let part : take (length all - base) (drop base all) ≡ drop (length old) pushed =
+    take_all (length all - base) (drop base all) (omega (arith, length-drop base all)) ∙ (λ i. drop (from i) (whole i)) in
+    subst (λ (xs : List RankedSibling). AllByRecursion (StandsRanked d) xs) (sym part) c.in_ok-push_siblings.ensures.within
+
 pub returns-clause-within : goal.returns-clause-within
 returns-clause-within g c =
     let d = g.F.Forest.trees c.args.forest.now in
@@ -58,8 +71,8 @@ returns-clause-trees g c = λ used edition context.
     let tail = written_tail base c.push_siblings.new.siblings.len (length old) all ys pushed room (omega arith) (omega arith) same (sym from) in
     subst (λ (xs : List RankedSibling). OnOk c.sort_siblings.result (sibling_trees used edition context d xs ≡ sorted edition context (used_trees used (trees_between d c.args.start c.args.end)))) (sym tail)
     (on_ok_weaker c.sort_siblings.result
-    (λ put. put
+    (λ put. put used edition context
     ∙ ap (λ (xs : List RankedSibling). grouped (sibling_trees used edition context d xs)) part
     ∙ ap grouped (c.in_ok-push_siblings.ensures.trees used edition context)
     ∙ grouped_is_sorted edition context (used_trees used (trees_between d c.args.start c.args.end)))
-    (c.sort_siblings.ensures.trees d used edition context))
+    c.sort_siblings.ensures.trees)

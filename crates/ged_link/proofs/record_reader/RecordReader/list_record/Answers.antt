@@ -1,7 +1,7 @@
 use Rattle.std.proofs.Common.{sym, ap, ◌∙◌, Option, [], ◌∷◌, ◌++◌}
 use Rattle.ged_line.specs.Bytes.{Bytes}
 use Rattle.ged_link.specs.inner.Layout.{counted}
-use Rattle.ged_link.specs.inner.Listing.{listed_halves, listed_digits}
+use Rattle.ged_link.specs.inner.Listing.{listed_halves, listed_digits, all_halves, all_digits}
 use Rattle.ged_link.proofs.RecordLineLemmas.{listed_more}
 use Rattle.ged_link.proofs.record_reader.RecordReader.list_record.Goals as goal
 
@@ -11,6 +11,6 @@ returns c lines line xref tag listed =
     let pushed = c.in_ok-push.ensures in
     listed_more old c.push.new.self c.type_of.result lines line (rw tag c.type_of.ensures)
     (pushed.tallies ∙ ap (λ (x : Option Bytes). counted old.tallies.items x) (sym xref))
-    (pushed.names ∙ ap (λ (x : Option Bytes). old.names.items ++ listed_halves x ∷ []) (sym xref))
-    (pushed.digits ∙ ap (λ (x : Option Bytes). old.digits.items ++ listed_digits x ∷ []) (sym xref))
+    (pushed.names ∙ ap (λ (x : Option Bytes). all_halves old ++ listed_halves x ∷ []) (sym xref))
+    (λ even. pushed.digits even ∙ ap (λ (x : Option Bytes). all_digits old ++ listed_digits x ∷ []) (sym xref))
     pushed.types listed

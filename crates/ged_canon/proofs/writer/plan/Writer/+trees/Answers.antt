@@ -14,8 +14,8 @@ use Rattle.ged_schema.specs.Rows.{as_row}
 use Rattle.ged_schema.specs.Tables.{row, below_row}
 use Rattle.ged_canon.specs.declared.writer.rank.RankedSibling.{RankedSibling}
 use Rattle.ged_canon.specs.Steps.{renamed}
-use Rattle.ged_canon.specs.inner.Working.{used_xref, number_of, brief, sorted, each_sorted}
-use Rattle.ged_canon.specs.inner.Siblings.{sibling_trees, unranked, StandsRanked}
+use Rattle.ged_canon.specs.inner.Working.{used_xref, number_of, sorted, each_sorted}
+use Rattle.ged_canon.specs.inner.Siblings.{sibling_trees, StandsRanked}
 use Rattle.ged_canon.specs.inner.Writing.{brief_sibling, renamed_sibling, sibling_at, CanWriteTree}
 use Rattle.ged_canon.proofs.writer.SiblingTrees.{below_step}
 use Rattle.ged_canon.proofs.writer.RunsWritten.{tree_lines, lines_alike, can_write_alike, written_below, written_all, first_stands, below_stands, rest_stands, next_told, next_left, all_listed, in_order_sorted, run_first}
@@ -237,7 +237,7 @@ write_sorted-write_sibling-requires g t c κs within =
     let items = c.loop-number.work.siblings.items in
     let at = c.loop-number.number in
     let ranked = c.index-ranked.result.now in
-    let sibling = unranked ranked in
+    let sibling = sibling_at d ranked.place in
     let tag = (structure_at d sibling.place).tag in
     let rule : row c.of-rows.result tag ≡ row c.args.context tag = ap (λ k. row k tag) c.of-rows.ensures in
     let x = used_xref (λ name. true) (structure_at d sibling.place).xref in
@@ -251,13 +251,12 @@ write_sorted-write_sibling-requires g t c κs within =
         within,
         record {
           document = c.requires.document;
-          within = (here.0, refl);
-          run = subst (λ q. IsRunOfTrees d (sibling.place + 1) q) (sym c.after-after.ensures) (run_below d sibling.place here.0);
-          deeper = ap (trees_between d (sibling.place + 1)) c.after-after.ensures ∙ below_run d sibling.place here.0;
-          stands = subst (λ r. HasLinesAt c.args.level (brief_sibling edition r None d (sibling_at d sibling.place))) (sym rule)
-              (subst (λ t. HasLinesAt c.args.level (record { xref = None; tag = t; payload = brief edition (row c.args.context t) (structure_at d sibling.place).payload })) here.1
-              (first_stands edition c.args.context d c.args.level sibling x all rest is c.requires.deep c.loop-number.invariant.stand));
-          below = ap (λ r. are_at (c.args.level + 1) (sorted edition (below_row r) (below_at d sibling.place))) (rule ∙ ap (row c.args.context) (sym here.1))
+          within = (here.within, refl);
+          run = subst (λ q. IsRunOfTrees d (sibling.place + 1) q) (sym c.after-after.ensures) (run_below d sibling.place here.within);
+          deeper = ap (trees_between d (sibling.place + 1)) c.after-after.ensures ∙ below_run d sibling.place here.within;
+          stands = subst (λ r. HasLinesAt c.args.level (brief_sibling edition r None d sibling)) (sym rule)
+              (first_stands edition c.args.context d c.args.level sibling x all rest is c.requires.deep c.loop-number.invariant.stand);
+          below = ap (λ r. are_at (c.args.level + 1) (sorted edition (below_row r) (below_at d sibling.place))) rule
               ∙ below_stands edition c.args.context d c.args.level sibling x all rest is c.requires.deep c.loop-number.invariant.stand;
         },
       ),
@@ -271,14 +270,13 @@ write_sorted-loop-number-preserved g t c =
     let now = c.write_sibling.new.work.siblings.items in
     let at = c.loop-number.number in
     let ranked = c.index-ranked.result.now in
-    let sibling = unranked ranked in
+    let sibling = sibling_at d ranked.place in
     let tag = (structure_at d sibling.place).tag in
     let rule : row c.of-rows.result tag ≡ row c.args.context tag = ap (λ k. row k tag) c.of-rows.ensures in
     let x = used_xref (λ name. true) (structure_at d sibling.place).xref in
     let listed = next_left items at ranked (omega arith) c.index-ranked.ensures in
     let all = sibling_trees (λ name. true) edition c.args.context d (drop at items) in
     let rest = sibling_trees (λ name. true) edition c.args.context d (drop (at + 1) items) in
-    let here = (subst (λ (xs : List RankedSibling). AllByRecursion (StandsRanked d) xs) listed c.loop-number.invariant.within).0 in
     let is = ap (sibling_trees (λ name. true) edition c.args.context d) listed in
     let same : now ≡ items = c.in_ok-write_sibling.ensures.kept in
     record {
@@ -291,7 +289,7 @@ write_sorted-loop-number-preserved g t c =
           ap (λ (xs : List RankedSibling). c.write_sibling.new.work.answer ++ spelled_lines (lines_of c.args.level (renamed (number_of 1 names) (sibling_trees (λ name. true) edition c.args.context d (drop (at + 1) xs))))) same
           ∙ next_told edition c.args.context d c.args.level sibling x all rest is c.requires.deep c.loop-number.invariant.stand (number_of 1 names)
           (c.args.work.now.answer ++ spelled_lines (lines_of c.args.level (renamed (number_of 1 names) (sorted edition c.args.context (trees_between d c.args.start c.args.end)))))
-          c.loop-number.work.answer c.write_sibling.new.work.answer (c.in_ok-write_sibling.ensures.lines names h ∙ ap (λ bytes. c.loop-number.work.answer ++ bytes) (sym (lines_alike (number_of 1 names) edition None d sibling.tag sibling.place c.args.level (row c.args.context sibling.tag.now) _ here.1 (ap (row c.args.context) here.1 ∙ sym rule)))) (c.loop-number.invariant.told names h);
+          c.loop-number.work.answer c.write_sibling.new.work.answer (c.in_ok-write_sibling.ensures.lines names h ∙ ap (λ bytes. c.loop-number.work.answer ++ bytes) (tree_lines (number_of 1 names) edition None d sibling c.args.level _ (row c.args.context tag) rule)) (c.loop-number.invariant.told names h);
     }
 
 pub write_sorted-returns-clause-lines : goal.write_sorted-returns-clause-lines

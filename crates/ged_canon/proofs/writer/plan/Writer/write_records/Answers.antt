@@ -1,6 +1,6 @@
-use Rattle.std.proofs.Common.{◌≡◌, ◌+◌, ◌++◌, List, [], ◌∷◌, drop, refl, sym, ap, ◌∙◌, subst, append-nil, arith}
+use Rattle.std.proofs.Common.{◌≡◌, ◌+◌, ◌++◌, List, [], ◌∷◌, drop, get_or, refl, sym, ap, ◌∙◌, subst, append-nil, arith}
 use Rattle.std.specs.List.{AllByRecursion}
-use Rattle.std.proofs.lemmas.List.{drop_all}
+use Rattle.std.proofs.lemmas.List.{drop_all, get_or_default}
 use Rattle.ged_tree.specs.Documents.{are_at}
 use Rattle.ged_schema.specs.declared.context.Context.TheVariants.{File}
 use Rattle.ged_canon.specs.declared.writer.rank.RankedSibling.{RankedSibling}
@@ -20,8 +20,8 @@ write_record-requires g c =
     let edition = c.args.self.now.plan.edition in
     let xs = c.args.siblings.now in
     let at = c.loop-each.each-index in
-    let x = c.each-item.result in
-    let split = next_left xs at x c.loop-each-test.true c.each-item.is in
+    let x : RankedSibling = get_or xs at (record { rank = 0; place = 0 }) in
+    let split = next_left xs at x c.loop-each-test.true (get_or_default xs at (record { rank = 0; place = 0 }) x c.loop-each-test.true) in
     let all : AllByRecursion (StandsRanked d) (x ∷ drop (at + 1) xs) =
     subst (λ (ys : List RankedSibling). AllByRecursion (StandsRanked d) ys) split c.loop-each.invariant.within in
     record {
@@ -37,8 +37,8 @@ loop-each-preserved g c =
     let edition = c.args.self.now.plan.edition in
     let xs = c.args.siblings.now in
     let at = c.loop-each.each-index in
-    let x = c.each-item.result in
-    let split = next_left xs at x c.loop-each-test.true c.each-item.is in
+    let x : RankedSibling = get_or xs at (record { rank = 0; place = 0 }) in
+    let split = next_left xs at x c.loop-each-test.true (get_or_default xs at (record { rank = 0; place = 0 }) x c.loop-each-test.true) in
     let all : AllByRecursion (StandsRanked d) (x ∷ drop (at + 1) xs) =
     subst (λ (ys : List RankedSibling). AllByRecursion (StandsRanked d) ys) split c.loop-each.invariant.within in
     record {
