@@ -1,5 +1,5 @@
 -- A line's parts, looked at byte by byte.
-use Rattle.std.proofs.Common.{Result, Ok, Err, ◌≡◌, ◌≢◌, ℕ, ◌<◌, ◌≤◌, ◌+◌, ◌-◌, zero, suc, true, false, List, [], ◌∷◌, ◌++◌, ◌⊎◌, inl, inr, length, get_or, take, drop, refl, sym, ◌∙◌, ap, subst, arith, decimal, get_or-take}
+use Rattle.std.proofs.Common.{Result, Ok, Err, ◌≡◌, ◌≢◌, ℕ, ◌<◌, ◌≤◌, ◌+◌, ◌-◌, ◌*◌, zero, suc, true, false, List, [], ◌∷◌, ◌++◌, ◌⊎◌, inl, inr, length, get_or, take, drop, refl, sym, ◌∙◌, ap, subst, arith, decimal, get_or-take}
 use Rattle.std.proofs.lemmas.Bool.Decides.{nat_tests}
 use Rattle.std.proofs.lemmas.List.{take-append-drop, length-take-le, length-drop, get_or-drop, append-nil}
 use Rattle.std.proofs.lemmas.List.Elements.{recursion_from_All, All-from_get_or}
@@ -22,7 +22,7 @@ use Rattle.ged_line.proofs.line.Values.{text_is}
 use Rattle.ged_line.proofs.line.Reading.{NoCharPasses-tail}
 use Rattle.ged_line.proofs.line.NameTests.{AreTagCharacters, bool_cases, capital_is_tag_character, each_all, tag_each}
 use Rattle.ged_line.proofs.line.Cuts.{Lacks, AllByRecursion-weaker, tag_character_not_space}
-use Rattle.ged_line.proofs.line.Levels.{digit_from, number_one}
+use Rattle.ged_line.proofs.line.Levels.{digit_from, number_one, number_two}
 use Rattle.ged_line.proofs.line.Words.{not_space, word_cut, word_whole}
 
 -- a digit and a space at the front
@@ -33,6 +33,17 @@ level_digit (d ∷ []) l a b e = absurd (omega arith)
 level_digit (d ∷ s ∷ rest) l a b e =
     let one : decimal (d - 48) ≡ d ∷ [] = number_one d (digit_from d a b) in
     (omega arith, rw (one, e) refl)
+
+-- two digits, of which the first is not 0, and a space at the front
+pub level_digits : (text : List ℕ) → 3 ≤ length text → 49 ≤ get_or text 0 0 → get_or text 0 0 ≤ 57 → 48 ≤ get_or text 1 0 → get_or text 1 0 ≤ 57 → get_or text 2 0 ≡ 32
+    → ((get_or text 0 0 - 48) * 10 + (get_or text 1 0 - 48) ≤ 99)
+    × ((rest : List ℕ) × (text ≡ decimal ((get_or text 0 0 - 48) * 10 + (get_or text 1 0 - 48)) ++ 32 ∷ rest))
+level_digits [] l a b c d e = absurd (omega arith)
+level_digits (x ∷ []) l a b c d e = absurd (omega arith)
+level_digits (x ∷ y ∷ []) l a b c d e = absurd (omega arith)
+level_digits (x ∷ y ∷ s ∷ rest) l a b c d e =
+    let two : decimal ((x - 48) * 10 + (y - 48)) ≡ x ∷ y ∷ [] = number_two x y (digit_from x (omega arith) b) (digit_from y c d) (λ z. omega (arith, a, z)) in
+    (omega arith, (rest, rw (two, e) refl))
 
 -- the first n characters are tag characters
 abbrev pub TagFront : List ℕ → ℕ → Type 0

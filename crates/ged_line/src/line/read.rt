@@ -78,6 +78,9 @@ fn any_level(text: &str) -> Result<u8, LineFault>
         (λ f. ((f ≡ LineFault.BadLevel) × StandsAt LineFault.BadLevel text.now)
         ⊎ ((f ≡ LineFault.LevelTooLarge) × StandsAt LineFault.LevelTooLarge text.now)) }
 {
+    if let [ten @ b'1'..=b'9', unit @ b'0'..=b'9', b' ', ..] = text.as_bytes() {
+        return Ok((*ten - b'0') * 10 + (*unit - b'0'));
+    }
     match view_any_level(text) {
         Ok((level, _)) => Ok(level),
         Err(fault) => Err(fault),
