@@ -7,6 +7,7 @@ pub mod Flattening
 pub mod FurtherTexts
 pub mod PackedStructures
 pub mod Pushing
+pub mod Searches
 pub mod SpelledTexts
 pub mod Tags
 pub mod Taking

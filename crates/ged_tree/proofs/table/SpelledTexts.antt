@@ -65,7 +65,7 @@ first_of_tag (c ∷ cs) part t =
     let other : (c == 64) ≡ false = no_sign c (tag_character_not_at c (tag_each (c ∷ cs) t).0) in
     (rw other refl, rw other refl)
 
-xref_shown : (xref : Option Bytes) (tag part : Bytes) → may_be_xref xref ≡ true → is_tag tag ≡ true
+pub xref_shown : (xref : Option Bytes) (tag part : Bytes) → may_be_xref xref ≡ true → is_tag tag ≡ true
     → (shown_xref (xref_part xref ++ (tag ++ part)) ≡ xref) × (from_tag (xref_part xref ++ (tag ++ part)) ≡ tag ++ part)
 xref_shown None tag part x t = first_of_tag tag part t
 xref_shown (Some name) tag part x t =

@@ -70,7 +70,7 @@ pub begins_characters : (name rest : Bytes) → AreTagCharacters name → Begins
 begins_characters [] rest a h = h
 begins_characters (c ∷ cs) rest a h = tag_character_ascii c a.0
 
-part_begins : (value : Value) (part : Bytes) → IsValuePart value part → BeginsAscii part
+pub part_begins : (value : Value) (part : Bytes) → IsValuePart value part → BeginsAscii part
 part_begins value part v = elim (part_ends value part v) [
   | inl e ↦ subst BeginsAscii (sym e) tt
   | inr (more, e) ↦ (let low : 32 < 128 = omega arith in subst BeginsAscii (sym e) low)

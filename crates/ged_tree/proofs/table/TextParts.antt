@@ -13,7 +13,7 @@ use Rattle.ged_tree.specs.DocumentLines.{line_value}
 use Rattle.ged_tree.proofs.table.SpelledTexts.{value_shown, pointer_shown}
 use Rattle.ged_tree.proofs.table.Tags.{BeginsAscii, begins_characters, middle_boundary, last_boundary, middle_is, middle_fits}
 
-is_sign : (c : ℕ) → c ≡ 64 → (c == 64) ≡ true
+pub is_sign : (c : ℕ) → c ≡ 64 → (c == 64) ≡ true
 is_sign c h = grind (arith, nat_tests)
 
 no_sign : (c : ℕ) → ¬ (c ≡ 64) → (c == 64) ≡ false

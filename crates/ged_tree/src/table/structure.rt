@@ -1,15 +1,17 @@
 // A structure of a table with its text at hand, and what its line shows.
-ghost use Rattle.std.specs.Prelude.{◌≡◌, ◌≤◌, ◌<◌, ◌+◌, true, length, decimal, option_map, slice_index};
+ghost use Rattle.std.specs.Prelude.{◌≡◌, ◌≤◌, ◌<◌, ◌+◌, ◌==◌, true, length, drop, decimal, option_map, slice_index};
+ghost use Rattle.std.specs.List.{before_first};
 ghost use Rattle.ged_line.specs.Lines.{LineParts, Value, is_value, xref_part};
 ghost use Rattle.ged_line.specs.inner.LineTexts.{IsValuePart};
-ghost use Rattle.ged_tree.specs.Rows.{IsSpelled, kept_tag_length, line_shown};
+ghost use Rattle.ged_tree.specs.Rows.{IsSpelled, kept_level, kept_tag_length, line_shown};
 ghost use Rattle.ged_tree.specs.inner.Rows.{HasTagAt, rest_of, shown_of};
-ghost use Rattle.ged_tree.specs.Spelled.{shown_value};
+ghost use Rattle.ged_tree.specs.Spelled.{from_tag, shown_value, shown_xref};
 ghost use Rattle.ged_tree.specs.inner.Tables.{own_value};
 
 use crate::forest::payload::PayloadView;
 use crate::table::packed::KeptStructure;
-use ged_line::{LineView, ValueView, view_text};
+use ged_line::LineView;
+use memchr::memchr;
 
 /// A structure of a table, with its text at hand.
 #[derive(Clone, Copy)]
@@ -20,27 +22,15 @@ pub(crate) struct FlatStructure<'a> {
 }
 
 impl<'a> FlatStructure<'a> {
-    /// The line that its text shows, read once more.
-    #[cold]
-    fn line(&self) -> LineView<'a>
-        requires { IsSpelled (shown_of self.now) }
-        ensures { result ≡ line_shown (shown_of self.now) }
-    {
-        match view_text(self.text) {
-            Ok(line) => line,
-            Err(_) => unreachable!(),
-        }
-    }
-
-    /// What [`FlatStructure::tag`] answers, from the line. A function of its own, so that the common path need not clear the
-    /// stack's room for a whole line; so are the next two.
+    /// What [`FlatStructure::tag`] answers, where the place of the tag is not kept, which is rare: so this and the next two are
+    /// functions of their own. The text is known to spell a line, so searches for single bytes find its parts, and nothing is tested.
     #[cold]
     #[inline(never)]
     fn tag_of_line(&self) -> &'a str
         requires { IsSpelled (shown_of self.now) }
         ensures { result.now ≡ (line_shown (shown_of self.now)).tag }
     {
-        self.line().tag()
+        before_byte(b' ', self.from_tag())
     }
 
     #[cold]
@@ -49,7 +39,7 @@ impl<'a> FlatStructure<'a> {
         requires { IsSpelled (shown_of self.now) }
         ensures { option_map (λ name. name.now) result ≡ (line_shown (shown_of self.now)).xref }
     {
-        self.line().xref()
+        xref_at_front(self.behind_level())
     }
 
     #[cold]
@@ -58,7 +48,29 @@ impl<'a> FlatStructure<'a> {
         requires { IsSpelled (shown_of self.now) }
         ensures { own_value result ≡ (line_shown (shown_of self.now)).value }
     {
-        payload_of_line(&self.line())
+        let rest = self.from_tag();
+        let tag = before_byte(b' ', rest);
+        payload_behind_tag(&rest[tag.len()..])
+    }
+
+    /// What stands in its text behind the level's space.
+    fn behind_level(&self) -> &'a str
+        requires { IsSpelled (shown_of self.now) }
+        ensures { result.now ≡ drop (length (decimal (kept_level self.now.kept)) + 1) self.now.text.now }
+    {
+        &self.text[digits_of_level(self.kept.level()) + 1..]
+    }
+
+    /// What stands in its text from the tag on. An identifier has an `@` on either side, and a space behind it.
+    fn from_tag(&self) -> &'a str
+        requires { IsSpelled (shown_of self.now) }
+        ensures { result.now ≡ from_tag (drop (length (decimal (kept_level self.now.kept)) + 1) self.now.text.now) }
+    {
+        let rest = self.behind_level();
+        match xref_at_front(rest) {
+            Some(name) => &rest[name.len() + 3..],
+            None => rest,
+        }
     }
 
     /// The tag and the value as the canonical spelling has them, where the place of the tag is kept.
@@ -127,6 +139,27 @@ fn rest_between(text: &str, start: usize, end: usize) -> &str
     &text[start..]
 }
 
+/// What stands up to a byte, or all where there is none. An identifier has no `@` in it, and a tag has no space.
+fn before_byte(byte: u8, text: &str) -> &str
+    requires { byte < 128 }
+    ensures { result.now ≡ before_first (λ c. c == byte) text.now }
+{
+    match memchr(byte, text.as_bytes()) {
+        Some(end) => &text[..end],
+        None => text,
+    }
+}
+
+/// The name of the identifier that the rest of a line begins with, behind the level's space.
+fn xref_at_front(rest: &str) -> Option<&str>
+    ensures { option_map (λ name. name.now) result ≡ shown_xref rest.now }
+{
+    match rest.as_bytes() {
+        [b'@', ..] => Some(before_byte(b'@', &rest[1..])),
+        _ => None,
+    }
+}
+
 /// How many digits spell a level.
 pub(crate) fn digits_of_level(level: u8) -> usize
     requires { level ≤ 99 }
@@ -176,17 +209,5 @@ fn reference_of(part: &str) -> PayloadView<'_>
         PayloadView::Void
     } else {
         PayloadView::Pointer(name)
-    }
-}
-
-/// The payload that begins on a line.
-fn payload_of_line<'a>(line: &LineView<'a>) -> PayloadView<'a>
-    ensures { own_value result ≡ line.now.value }
-{
-    match line.value() {
-        ValueView::Empty => PayloadView::Text(""),
-        ValueView::Void => PayloadView::Void,
-        ValueView::Pointer(name) => PayloadView::Pointer(name),
-        ValueView::Text(text) => PayloadView::Text(text),
     }
 }
