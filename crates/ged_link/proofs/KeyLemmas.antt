@@ -1,12 +1,14 @@
 -- What the maps of names hold, and under which key they hash.
-use Rattle.std.proofs.Common.{◌≡◌, subst, sym, ap, ◌∙◌, ℕ, Bool, true, false, cond, nat_eq, List, Option, Some, Result, Ok, Err, OnOk, inl, inr, refl, arith, rules}
+use Rattle.std.proofs.Common.{◌≡◌, subst, sym, ap, ◌∙◌, ℕ, Bool, true, false, cond, fold, nat_eq, List, [], Option, Some, Result, Ok, Err, OnOk, inl, inr, refl, arith, rules}
 use Rattle.std.specs.Bool.{if◌then◌else◌, Decides}
 use Rattle.std.specs.Str.{bytes_eq}
+use Rattle.std.specs.declared.hash.DefaultHasher.{DefaultHasher}
 use Rattle.std.specs.HashMap.{get, get_by_text, hasher_of, hash_map_len}
 use Rattle.std.proofs.lemmas.Slice.Eq.{bytes_eq-Decides}
 use Rattle.std.proofs.lemmas.Bool.Decides.{nat_tests}
 use Rattle.ged_line.specs.Bytes.{Bytes}
-use Rattle.ged_tree.specs.Trees.{Trees}
+use Rattle.ged_tree.specs.Trees.{Trees, none, tree}
+use Rattle.ged_tree.specs.Documents.{are_at}
 use Rattle.ged_tree.specs.Places.{structure_at}
 use Rattle.ged_tree.specs.Runs.{trees_between, IsStep}
 use Rattle.ged_link.specs.declared.index.RecordPlace.{RecordPlace}
@@ -16,7 +18,8 @@ use Rattle.ged_link.specs.declared.names.Names.{Names}
 use Rattle.ged_link.specs.Links.{IsAmong, identifiers}
 use Rattle.ged_link.specs.NameNumbers.{short_number}
 use Rattle.ged_link.specs.inner.Indexes.{HasKey, HoldsOf, IsKeyed, IsKeyedFrom}
-use Rattle.ged_link.specs.inner.Keys.{names_key}
+use Rattle.ged_link.specs.inner.Keys.{fed_name, names_key}
+use Rattle.ged_link.proofs.LinkLemmas.{level_parts, never_empty}
 
 same_number : (m n : ℕ) → nat_eq m n ≡ true → m ≡ n
 same_number m n e = grind (arith, nat_tests)
@@ -67,6 +70,10 @@ module _ (d : Trees) (place end : ℕ) where
   keyed_more first old new is (Ok is_new) key held = inr (first, record { key = key; held = held; more = is.more })
   keyed_more first old new is (Err error) key held = tt
 
+  -- what is among those past the record there is among all
+  pub among_next : (after : ℕ) → IsStep d place end after → (xref : Option Bytes) → IsAmong xref (identifiers (trees_between d after end)) → IsAmong xref (identifiers (trees_between d place end))
+  among_next after step xref among = subst (IsAmong xref) (sym (ap identifiers step.first)) (inr among)
+
   -- past the record there
   pub keyed_next : (after : ℕ) (records : Names) → IsStep d place end after → IsKeyed d place end records → IsKeyed d after end records
   keyed_next after records step (inl empty) = inl empty
@@ -75,10 +82,26 @@ module _ (d : Trees) (place end : ℕ) where
     record {
       key = is.key;
       held = is.held;
-      more = λ xref among. is.more xref (subst (IsAmong xref) (sym (ap identifiers step.first)) (inr among));
+      more = λ xref among. is.more xref (among_next after step xref among);
     },
   )
 
   -- whose identifier is among those that the key is made of
   pub among_here : (after : ℕ) → IsStep d place end after → IsAmong (structure_at d place).xref (identifiers (trees_between d place end))
   among_here after step = subst (IsAmong (structure_at d place).xref) (sym (ap identifiers step.first)) (inl refl)
+
+  -- which is not empty, where none of all is
+  pub not_empty : (after : ℕ) → IsStep d place end after → (IsAmong (Some []) (identifiers (trees_between d place end)) → ⊥) → (structure_at d place).xref ≡ Some [] → ⊥
+  not_empty after step named is = named (subst (λ (xref : Option Bytes). IsAmong xref (identifiers (trees_between d place end))) is (among_here after step))
+
+  -- that is written to the hasher of a key, and those that are left
+  pub fed_next : (after : ℕ) → IsStep d place end after → (old new all : DefaultHasher) → new ≡ fed_name old (structure_at d place).xref → fold fed_name old (identifiers (trees_between d place end)) ≡ all
+      → fold fed_name new (identifiers (trees_between d after end)) ≡ all
+  fed_next after step old new all feeds before =
+      ap (λ (hasher : DefaultHasher). fold fed_name hasher (identifiers (trees_between d after end))) feeds ∙ sym (ap (λ (trees : Trees). fold fed_name old (identifiers trees)) step.first) ∙ before
+
+-- no record has an empty identifier
+pub none_empty : (trees : Trees) → are_at 0 trees ≡ true → IsAmong (Some []) (identifiers trees) → ⊥
+none_empty none level among = among
+none_empty (tree s b n) level (inl is) = never_empty 0 s (level_parts 0 s b n level).0 (sym is)
+none_empty (tree s b n) level (inr among) = none_empty n (level_parts 0 s b n level).2 among

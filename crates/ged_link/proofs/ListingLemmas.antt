@@ -5,21 +5,24 @@ use Rattle.std.proofs.lemmas.Grind.{replicate_next}
 use Rattle.std.proofs.lemmas.List.{append-nil, length-append, length-map, length-replicate, get_or_append_left, get_or-append_right, get_or-replicate}
 use Rattle.ged_line.specs.Bytes.{Bytes}
 use Rattle.ged_tree.specs.Trees.{Structure, Trees, none, tree}
+use Rattle.ged_tree.specs.Places.{structure_at}
+use Rattle.ged_tree.specs.Runs.{trees_between, IsStep}
 use Rattle.ged_link.specs.Links.{identifiers}
 use Rattle.ged_link.specs.NameNumbers.{short_number}
 use Rattle.ged_link.specs.RecordTypes.{IsTypeOf}
 use Rattle.ged_link.specs.Slots.{number_read, no_region, slot_within, slot_in, kept_in}
 use Rattle.ged_link.specs.inner.Layout.{counted}
-use Rattle.ged_link.specs.inner.Listing.{listed_with, listed_name, listed_halves, listed_digits, all_halves, all_digits, AreTypesOf}
+use Rattle.ged_link.specs.inner.Listing.{listed_with, listed_text, listed_name, listed_halves, listed_digits, all_halves, all_digits, IsListedFrom, AreTypesOf}
 use Rattle.ged_link.specs.inner.Slots.{kept_at, IsMissed}
 use Rattle.ged_link.specs.declared.layout.Tally.{Tally}
 use Rattle.ged_link.specs.declared.listing.ListedName.{ListedName}
+use Rattle.ged_link.specs.declared.listing.ListedNames.{ListedNames}
 use Rattle.ged_link.specs.declared.listing.RecordList.{RecordList}
 use Rattle.ged_link.specs.declared.names.Names.{Names}
 use Rattle.ged_link.specs.declared.record_type.RecordType.{RecordType}
 use Rattle.ged_link.specs.declared.slots.Region.{Region}
 use Rattle.ged_link.proofs.NameLemmas.{first_byte, above}
-use Rattle.ged_link.proofs.RecordLemmas.{left_first, left_next}
+use Rattle.ged_link.proofs.RecordLemmas.{left_within, left_first, left_next}
 
 -- a name of which this is listed
 pub record IsListed (listed : ListedName) (xref : Option Bytes) : Type 0 where
@@ -62,25 +65,31 @@ missed_short records listed xref is slot at missed some = record {
     some_same : (m n : ℕ) → Some m ≡ Some n → m ≡ n
     some_same m n e = cc
 
+-- a name of which no number is listed spells none
+pub spells_none : (listed : ListedName) (name : Bytes) → listed ≡ listed_text name → (name ≡ [] → ⊥) → listed.number ≡ 0 → short_number name ≡ None
+spells_none listed [] e named zero = absurd (named refl)
+spells_none listed (b ∷ bs) e named zero = go (short_number (b ∷ bs)) refl e
+  where
+    go : (o : Option ℕ) → short_number (b ∷ bs) ≡ o → listed ≡ listed_with (number_read 0 bs) o → short_number (b ∷ bs) ≡ None
+    go None k is = k
+    go (Some n) k is = absurd (omega (arith, above (b ∷ bs) n k, zero, ap (λ (l : ListedName). l.number) is))
+
 -- where it has none
 pub missed_long : (records : Names) (listed : ListedName) (xref : Option Bytes) → listed ≡ listed_name xref → (xref ≡ Some [] → ⊥) → listed.number ≡ 0 → (listed.digits ≡ 0 → ⊥)
     → IsMissed records listed.number xref
 missed_long records listed None e named zero some = absurd (some (ap (λ (l : ListedName). l.digits) e))
-missed_long records listed (Some []) e named zero some = absurd (named refl)
-missed_long records listed (Some (b ∷ bs)) e named zero some = go (short_number (b ∷ bs)) refl e
+missed_long records listed (Some name) e named zero some =
+    let none = spells_none listed name e (λ empty. named (ap Some empty)) zero in
+    record {
+      name = name;
+      is = refl;
+      short = λ other. absurd (other zero);
+      long = λ _. none;
+      missed = λ number is. absurd (none_some (short_number name) number none is);
+    }
   where
     none_some : (o : Option ℕ) (number : ℕ) → o ≡ None → o ≡ Some number → ⊥
     none_some o number h k = absurd (let f : None ≡ Some number = sym h ∙ k in cc)
-
-    go : (o : Option ℕ) → short_number (b ∷ bs) ≡ o → listed ≡ listed_with (number_read 0 bs) o → IsMissed records listed.number (Some (b ∷ bs))
-    go (Some n) k is = absurd (omega (arith, above (b ∷ bs) n k, zero, ap (λ (l : ListedName). l.number) is))
-    go None k is = record {
-      name = b ∷ bs;
-      is = refl;
-      short = λ other. absurd (other zero);
-      long = λ _. k;
-      missed = λ number e. absurd (none_some (short_number (b ∷ bs)) number k e);
-    }
 
 -- where zeros are listed there is no name
 pub is_unnamed : (listed : ListedName) (xref : Option Bytes) → listed ≡ listed_name xref → listed.number ≡ 0 → listed.digits ≡ 0 → xref ≡ None
@@ -186,3 +195,24 @@ listed_here names digits k xref more left left_digits number read at beyond at_i
   where
     whole_of : (number whole low high : ℕ) → number ≡ low + high * 4294967296 → low ≡ whole % 4294967296 → high ≡ whole / 4294967296 → number ≡ whole
     whole_of number whole low high a b c = omega (arith, a, b, c)
+
+-- the next record of those whose names are listed
+module _ (d : Trees) (listed : ListedNames) (k p e a : ℕ) (are : IsListedFrom d listed k p e) (step : IsStep d p e a) where
+  pub halves_here : drop k (all_halves listed.list.now) ≡ map listed_halves ((structure_at d p).xref ∷ identifiers (trees_between d a e))
+  halves_here = are.halves ∙ ap (λ (t : Trees). map listed_halves (identifiers t)) step.first
+
+  pub digits_here : drop k (all_digits listed.list.now) ≡ map listed_digits ((structure_at d p).xref ∷ identifiers (trees_between d a e))
+  digits_here = are.digits ∙ ap (λ (t : Trees). map listed_digits (identifiers t)) step.first
+
+  pub halves_within : k < length (all_halves listed.list.now)
+  halves_within = left_within (all_halves listed.list.now) k (listed_halves (structure_at d p).xref) (map listed_halves (identifiers (trees_between d a e))) halves_here
+
+  pub digits_within : k < length (all_digits listed.list.now)
+  digits_within = left_within (all_digits listed.list.now) k (listed_digits (structure_at d p).xref) (map listed_digits (identifiers (trees_between d a e))) digits_here
+
+  pub listed_next : IsListedFrom d listed (k + 1) a e
+  listed_next = record {
+    unnamed = are.unnamed;
+    halves = left_next (all_halves listed.list.now) k (listed_halves (structure_at d p).xref) (map listed_halves (identifiers (trees_between d a e))) halves_here;
+    digits = left_next (all_digits listed.list.now) k (listed_digits (structure_at d p).xref) (map listed_digits (identifiers (trees_between d a e))) digits_here;
+  }

@@ -20,7 +20,7 @@ use Rattle.ged_link.specs.LinkFaults.{HasXref, IsRepeated, IsLowest}
 use Rattle.ged_link.specs.declared.names.Names.{Names}
 use Rattle.ged_link.specs.Indexes.{found_in, AreRecords, AreTyped}
 use Rattle.ged_link.specs.inner.Resolving.{AddsName, AddsRecord, AreRecordsBefore}
-use Rattle.ged_link.proofs.LinkLemmas.{both, document_level, level_parts, never_empty, unnamed, unnamed_run}
+use Rattle.ged_link.proofs.LinkLemmas.{both, document_level, level_parts, unnamed, unnamed_run}
 use Rattle.ged_link.proofs.PlaceCases.{place_cases, at_first, at_below}
 
 pub whole_run : (d : Trees) (e : ℕ) → e ≡ trees_count d → IsRunOfTrees d 0 e
@@ -133,9 +133,6 @@ module _ (d : Trees) (p e a k : ℕ) (step : IsStep d p e a) (left : drop k (ide
 
     pub level_next : are_at 0 (trees_between d a e) ≡ true
     level_next = level_here.1
-
-    pub xref_here : (structure_at d p).xref ≡ Some [] → ⊥
-    xref_here = never_empty 0 (structure_at d p) (level_parts 0 (structure_at d p) (trees_between d (p + 1) a) (trees_between d a e) (rw step.first at level)).0
 
     -- an identifier before the next record stands before this one, or is this one's
     place_before : (name : Bytes) (other : ℕ) → (other < a) × HasXref d other name → ((other < p) × HasXref d other name) ⊎ ((other ≡ p) × ((structure_at d p).xref ≡ Some name))

@@ -147,24 +147,32 @@ impl RecordList {
             .filter(|(digits, halves)| **digits == NO_NUMBER.digits && **halves == (0, 0))
             .count()
     }
+}
 
-    /// What is listed of the name of the record with a number, where so many stand before the first that has a name. Of those nothing
-    /// is read.
+/// What is listed of the names of all records, and how many records stand before the first that has one.
+#[derive(Clone, Copy)]
+pub(crate) struct ListedNames<'l> {
+    pub(crate) list: &'l RecordList,
+    pub(crate) unnamed: usize,
+}
+
+impl ListedNames<'_> {
+    /// What is listed of the name of the record with a number. Of those before the first name nothing is read.
     #[inline(always)]
-    pub(crate) fn name_at(&self, unnamed: usize, number: usize) -> ListedName
-        requires unnamed { unnamed ≡ unnamed_in self.now }
-        requires names { number < length (all_halves self.now) }
-        requires digits { number < length (all_digits self.now) }
-        ensures { (xref : Option Bytes) (more : List (Option Bytes)) → drop number (all_halves self.now) ≡ map listed_halves (xref ∷ more)
-            → drop number (all_digits self.now) ≡ map listed_digits (xref ∷ more) → result ≡ listed_name xref }
+    pub(crate) fn name_at(self, number: usize) -> ListedName
+        requires unnamed { self.unnamed ≡ unnamed_in self.list.now }
+        requires names { number < length (all_halves self.list.now) }
+        requires digits { number < length (all_digits self.list.now) }
+        ensures { (xref : Option Bytes) (more : List (Option Bytes)) → drop number (all_halves self.entry.list.now) ≡ map listed_halves (xref ∷ more)
+            → drop number (all_digits self.entry.list.now) ≡ map listed_digits (xref ∷ more) → result ≡ listed_name xref }
     {
-        if number < unnamed {
+        if number < self.unnamed {
             return NO_NAME;
         }
-        let at = number - unnamed;
+        let at = number - self.unnamed;
         ListedName {
-            number: joined(self.names[at]),
-            digits: self.digits[at],
+            number: joined(self.list.names[at]),
+            digits: self.list.digits[at],
         }
     }
 }

@@ -139,13 +139,11 @@ pub(crate) struct Names {
     short: IndexMap<u64, RecordPlace, KeyedNumbers>,
     /// All others.
     long: IndexMap<String, RecordPlace, Keyed>,
-    /// For how many of these there is to be room. No answer rests on it.
-    room: usize,
 }
 
 impl Names {
-    /// No records, where the slots are free, and so many long names are to come. The maps have no key yet ([`Names::set_key`]).
-    pub(crate) fn new(alloc: Global, slots: Slots, room: usize) -> Names
+    /// No records, where the slots are free. The maps have no key yet ([`Names::set_key`]).
+    pub(crate) fn new(alloc: Global, slots: Slots) -> Names
         requires free { (name : _) → (number : ℕ) → 0 < number → kept_in slots name number ≡ None }
         ensures none { (name : _) → found_in result name ≡ None }
         ensures others { HasNoOthers result }
@@ -155,7 +153,6 @@ impl Names {
             slots,
             short: IndexMap::with_hasher(alloc, KeyedNumbers { key: 0 }),
             long: IndexMap::with_hasher(alloc, Keyed { key: 0 }),
-            room,
         }
     }
 
@@ -166,9 +163,9 @@ impl Names {
         self.short.is_empty() && self.long.is_empty()
     }
 
-    /// Gives the maps, which are empty, the key of the names that are to come ([`crate::keys::names_key`]), and takes memory for all long
-    /// ones.
-    pub(crate) fn set_key(&mut self, alloc: Global, key: u64) -> Result<(), AllocError>
+    /// Gives the maps, which are empty, the key of the names that are to come ([`crate::keys::names_key`]), and takes memory for so many
+    /// long ones. No answer rests on how many.
+    pub(crate) fn set_key(&mut self, alloc: Global, key: u64, room: usize) -> Result<(), AllocError>
         requires { HasNoOthers self.old }
         ensures same { (name : _) → found_in self.new name ≡ found_in self.old name }
         ensures slots { self.new.slots ≡ self.old.slots }
@@ -176,7 +173,7 @@ impl Names {
         ensures keyed { OnOk result (HasKey self.new key) }
     {
         self.short = IndexMap::with_hasher(alloc, KeyedNumbers { key });
-        self.long = IndexMap::with_capacity_and_hasher(alloc, self.room, Keyed { key })?;
+        self.long = IndexMap::with_capacity_and_hasher(alloc, room, Keyed { key })?;
         Ok(())
     }
 

@@ -4,14 +4,14 @@ ghost use Rattle.ged_tree.specs.Trees.{records_of, trees_count};
 ghost use Rattle.ged_tree.specs.Documents.{is_document};
 ghost use Rattle.ged_tree.specs.DocumentLines.{document_lines};
 ghost use Rattle.ged_tree.specs.Places.{structure_at};
-ghost use Rattle.ged_tree.specs.Runs.{trees_between, IsRunOfTrees};
+ghost use Rattle.ged_tree.specs.Runs.{trees_between, IsRunOfTrees, IsStep};
 ghost use Rattle.ged_link.specs.Links.{IsAmong, Resolved, identifiers};
 ghost use Rattle.ged_link.specs.LinkFaults.{HasLinkFault, IsRepeated};
 ghost use Rattle.ged_link.specs.Places.{ArePlaces};
 ghost use Rattle.ged_link.specs.Indexes.{IsIndexOf, AreRecords, AreTyped, found_in};
 ghost use Rattle.ged_link.specs.inner.Indexes.{HasKey, HasNoOthers, IsKeyed, IsKeyedFrom};
 ghost use Rattle.ged_link.specs.inner.Keys.{names_key as key_of_names};
-ghost use Rattle.ged_link.specs.inner.Listing.{listed_name, listed_halves, listed_digits, all_halves, all_digits, AreTypesOf, IsRecordList};
+ghost use Rattle.ged_link.specs.inner.Listing.{listed_halves, listed_digits, all_halves, all_digits, IsListedFrom, AreTypesOf, IsRecordList};
 ghost use Rattle.ged_link.specs.inner.PairSets.{lists_have};
 ghost use Rattle.ged_link.specs.inner.Resolving.{AddsRecord};
 ghost use Rattle.ged_link.specs.inner.Slots.{IsMissed};
@@ -24,7 +24,7 @@ use crate::keys::names_key;
 use crate::layout::slots_for;
 use crate::link_lists::LinkLists;
 use crate::links::find_one_way;
-use crate::listing::{ListedName, RecordList, first_record, list_records};
+use crate::listing::{ListedNames, RecordList, first_record, list_records};
 use crate::names::Names;
 use crate::places::push_place;
 use crate::pointers::{Records, follow_pointers};
@@ -96,23 +96,29 @@ fn resolve_listed<F: Forest>(
     })
 }
 
-/// Gives the maps, where they are empty, their key: that of all names from a record's own on. Takes memory for the long ones.
+/// Gives the maps, where they are empty, their key: that of all names from a record's own on. Takes memory for the long ones, which
+/// are counted here, since in most files each name has a slot.
 fn begin_others<F: Forest>(
     alloc: Global,
     forest: &F,
     end: usize,
     records: &mut Names,
-    place: usize,
+    listed: ListedNames<'_>,
+    first: RecordPlace,
 ) -> Result<(), AllocError>
-    requires { IsRunOfTrees (F.trees forest.now) place end }
+    requires run { IsRunOfTrees (F.trees forest.now) first.place end }
+    requires listed { IsListedFrom (F.trees forest.now) listed first.number first.place end }
+    requires named { IsAmong (Some []) (identifiers (trees_between (F.trees forest.now) first.place end)) → ⊥ }
     ensures same { (name : _) → found_in records.new name ≡ found_in records.old name }
     ensures slots { records.new.slots ≡ records.old.slots }
-    ensures key { HasNoOthers records.old → OnOk result (HasKey records.new (key_of_names (identifiers (trees_between (F.trees forest.now) place end)))) }
+    ensures key { HasNoOthers records.old → OnOk result (HasKey records.new (key_of_names (identifiers (trees_between (F.trees forest.now) first.place end)))) }
     ensures stays { (HasNoOthers records.old → ⊥) → records.new ≡ records.old }
-    ensures keyed { IsKeyed (F.trees forest.now) place end records.old → OnOk result ((first : ℕ) × IsKeyedFrom (F.trees forest.now) first place end records.new) }
+    ensures keyed { IsKeyed (F.trees forest.now) first.place end records.old
+        → OnOk result ((begun : ℕ) × IsKeyedFrom (F.trees forest.now) begun first.place end records.new) }
 {
     if records.has_no_others() {
-        records.set_key(alloc, names_key(forest, place, end))?;
+        let key = names_key(forest, listed, first, end);
+        records.set_key(alloc, key, listed.list.long_names())?;
     }
     Ok(())
 }
@@ -126,17 +132,20 @@ fn add_other<F: Forest>(
     forest: &F,
     end: usize,
     records: &mut Names,
+    listed: ListedNames<'_>,
     number: u64,
     found: RecordPlace,
 ) -> Result<bool, AllocError>
     requires within { found.place < trees_count (F.trees forest.now) }
     requires run { IsRunOfTrees (F.trees forest.now) found.place end }
     requires among { IsAmong (structure_at (F.trees forest.now) found.place).xref (identifiers (trees_between (F.trees forest.now) found.place end)) }
+    requires listed { IsListedFrom (F.trees forest.now) listed found.number found.place end }
+    requires named { IsAmong (Some []) (identifiers (trees_between (F.trees forest.now) found.place end)) → ⊥ }
     requires missed { IsMissed records.old number (structure_at (F.trees forest.now) found.place).xref }
     ensures added { IfOk result (AddsRecord records.old records.new (structure_at (F.trees forest.now) found.place).xref found) }
     ensures keyed { IsKeyed (F.trees forest.now) found.place end records.old → OnOk result (IsKeyed (F.trees forest.now) found.place end records.new) }
 {
-    begin_others(alloc, forest, end, records, found.place)?;
+    begin_others(alloc, forest, end, records, listed, found)?;
     if number != 0 {
         return records.insert_short(number, found);
     }
@@ -154,26 +163,26 @@ fn add_record<F: Forest>(
     forest: &F,
     end: usize,
     records: &mut Names,
-    listed: ListedName,
+    listed: ListedNames<'_>,
     found: RecordPlace,
 ) -> Result<bool, AllocError>
-    requires within { found.place < trees_count (F.trees forest.now) }
     requires run { IsRunOfTrees (F.trees forest.now) found.place end }
-    requires listed { listed ≡ listed_name (structure_at (F.trees forest.now) found.place).xref }
-    requires among { IsAmong (structure_at (F.trees forest.now) found.place).xref (identifiers (trees_between (F.trees forest.now) found.place end)) }
-    requires named { (structure_at (F.trees forest.now) found.place).xref ≡ Some [] → ⊥ }
+    requires first { (after : ℕ) × IsStep (F.trees forest.now) found.place end after }
+    requires listed { IsListedFrom (F.trees forest.now) listed found.number found.place end }
+    requires named { IsAmong (Some []) (identifiers (trees_between (F.trees forest.now) found.place end)) → ⊥ }
     ensures added { IfOk result (AddsRecord records.old records.new (structure_at (F.trees forest.now) found.place).xref found) }
     ensures keyed { IsKeyed (F.trees forest.now) found.place end records.old → OnOk result (IsKeyed (F.trees forest.now) found.place end records.new) }
 {
-    match records.keep_listed(listed, found) {
+    let name = listed.name_at(found.number);
+    match records.keep_listed(name, found) {
         Some(is_new) => Ok(is_new),
-        None => add_other(alloc, forest, end, records, listed.number, found),
+        None => add_other(alloc, forest, end, records, listed, name.number, found),
     }
 }
 
 /// Adds all records, which are from a place up to the end, by what is listed of their identifiers, and answers their places; or the
-/// fault of the first record whose identifier an earlier one has. No identifier is read again but the long ones, and once, where the
-/// first one has no slot, all from that on ([`names_key`]).
+/// fault of the first record whose identifier an earlier one has. No identifier is read again but the long ones, once for the
+/// key of the maps ([`names_key`]) and once to be kept.
 fn add_records<F: Forest>(
     alloc: Global,
     forest: &F,
@@ -200,12 +209,14 @@ fn add_records<F: Forest>(
     let Ok(mut places) = Vec::with_capacity(alloc, list.types.len()) else {
         return Err(LinkFault::Memory(AllocError));
     };
-    let unnamed = list.unnamed();
+    let listed = ListedNames {
+        list,
+        unnamed: list.unnamed(),
+    };
     let mut place = start;
     let mut number: usize = 0;
     while let Some(after) = next_in_run(forest, place, end) {
         let found = RecordPlace { number, place };
-        let listed = list.name_at(unnamed, number);
         match add_record(alloc, forest, end, records, listed, found) {
             Ok(true) => {}
             Ok(false) => return Err(LinkFault::Duplicate(forest.line(place))),
@@ -255,7 +266,7 @@ fn find_records<F: Forest>(
 {
     let start = first_record(forest, end);
     let slots = slots_for(alloc, &list.tallies)?;
-    let mut names = Names::new(alloc, slots, list.long_names());
+    let mut names = Names::new(alloc, slots);
     let places = add_records(alloc, forest, start, end, &list, &mut names)?;
     Ok(FoundRecords {
         names,

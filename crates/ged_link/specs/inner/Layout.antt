@@ -18,7 +18,7 @@ tallied tally number = record { count = min (tally.count + 1) 4294967295; greate
 abbrev pub counted_at : List Tally → ℕ → ℕ → List Tally
 counted_at tallies first number = set tallies first (tallied (slice_index_or tallies first no_names) number)
 
--- where it spells a number: no other name has a slot
+-- a name that has this first byte, and behind it this number, is counted if it spells a number itself: no other name has a slot
 abbrev pub counted_as : List Tally → ℕ → ℕ → Option ℕ → List Tally
 counted_as tallies first digits None = tallies
 counted_as tallies first digits (Some number) = counted_at tallies first digits

@@ -1,14 +1,16 @@
 -- Nothing here need be believed: only private contracts and proofs cite it.
 -- What is listed of each of the records.
-use Rattle.std.specs.Prelude.{◌≡◌, ℕ, ◌-◌, ◌/◌, ◌%◌, List, [], ◌∷◌, ◌++◌, Option, Some, None, ⊤, fold, length, map, replicate}
+use Rattle.std.specs.Prelude.{◌≡◌, ℕ, ◌-◌, ◌/◌, ◌%◌, List, [], ◌∷◌, ◌++◌, Option, Some, None, ⊤, drop, fold, length, map, replicate}
 use Rattle.ged_line.specs.Bytes.{Bytes}
 use Rattle.ged_tree.specs.Trees.{Trees, none, tree, records_of}
+use Rattle.ged_tree.specs.Runs.{trees_between}
 use Rattle.ged_link.specs.Links.{identifiers}
 use Rattle.ged_link.specs.inner.Layout.{counted, no_names}
 use Rattle.ged_link.specs.NameNumbers.{short_number}
 use Rattle.ged_link.specs.Slots.{number_read}
 use Rattle.ged_link.specs.RecordTypes.{IsTypeOf}
 use Rattle.ged_link.specs.declared.listing.ListedName.{ListedName}
+use Rattle.ged_link.specs.declared.listing.ListedNames.{ListedNames}
 use Rattle.ged_link.specs.declared.listing.RecordList.{RecordList}
 use Rattle.ged_link.specs.declared.record_type.RecordType.{RecordType}
 
@@ -49,6 +51,12 @@ all_halves list = replicate (unnamed_in list) (listed_halves None) ++ list.names
 
 abbrev pub all_digits : RecordList → List ℕ
 all_digits list = replicate (unnamed_in list) (listed_digits None) ++ list.digits.items
+
+-- the names of the records from one with a number, which stands at a place, up to an end are listed
+pub record IsListedFrom (d : Trees) (listed : ListedNames) (number place end : ℕ) : Type 0 where
+  pub unnamed : listed.unnamed ≡ unnamed_in listed.list.now
+  pub halves : drop number (all_halves listed.list.now) ≡ map listed_halves (identifiers (trees_between d place end))
+  pub digits : drop number (all_digits listed.list.now) ≡ map listed_digits (identifiers (trees_between d place end))
 
 -- the types of trees side by side, one for each
 abbrev pub AreTypesOf : List (Option RecordType) → Trees → Type 0

@@ -1,5 +1,4 @@
-use Rattle.std.proofs.Common.{◌≡◌, ◌+◌, ◌∷◌, ℕ, Option, List, length, None, true, false, inr, inl, sym, ap, ◌∙◌, refl, arith, subst, map, slice_index_or, drop}
-use Rattle.ged_line.specs.Bytes.{Bytes}
+use Rattle.std.proofs.Common.{◌≡◌, ◌+◌, ℕ, List, length, None, true, false, inr, inl, sym, ap, ◌∙◌, refl, arith, subst, map, slice_index_or, drop}
 use Rattle.ged_tree.specs.Places.{structure_at}
 use Rattle.ged_tree.specs.Trees.{Trees}
 use Rattle.ged_tree.specs.Documents.{are_at}
@@ -9,12 +8,12 @@ use Rattle.ged_link.specs.declared.names.Names.{Names}
 use Rattle.ged_link.specs.declared.index.RecordPlace.{RecordPlace}
 use Rattle.ged_link.specs.RecordTypes.{IsTypeOf}
 use Rattle.ged_link.specs.inner.Indexes.{IsKeyed}
-use Rattle.ged_link.specs.inner.Listing.{listed_halves, listed_digits, all_halves, all_digits, AreTypesOf}
+use Rattle.ged_link.specs.inner.Listing.{listed_halves, listed_digits, AreTypesOf}
 use Rattle.ged_link.specs.inner.Resolving.{AddsRecord}
-use Rattle.ged_link.proofs.KeyLemmas.{among_here, keyed_next}
+use Rattle.ged_link.proofs.KeyLemmas.{none_empty, keyed_next}
 use Rattle.ged_link.proofs.KeptPlaces.{none_placed}
-use Rattle.ged_link.proofs.ListingLemmas.{types_next}
-use Rattle.ged_link.proofs.RecordLemmas.{left_within, left_next, left_after, level_next, xref_here, number_within, numbered_here, records_start, records_level, records_next, records_all, repeated_here, none_repeated_all, typed_start, typed_next}
+use Rattle.ged_link.proofs.ListingLemmas.{listed_next, types_next}
+use Rattle.ged_link.proofs.RecordLemmas.{left_after, level_next, number_within, numbered_here, records_start, records_level, records_next, records_all, repeated_here, none_repeated_all, typed_start, typed_next}
 use Rattle.ged_link.proofs.WalkLemmas.{nearer}
 use Rattle.ged_link.proofs.resolving.add_records.Goals as goal
 
@@ -26,8 +25,11 @@ loop-after-init g c =
       run = c.requires.run;
       level = ap (are_at 0) is ∙ records_level w c.requires.document;
       left = ap identifiers (sym is);
-      names = c.requires.names ∙ ap (λ (t : Trees). map listed_halves (identifiers t)) (sym is);
-      digits = c.requires.digits ∙ ap (λ (t : Trees). map listed_digits (identifiers t)) (sym is);
+      listed = record {
+        unnamed = c.unnamed.ensures;
+        halves = c.requires.names ∙ ap (λ (t : Trees). map listed_halves (identifiers t)) (sym is);
+        digits = c.requires.digits ∙ ap (λ (t : Trees). map listed_digits (identifiers t)) (sym is);
+      };
       few = omega arith;
       fits = omega arith;
       found = records_start w c.requires.document c.args.start c.args.end c.requires.end c.requires.run is c.args.records.now c.requires.none;
@@ -66,8 +68,7 @@ loop-after-preserved g c =
       run = step.rest;
       level = level_next w p e a k step inv.left inv.level;
       left = left_after w p e a k step inv.left;
-      names = left_next (all_halves c.args.list.now) k (listed_halves here.xref) (map listed_halves (identifiers (trees_between w a e))) (inv.names ∙ ap (λ (t : Trees). map listed_halves (identifiers t)) step.first);
-      digits = left_next (all_digits c.args.list.now) k (listed_digits here.xref) (map listed_digits (identifiers (trees_between w a e))) (inv.digits ∙ ap (λ (t : Trees). map listed_digits (identifiers t)) step.first);
+      listed = listed_next w _ k p e a inv.listed step;
       few = number_within w p e a k step inv.left;
       fits = omega (arith, inv.fits, step.forth);
       found = records_next w p e a k step inv.left inv.level old new one refl refl adds inv.found;
@@ -96,42 +97,12 @@ returns-clause-distinct g c =
     let inv = c.loop-after.invariant in
     none_repeated_all w c.loop-after.place c.loop-after.number c.args.end c.loop-after.records c.requires.end inv.run c.in_default-next_in_run.ensures inv.found
 
-pub add_record-requires-clause-listed : goal.add_record-requires-clause-listed
-add_record-requires-clause-listed g c =
-    let w = g.F.Forest.trees c.args.forest.now in
-    let p = c.loop-after.place in
-    let inv = c.loop-after.invariant in
-    let step : IsStep w p c.args.end c.in-Some.after = c.in-Some.ensures in
-    let more = identifiers (trees_between w c.in-Some.after c.args.end) in
-    let ids : identifiers (trees_between w p c.args.end) ≡ (structure_at w p).xref ∷ more = ap identifiers step.first in
-    c.name_at-listed.ensures (structure_at w p).xref more
-    (inv.names ∙ ap (λ (xs : List (Option Bytes)). map listed_halves xs) ids)
-    (inv.digits ∙ ap (λ (xs : List (Option Bytes)). map listed_digits xs) ids)
-
 pub add_record-requires-clause-named : goal.add_record-requires-clause-named
 add_record-requires-clause-named g c =
-    let inv = c.loop-after.invariant in
-    xref_here (g.F.Forest.trees c.args.forest.now) c.loop-after.place c.args.end c.in-Some.after c.loop-after.number c.in-Some.ensures inv.left inv.level
+    none_empty (trees_between (g.F.Forest.trees c.args.forest.now) c.loop-after.place c.args.end) c.loop-after.invariant.level
 
-pub name_at-listed-requires-clause-names : goal.name_at-listed-requires-clause-names
-name_at-listed-requires-clause-names g c =
-    let w = g.F.Forest.trees c.args.forest.now in
-    let p = c.loop-after.place in
-    let e = c.args.end in
-    let a = c.in-Some.after in
-    let step : IsStep w p e a = c.in-Some.ensures in
-    left_within (all_halves c.args.list.now) c.loop-after.number (listed_halves (structure_at w p).xref) (map listed_halves (identifiers (trees_between w a e)))
-    (c.loop-after.invariant.names ∙ ap (λ (t : Trees). map listed_halves (identifiers t)) step.first)
-
-pub name_at-listed-requires-clause-digits : goal.name_at-listed-requires-clause-digits
-name_at-listed-requires-clause-digits g c =
-    let w = g.F.Forest.trees c.args.forest.now in
-    let p = c.loop-after.place in
-    let e = c.args.end in
-    let a = c.in-Some.after in
-    let step : IsStep w p e a = c.in-Some.ensures in
-    left_within (all_digits c.args.list.now) c.loop-after.number (listed_digits (structure_at w p).xref) (map listed_digits (identifiers (trees_between w a e)))
-    (c.loop-after.invariant.digits ∙ ap (λ (t : Trees). map listed_digits (identifiers t)) step.first)
+pub add_record-requires-clause-first : goal.add_record-requires-clause-first
+add_record-requires-clause-first g c = (c.in-Some.after, c.in-Some.ensures)
 
 pub returns-in_default-clause-records : goal.returns-in_default-clause-records
 returns-in_default-clause-records g c = tt
@@ -211,17 +182,11 @@ returns-clause-keyed g c =
     let at_end : c.loop-after.place ≡ c.args.end = let f : c.loop-after.place + 0 ≡ c.args.end = rw c.in_default-next_in_run.ensures at inv.run.fills in omega arith in
     subst (λ (place : ℕ). IsKeyed (g.F.Forest.trees c.args.forest.now) place c.args.end c.loop-after.records) at_end inv.keyed
 
-pub add_record-requires-clause-among : goal.add_record-requires-clause-among
-add_record-requires-clause-among g c = among_here (g.F.Forest.trees c.args.forest.now) c.loop-after.place c.args.end c.in-Some.after c.in-Some.ensures
-
 pub returns-clause-places : goal.returns-clause-places
 returns-clause-places g c = c.loop-after.invariant.placed
 
 pub next_in_run-requires : goal.next_in_run-requires
 next_in_run-requires g c = record { run = c.loop-after.invariant.run }
-
-pub add_record-requires-clause-within : goal.add_record-requires-clause-within
-add_record-requires-clause-within g c = c.in-Some.ensures.within
 
 pub loop-after-smaller : goal.loop-after-smaller
 loop-after-smaller g c = nearer c.loop-after.place c.in-Some.after c.args.end c.in-Some.ensures.forth c.in-Some.ensures.room

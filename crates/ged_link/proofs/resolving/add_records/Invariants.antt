@@ -1,4 +1,4 @@
-use Rattle.std.proofs.Common.{◌-◌, ◌≡◌, ◌≤◌, true, drop, length, map, List, Option}
+use Rattle.std.proofs.Common.{◌-◌, ◌≡◌, ◌≤◌, true, drop, length, List, Option}
 use Rattle.ged_tree.specs.Trees.{records_of}
 use Rattle.ged_tree.specs.Documents.{are_at}
 use Rattle.ged_tree.specs.Runs.{trees_between, IsRunOfTrees}
@@ -7,7 +7,7 @@ use Rattle.ged_link.specs.Indexes.{AreTyped}
 use Rattle.ged_link.specs.Places.{ArePlaces}
 use Rattle.ged_link.specs.declared.record_type.RecordType.{RecordType}
 use Rattle.ged_link.specs.inner.Indexes.{IsKeyed}
-use Rattle.ged_link.specs.inner.Listing.{listed_halves, listed_digits, all_halves, all_digits, AreTypesOf}
+use Rattle.ged_link.specs.inner.Listing.{IsListedFrom, AreTypesOf}
 use Rattle.ged_link.specs.inner.Resolving.{AreRecordsBefore}
 use Rattle.ged_link.proofs.resolving.add_records.Given as goal
 
@@ -18,8 +18,7 @@ invariant-loop-after g l =
       run : IsRunOfTrees trees l.place l.end;
       level : are_at 0 (trees_between trees l.place l.end) ≡ true;
       left : drop l.number (identifiers (records_of trees)) ≡ identifiers (trees_between trees l.place l.end);
-      names : drop l.number (all_halves l.list) ≡ map listed_halves (identifiers (trees_between trees l.place l.end));
-      digits : drop l.number (all_digits l.list) ≡ map listed_digits (identifiers (trees_between trees l.place l.end));
+      listed : IsListedFrom trees l.listed l.number l.place l.end;
       few : l.number ≤ length (identifiers (records_of trees));
       fits : l.number ≤ l.place;
       found : AreRecordsBefore trees l.place l.number l.records;

@@ -8,7 +8,7 @@ use Rattle.ged_link.proofs.names.Names.keep_in.Goals as goal
 pub returns-in-Some-true-clause-added : goal.returns-in-Some-true-clause-added
 returns-in-Some-true-clause-added c name is at =
     let old : Names = c.args.self.now in
-    let new : Names = record { slots = c.keep.new.self; short = old.short; long = old.long; room = old.room } in
+    let new : Names = record { slots = c.keep.new.self; short = old.short; long = old.long } in
     let kept = c.keep.ensures.kept (c.in-Some-true.is ∙ ap Some c.in-Some-true.field-0-test) in
     let free : is_none (kept_at old.slots c.args.slot c.args.number) ≡ true = sym c.in-Some-true.ensures.is_new ∙ c.in-Some-true.field-0-test in
     subst (λ (is_new : Bool). AddsRecord old new (Some name) c.args.found is_new)
