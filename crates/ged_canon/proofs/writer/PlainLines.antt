@@ -4,7 +4,7 @@ use Rattle.std.specs.Prelude.{◌==◌, ◌||◌}
 use Rattle.std.specs.List.{list_any}
 use Rattle.std.proofs.lemmas.Bool.{or_parts}
 use Rattle.ged_line.specs.Bytes.{Bytes}
-use Rattle.ged_line.specs.Lines.{LineParts, line_parts}
+use Rattle.ged_line.specs.Lines.{LineParts, line_parts, xref_part}
 use Rattle.ged_line.specs.Spelling.{value_part, spelled_lines}
 use Rattle.ged_tree.specs.declared.payload.Payload.{Payload}
 use Rattle.ged_tree.specs.declared.payload.Payload.TheVariants.{Void, Pointer, Text}
@@ -68,17 +68,17 @@ plain_brief edition context tag rest p first is (inr lacks) =
 
 -- The lines of a structure that has only one.
 
-module _ (edition : Edition) (r : Option Row) (new : Bytes → Bytes) (level : ℕ) (tag : Bytes) where
+module _ (edition : Edition) (r : Option Row) (new : Bytes → Bytes) (level : ℕ) (xref : Option Bytes) (tag : Bytes) where
   abbrev lines_with : Payload → List LineParts
-  lines_with p = structure_lines level (record { xref = None; tag = tag; payload = p })
+  lines_with p = structure_lines level (record { xref = xref; tag = tag; payload = p })
 
   nothing : (lines : List Bytes) → length lines ≡ 0 → lines ≡ []
   nothing [] e = refl
   nothing (line ∷ lines) e = absurd (omega (arith, e))
 
   pub plain_line : (p : Payload) (rest : Bytes) → is_pointer p ≡ false → length (further_lines p) ≡ 0 → brief edition r p ≡ p → rest ≡ tag ++ value_part (first_value p)
-      → (decimal level ++ 32 ∷ rest) ++ 10 ∷ [] ≡ spelled_lines (lines_with (renamed_payload new (brief edition r p)))
+      → (decimal level ++ 32 ∷ (xref_part xref ++ rest)) ++ 10 ∷ [] ≡ spelled_lines (lines_with (renamed_payload new (brief edition r p)))
   plain_line p rest value few same is =
-      ap (λ x. (decimal level ++ 32 ∷ x) ++ 10 ∷ []) is
-      ∙ ap (λ further. spelled_lines (line_parts level None tag (first_value p) ∷ map (λ line. line_parts (level + 1) None (codes "CONT") (line_value line)) further)) (sym (nothing (further_lines p) few))
+      ap (λ x. (decimal level ++ 32 ∷ (xref_part xref ++ x)) ++ 10 ∷ []) is
+      ∙ ap (λ further. spelled_lines (line_parts level xref tag (first_value p) ∷ map (λ line. line_parts (level + 1) None (codes "CONT") (line_value line)) further)) (sym (nothing (further_lines p) few))
       ∙ ap (λ q. spelled_lines (lines_with q)) (sym (ap (renamed_payload new) same ∙ value_kept new p value))

@@ -1,7 +1,9 @@
 -- Runs of a file behind what was made before them.
-use Rattle.std.proofs.Common.{◌≡◌, ◌≤◌, ◌+◌, ◌-◌, ◌++◌, ◌∷◌, [], ℕ, List, length, take, drop, slice_range, take-add, refl, sym, ap, ◌∙◌, append_assoc, append-nil, arith}
+use Rattle.std.proofs.Common.{◌≡◌, ◌≤◌, ◌+◌, ◌-◌, ◌++◌, ◌∷◌, [], ℕ, List, length, take, drop, decimal, Some, slice_range, take-add, refl, sym, ap, ◌∙◌, append_assoc, append-nil, arith}
 use Rattle.std.proofs.lemmas.List.{take_all, drop_all, take-append-le, drop-append-le, length-drop, drop-drop}
+use Rattle.std.proofs.lemmas.Fmt.{decimal_digit}
 use Rattle.ged_line.specs.Bytes.{Bytes}
+use Rattle.ged_line.specs.Lines.{xref_part}
 use Rattle.ged_canon.specs.declared.spelled.KeptRun.{KeptRun}
 use Rattle.ged_canon.specs.SpelledForms.{joined_runs}
 use Rattle.ged_canon.specs.inner.Runs.{made_before, ArePlaced}
@@ -91,3 +93,15 @@ numbered_line made level name tag digits spelled front begins told =
     ∙ ap (λ xs. level ++ 32 ∷ (name ++ xs)) (sym (append_assoc tag signed (10 ∷ [])))
     ∙ ap (λ xs. level ++ 32 ∷ xs) (sym (append_assoc name (tag ++ signed) (10 ∷ [])))
     ∙ sym (append_assoc level (32 ∷ (name ++ (tag ++ signed))) (10 ∷ [])))
+
+-- the own line of a record with a number: its front up to the number, what closes that, and its rest
+pub record_line : (made digits spelled rest front : Bytes) → front ≡ (made ++ 48 ∷ 32 ∷ 64 ∷ 88 ∷ []) ++ (digits ++ 64 ∷ 32 ∷ []) → digits ≡ spelled
+    → front ++ (rest ++ 10 ∷ []) ≡ made ++ ((decimal 0 ++ 32 ∷ (xref_part (Some (88 ∷ spelled)) ++ rest)) ++ 10 ∷ [])
+record_line made digits spelled rest front begins told =
+    let closed = spelled ++ 64 ∷ 32 ∷ [] in
+    (λ i. begins i ++ (rest ++ 10 ∷ []))
+    ∙ (λ i. ((made ++ 48 ∷ 32 ∷ 64 ∷ 88 ∷ []) ++ (told i ++ 64 ∷ 32 ∷ [])) ++ (rest ++ 10 ∷ []))
+    ∙ append_assoc (made ++ 48 ∷ 32 ∷ 64 ∷ 88 ∷ []) closed (rest ++ 10 ∷ [])
+    ∙ append_assoc made (48 ∷ 32 ∷ 64 ∷ 88 ∷ []) (closed ++ (rest ++ 10 ∷ []))
+    ∙ ap (λ xs. made ++ 48 ∷ 32 ∷ 64 ∷ 88 ∷ xs) (sym (append_assoc closed rest (10 ∷ [])))
+    ∙ ap (λ xs. made ++ ((xs ++ 32 ∷ (xref_part (Some (88 ∷ spelled)) ++ rest)) ++ 10 ∷ [])) (sym (decimal_digit 0 (omega arith)))

@@ -45,10 +45,14 @@ same_run xs ys at room other_room h =
 pub same_more : (xs ys : Bytes) (at n : ℕ) → take at xs ≡ take at ys → chunk at n xs ≡ chunk at n ys → take (at + n) xs ≡ take (at + n) ys
 same_more xs ys at n front run = take-add at n xs ∙ (λ i. front i ++ run i) ∙ sym (take-add at n ys)
 
+-- texts that are the same up to a place are so up to any before it
+same_less : (xs ys : Bytes) (m n : ℕ) → m ≤ n → take n xs ≡ take n ys → take m xs ≡ take m ys
+same_less xs ys m n within front = sym (take-take m n xs within) ∙ ap (take m) front ∙ take-take m n ys within
+
 -- texts that are the same up to one place, and from a place before that on
 same_parts : (xs ys : Bytes) (m n : ℕ) → m ≤ n → take n xs ≡ take n ys → drop m xs ≡ drop m ys → xs ≡ ys
 same_parts xs ys m n within front back =
-    let few : take m xs ≡ take m ys = sym (take-take m n xs within) ∙ ap (take m) front ∙ take-take m n ys within in
+    let few = same_less xs ys m n within front in
     sym (take-append-drop m xs) ∙ (λ i. few i ++ back i) ∙ take-append-drop m ys
 
 -- texts of one length that are the same up to one place, and in a run from a place before that to their ends
@@ -57,3 +61,11 @@ same_ends xs ys at last n within long other_long front run =
     let whole : drop last xs ≡ drop last ys =
     sym (take_all n (drop last xs) (omega (arith, length-drop last xs, long))) ∙ run ∙ take_all n (drop last ys) (omega (arith, length-drop last ys, other_long)) in
     same_parts xs ys last at within front whole
+
+-- texts of one length that are the same in four runs, of which each begins where the one before it ends, or before that
+pub same_few : (xs ys : Bytes) (n second third last : ℕ) → second ≤ n → third ≤ second + n → last ≤ third + n → length xs ≡ last + n → length ys ≡ last + n
+    → chunk 0 n xs ≡ chunk 0 n ys → chunk second n xs ≡ chunk second n ys → chunk third n xs ≡ chunk third n ys → chunk last n xs ≡ chunk last n ys → xs ≡ ys
+same_few xs ys n second third last two three four long other_long run second_run third_run last_run =
+    let to_second = same_more xs ys second n (same_less xs ys second n two run) second_run in
+    let to_third = same_more xs ys third n (same_less xs ys third (second + n) three to_second) third_run in
+    same_ends xs ys (third + n) last n four long other_long to_third last_run

@@ -1,5 +1,5 @@
 // The answer of a writer: the bytes of a form, as far as they are written.
-ghost use Rattle.std.specs.Prelude.{◌≡◌, ◌<◌, ◌≤◌, ◌+◌, ◌++◌, ◌∷◌, [], IfOk, OnOk, None, true, length, decimal, codes, slice_range};
+ghost use Rattle.std.specs.Prelude.{◌≡◌, ◌<◌, ◌≤◌, ◌+◌, ◌++◌, ◌∷◌, [], IfOk, OnOk, None, Some, true, length, decimal, codes, slice_range};
 ghost use Rattle.std.specs.Option.{option_copied};
 ghost use Rattle.std.specs.List.{list_all};
 ghost use Rattle.ged_line.specs.Bytes.{line_feed, space};
@@ -13,7 +13,7 @@ ghost use Rattle.ged_canon.specs.Normal.{numbered as spells_number};
 
 use crate::spelled::SpelledForm;
 use crate::writer::kept::{kept_cont, kept_line};
-use crate::writer::numbered::push_pointer;
+use crate::writer::numbered::{push_pointer, push_record};
 use crate::writer::pieced::Pieced;
 use ged_line::{ValueView, write_head, write_parts};
 use ged_tree::FurtherLines;
@@ -173,6 +173,17 @@ impl<'f> Answer<'f> {
         let start = mem::replace(&mut self.start, self.end);
         self.pieced.place(self.file, start, self.end)?;
         push_pointer(level, xref, tag, number, &mut self.pieced.made)
+    }
+
+    /// Appends the own line of a record with a new number, which has this rest, as that of [`Answer::push_rest`].
+    #[inline(always)]
+    pub(crate) fn push_record(&mut self, number: usize, rest: &str) -> Result<(), AllocError>
+        requires { 0 < number }
+        ensures { OnOk result (self.new ≡ self.old ++ ((decimal 0 ++ space ∷ (xref_part (Some (spells_number number)) ++ rest.now)) ++ line_feed ∷ [])) }
+    {
+        let start = mem::replace(&mut self.start, self.end);
+        self.pieced.place(self.file, start, self.end)?;
+        push_record(number, rest, &mut self.pieced.made)
     }
 
     /// Appends a line whose value is a pointer with this name. A function of its own, so that the common path need not clear the

@@ -1,5 +1,5 @@
 // The canonical spelling of a document, written from the document itself.
-ghost use Rattle.std.specs.Prelude.{◌≡◌, ◌≤◌, ◌<◌, ◌∷◌, [], List, IfOk, Bool, true, length};
+ghost use Rattle.std.specs.Prelude.{◌≡◌, ◌≤◌, ◌<◌, ◌∷◌, [], List, Some, IfOk, Bool, true, length};
 ghost use Rattle.std.specs.List.{AllByRecursion};
 ghost use Rattle.ged_line.specs.Bytes.{Bytes};
 ghost use Rattle.ged_tree.specs.Trees.{Trees, trees_count, records_of};
@@ -11,11 +11,12 @@ ghost use Rattle.ged_schema.specs.Checked.{Checked};
 ghost use Rattle.ged_schema.specs.declared.context.Context.TheVariants.{File};
 ghost use Rattle.ged_canon.specs.declared.edition.Edition.{Edition as AnyEdition};
 ghost use Rattle.ged_canon.specs.declared.edition.Edition.TheVariants.{First};
-ghost use Rattle.ged_canon.specs.Normal.{IsNormalForm};
+ghost use Rattle.ged_canon.specs.Normal.{IsNormalForm, numbered as spells_number};
 ghost use Rattle.ged_canon.specs.CanonText.{CanonText};
 ghost use Rattle.ged_canon.specs.inner.Working.{is_named, used_trees, sorted_document, IsNumberingOf};
 ghost use Rattle.ged_canon.specs.inner.Siblings.{StandsRanked, sibling_trees};
 ghost use Rattle.ged_canon.specs.inner.CanonBytes.{number_at, CanWriteRecords, WritesRecords};
+ghost use Rattle.ged_canon.specs.inner.Writing.{row_of, sibling_lines, CanWriteTree, Writes};
 
 use crate::edition::Edition;
 use crate::spelled::SpelledForm;
@@ -27,7 +28,7 @@ use crate::writer::rank::RankedSibling;
 use crate::writer::siblings::{Sibling, numbers_in_order, push_sorted, ranked_sibling};
 use ged_line::ValueView;
 use ged_link::{Index, RecordCursor};
-use ged_schema::{Context, ContextRows};
+use ged_schema::{Context, ContextRows, Rule, context_below};
 use ged_tree::{Forest, end_of_all, next_in_run};
 use std::alloc::{AllocError, Global};
 
@@ -74,6 +75,34 @@ impl<F: Forest> Writer<'_, '_, F> {
         }
     }
 
+    /// Appends the lines of a record with this rule and a new number, and of what stands below it, up to the place `end`. The text takes the
+    /// record's new identifier, where its line isn't written at once.
+    fn write_named(
+        &self,
+        rule: Option<&Rule>,
+        number: usize,
+        own: Sibling<'_>,
+        end: usize,
+        name: &mut String,
+        work: &mut Work<'_>,
+    ) -> Result<(), AllocError>
+        requires number { 0 < number }
+        requires stands { CanWriteTree self.now.plan.edition (row_of rule) 0 (Some (spells_number number)) (F.trees self.now.forest.now) own end }
+        ensures { Writes (F.trees self.now.forest.now) self.now.plan result work.old.answer work.new.answer
+            (λ new. sibling_lines new self.now.plan.edition (row_of rule.entry) 0 (Some (spells_number number)) (F.trees self.now.forest.now) own.entry) }
+    {
+        if self.write_numbered(rule, number, own, &mut work.answer)? {
+            let start = own.place + 1;
+            if start >= end {
+                return Ok(());
+            }
+            return self.write_run(context_below(rule), 1, start, end, work);
+        }
+        put_identifier(number, name)?;
+        let xref = Some(name.as_str());
+        self.write_tree(rule, 0, xref, own, end, work)
+    }
+
     /// Appends the lines of HEAD or of a record, and of what stands below it. The text takes the record's new identifier.
     fn write_record(
         &self,
@@ -94,9 +123,7 @@ impl<F: Forest> Writer<'_, '_, F> {
         if number == 0 {
             return self.write_tree(rule, 0, None, own, end, work);
         }
-        put_identifier(number, name)?;
-        let xref = Some(name.as_str());
-        self.write_tree(rule, 0, xref, own, end, work)
+        self.write_named(rule, number, own, end, name, work)
     }
 
     /// Appends the lines of HEAD and the records, and of what stands below them.

@@ -4,7 +4,7 @@ ghost use Rattle.std.specs.List.{list_any};
 ghost use Rattle.std.specs.Option.{option_copied};
 ghost use Rattle.ged_line.specs.Bytes.{Bytes, line_feed};
 ghost use Rattle.ged_line.specs.Lines.{Pointer, is_line, line_parts};
-ghost use Rattle.ged_line.specs.Spelling.{spelling, spelled_lines};
+ghost use Rattle.ged_line.specs.Spelling.{spelling, spelled_lines, value_part};
 ghost use Rattle.ged_tree.specs.Trees.{trees_count};
 ghost use Rattle.ged_tree.specs.declared.payload.Payload.TheVariants.{Pointer as PointerPayload};
 ghost use Rattle.ged_tree.specs.DocumentLines.{line_value, first_value, structure_lines};
@@ -24,7 +24,7 @@ ghost use Rattle.ged_canon.specs.inner.Writing.{may_be_dated as tests_dated, row
 use crate::edition::Edition;
 use crate::writer::answer::{Answer, text_value};
 use crate::writer::brief::{brief_line, is_brief_at, may_be_shortened};
-use crate::writer::numbers::{is_kept_name, new_number_at};
+use crate::writer::numbers::{is_kept_name, is_numbered, new_number_at};
 use crate::writer::plan::{Plan, Work, Writer};
 use crate::writer::siblings::Sibling;
 use ged_line::ValueView;
@@ -92,6 +92,15 @@ fn is_kept<F: Forest>(forest: &F, edition: Edition, rule: Option<&Rule>, place: 
     is_found_brief(forest, edition, rule, place)
 }
 
+/// The name in the pointer that stands behind a tag, as the canonical spelling has both.
+#[inline(always)]
+fn name_behind<'a>(rest: &'a str, tag: &str) -> &'a str
+    requires { (name : Bytes) × (rest.now ≡ tag.now ++ value_part (Pointer name)) }
+    ensures { (name : Bytes) → rest.now ≡ tag.now ++ value_part (Pointer name) → result.now ≡ name }
+{
+    &rest[tag.len() + 2..rest.len() - 1]
+}
+
 impl Plan<'_> {
     /// Appends the own line of a structure at a place with this rule, whose payload is a text of this line alone. What can be
     /// left out is left out.
@@ -155,23 +164,23 @@ impl<F: Forest> Writer<'_, '_, F> {
         }
     }
 
-    /// Appends the own line of a structure whose payload is a pointer. The cursor moves on from pointer to pointer.
+    /// Appends the own line of a structure whose payload is a pointer with this name. The cursor moves on from pointer to pointer.
     #[inline(always)]
     fn write_reference(
         &self,
         level: u8,
         xref: Option<&str>,
         sibling: Sibling<'_>,
+        name: &str,
         work: &mut Work<'_>,
     ) -> Result<(), AllocError>
         requires within { StandsIn (F.trees self.now.forest.now) sibling }
-        requires points { is_pointer (structure_at (F.trees self.now.forest.now) sibling.place).payload ≡ true }
+        requires names { (structure_at (F.trees self.now.forest.now) sibling.place).payload ≡ PointerPayload name.now }
         requires stands { is_line (line_parts level (option_copied xref) sibling.tag.now (first_value (structure_at (F.trees self.now.forest.now) sibling.place).payload)) ≡ true }
         ensures kept { OnOk result (work.new.siblings.items ≡ work.old.siblings.items) }
         ensures lines { Writes (F.trees self.now.forest.now) self.now.plan result work.old.answer work.new.answer
             (λ new. line_parts level (option_copied xref.entry) sibling.entry.tag.now (first_value (renamed_payload new (structure_at (F.trees self.now.forest.now) sibling.entry.place).payload)) ∷ []) }
     {
-        let name = self.name_at(sibling.place);
         let number = new_number_at(
             self.plan.index,
             self.plan.numbers,
@@ -238,7 +247,8 @@ impl<F: Forest> Writer<'_, '_, F> {
         };
         if line.points {
             let tag = line.tag;
-            self.write_reference(level, None, Sibling { tag, place }, work)?;
+            let name = name_behind(line.rest, tag);
+            self.write_reference(level, None, Sibling { tag, place }, name, work)?;
             return Ok(true);
         }
         let stays = is_plain_line(self.plan.edition, line.tag, line.rest);
@@ -247,6 +257,49 @@ impl<F: Forest> Writer<'_, '_, F> {
         }
         let start = Some(line.start);
         work.answer.push_rest(level, None, line.rest, start)?;
+        Ok(true)
+    }
+
+    /// Whether the record at a place has a number for its identifier already, so that its line may stand in the file as it is written. No
+    /// clause rests on it.
+    #[inline(always)]
+    fn has_number(&self, place: usize, number: usize) -> bool
+        requires within { place < trees_count (F.trees self.now.forest.now) }
+        requires number { 0 < number }
+    {
+        match self.forest.xref(place) {
+            Some(name) => is_numbered(name, number),
+            None => false,
+        }
+    }
+
+    /// Appends the only line of a record with this rule and a new number, where nothing in it changes but that. It answers whether it has;
+    /// else nothing is appended.
+    #[inline(always)]
+    pub(crate) fn write_numbered(
+        &self,
+        rule: Option<&Rule>,
+        number: usize,
+        sibling: Sibling<'_>,
+        answer: &mut Answer<'_>,
+    ) -> Result<bool, AllocError>
+        requires within { StandsIn (F.trees self.now.forest.now) sibling }
+        requires number { 0 < number }
+        ensures lines { (new : Bytes → Bytes) → IfOk result (λ all. IsTrue all → answer.new ≡ answer.old
+            ++ spelled_lines (structure_lines 0 (renamed_sibling new self.now.plan.edition (row_of rule.entry) (Some (spells_number number)) (F.trees self.now.forest.now) sibling.entry))) }
+        ensures left { IfOk result (λ all. all ≡ false → answer.new ≡ answer.old) }
+    {
+        let place = sibling.place;
+        let Some(line) = self.forest.own_line(place) else {
+            return Ok(false);
+        };
+        if line.points || self.forest.further(place) > 0 || self.has_number(place, number) {
+            return Ok(false);
+        }
+        if !is_kept(self.forest, self.plan.edition, rule, place) {
+            return Ok(false);
+        }
+        answer.push_record(number, line.rest)?;
         Ok(true)
     }
 
@@ -275,7 +328,8 @@ impl<F: Forest> Writer<'_, '_, F> {
             }
         }
         if self.forest.points(sibling.place) {
-            return self.write_reference(level, xref, sibling, work);
+            let name = self.name_at(sibling.place);
+            return self.write_reference(level, xref, sibling, name, work);
         }
         self.write_value(rule, level, xref, sibling, &mut work.answer)
     }

@@ -1,8 +1,8 @@
-// Lines whose value is a pointer to a record with a new number.
-ghost use Rattle.std.specs.Prelude.{◌≡◌, ◌<◌, ◌≤◌, ◌++◌, ◌∷◌, [], None, OnOk, decimal, length};
+// Lines of a record with a new number: those of the pointers that name it, and its own.
+ghost use Rattle.std.specs.Prelude.{◌≡◌, ◌<◌, ◌≤◌, ◌++◌, ◌∷◌, [], None, Some, OnOk, decimal, length};
 ghost use Rattle.std.specs.Option.{option_copied};
-ghost use Rattle.ged_line.specs.Bytes.{at_sign, line_feed};
-ghost use Rattle.ged_line.specs.Lines.{Pointer, line_parts};
+ghost use Rattle.ged_line.specs.Bytes.{at_sign, line_feed, space};
+ghost use Rattle.ged_line.specs.Lines.{Pointer, line_parts, xref_part};
 ghost use Rattle.ged_line.specs.Spelling.{spelling};
 ghost use Rattle.ged_canon.specs.Normal.{numbered as spells_number};
 
@@ -52,7 +52,7 @@ fn push_usual_pointer(
         return push_any_pointer(level, None, tag, number, out);
     };
     out.extend_from_slice(&[b'0' + level, b' ', a, b, c, d, b' ', b'@', b'X'])?;
-    push_ending(number, out)
+    push_closed(number, b'\n', out)
 }
 
 /// The same for any level, identifier and tag.
@@ -73,43 +73,62 @@ fn push_any_pointer(
     write_head(level, xref, out)?;
     out.extend_from_slice(tag.as_bytes())?;
     out.extend_from_slice(b" @X")?;
-    push_ending(number, out)
+    push_closed(number, b'\n', out)
 }
 
-/// Appends the digits of a number, and what ends the line behind them. Where there are at most four, how many there are is known in each
-/// branch, so that neither `itoa` nor the vector needs a loop or a call.
+/// Appends the own line of a record with a new number, which has this rest: its tag, and behind that its payload. A tag of four letters alone,
+/// as most have, is not copied by a call.
+#[inline(never)]
+pub(crate) fn push_record(number: usize, rest: &str, out: &mut Vec<u8>) -> Result<(), AllocError>
+    requires { 0 < number }
+    ensures ok { OnOk result (out.new.items ≡ out.old.items ++ ((decimal 0 ++ space ∷ (xref_part (Some (spells_number number)) ++ rest.now)) ++ line_feed ∷ [])) }
+    ensures kept { length out.old.items ≤ length out.new.items }
+{
+    out.extend_from_slice(b"0 @X")?;
+    push_closed(number, b' ', out)?;
+    if let &[a, b, c, d] = rest.as_bytes() {
+        out.extend_from_slice(&[a, b, c, d, b'\n'])?;
+        return Ok(());
+    }
+    out.extend_from_slice(rest.as_bytes())?;
+    out.push(b'\n')?;
+    Ok(())
+}
+
+/// Appends the digits of a number, the sign that closes its name, and the byte behind that. Where there are at most four digits, how many
+/// there are is known in each branch, so that neither `itoa` nor the vector needs a loop or a call.
 #[inline(always)]
-fn push_ending(number: usize, out: &mut Vec<u8>) -> Result<(), AllocError>
-    ensures ok { OnOk result (out.new.items ≡ out.old.items ++ (decimal number ++ at_sign ∷ line_feed ∷ [])) }
+fn push_closed(number: usize, behind: u8, out: &mut Vec<u8>) -> Result<(), AllocError>
+    ensures ok { OnOk result (out.new.items ≡ out.old.items ++ (decimal number ++ at_sign ∷ behind ∷ [])) }
     ensures kept { length out.old.items ≤ length out.new.items }
 {
     if number > 9_999 {
-        return push_any_ending(number, out);
+        return push_any_closed(number, behind, out);
     }
     let mut buffer = Buffer::new();
     match buffer.format(number).as_bytes() {
-        &[a, b, c, d] => out.extend_from_slice(&[a, b, c, d, b'@', b'\n']),
-        &[a, b, c] => out.extend_from_slice(&[a, b, c, b'@', b'\n']),
-        &[a, b] => out.extend_from_slice(&[a, b, b'@', b'\n']),
-        &[a] => out.extend_from_slice(&[a, b'@', b'\n']),
-        _ => push_any_ending(number, out),
+        &[a, b, c, d] => out.extend_from_slice(&[a, b, c, d, b'@', behind]),
+        &[a, b, c] => out.extend_from_slice(&[a, b, c, b'@', behind]),
+        &[a, b] => out.extend_from_slice(&[a, b, b'@', behind]),
+        &[a] => out.extend_from_slice(&[a, b'@', behind]),
+        _ => push_any_closed(number, behind, out),
     }
 }
 
 /// The same for any number. Cold, so that the branches for few digits are the ones that are inlined.
 #[cold]
 #[inline(never)]
-fn push_any_ending(number: usize, out: &mut Vec<u8>) -> Result<(), AllocError>
-    ensures ok { OnOk result (out.new.items ≡ out.old.items ++ (decimal number ++ at_sign ∷ line_feed ∷ [])) }
+fn push_any_closed(number: usize, behind: u8, out: &mut Vec<u8>) -> Result<(), AllocError>
+    ensures ok { OnOk result (out.new.items ≡ out.old.items ++ (decimal number ++ at_sign ∷ behind ∷ [])) }
     ensures kept { length out.old.items ≤ length out.new.items }
 {
     let mut buffer = Buffer::new();
     match buffer.format(number).as_bytes() {
-        &[a, b, c, d, e] => out.extend_from_slice(&[a, b, c, d, e, b'@', b'\n']),
-        &[a, b, c, d, e, f] => out.extend_from_slice(&[a, b, c, d, e, f, b'@', b'\n']),
+        &[a, b, c, d, e] => out.extend_from_slice(&[a, b, c, d, e, b'@', behind]),
+        &[a, b, c, d, e, f] => out.extend_from_slice(&[a, b, c, d, e, f, b'@', behind]),
         digits => {
             out.extend_from_slice(digits)?;
-            out.extend_from_slice(b"@\n")
+            out.extend_from_slice(&[b'@', behind])
         }
     }
 }

@@ -9,6 +9,9 @@ const RUN: usize = 16;
 /// The same of shorter ones.
 const SHORT_RUN: usize = 8;
 
+/// Up to how many bytes texts are compared without a loop, by four short runs.
+const FEW: usize = 4 * SHORT_RUN;
+
 /// Whether two texts are the same in the run at a place.
 #[inline(always)]
 fn is_same_run(text: &[u8], other: &[u8], at: usize) -> bool
@@ -33,29 +36,31 @@ fn is_same_short_run(text: &[u8], other: &[u8], at: usize) -> bool
     run.simd_eq(other_run).all()
 }
 
-/// Whether two texts of fewer than [`RUN`] bytes are the same: by the first and the last run of [`SHORT_RUN`], if they have one.
+/// Whether two texts of at least [`SHORT_RUN`] bytes and at most [`FEW`] are the same: by four short runs that reach over all of them, and
+/// over some bytes twice. All four are always looked at, since how long a line is can't be foreseen, and a branch that is taken as often as
+/// not costs more than they do.
 #[inline(always)]
-fn are_same_short(text: &[u8], other: &[u8]) -> bool
+fn are_same_few(text: &[u8], other: &[u8]) -> bool
     requires alike { length text.now ≡ length other.now }
-    requires few { length text.now < RUN }
+    requires some { SHORT_RUN ≤ length text.now }
+    requires few { length text.now ≤ FEW }
     ensures { IsTrue result → text.now ≡ other.now }
 {
-    if text.len() < SHORT_RUN {
-        return text == other;
-    }
     let last = text.len() - SHORT_RUN;
-    is_same_short_run(text, other, 0) && is_same_short_run(text, other, last)
+    let second = last.min(SHORT_RUN);
+    let third = last.saturating_sub(SHORT_RUN);
+    let front = is_same_short_run(text, other, 0) & is_same_short_run(text, other, second);
+    let back = is_same_short_run(text, other, third) & is_same_short_run(text, other, last);
+    front & back
 }
 
-/// Whether two texts of one length are the same. The last run ends where the texts end, and may have bytes of the one before it.
+/// Whether two texts of more than [`FEW`] bytes are the same. The last run ends where the texts end, and may have bytes of the one before it.
 #[inline(always)]
-pub(crate) fn are_same(text: &[u8], other: &[u8]) -> bool
-    requires { length text.now ≡ length other.now }
+fn are_same_many(text: &[u8], other: &[u8]) -> bool
+    requires alike { length text.now ≡ length other.now }
+    requires many { FEW < length text.now }
     ensures { IsTrue result → text.now ≡ other.now }
 {
-    if text.len() < RUN {
-        return are_same_short(text, other);
-    }
     let last = text.len() - RUN;
     let mut at = 0;
     while at < last {
@@ -65,4 +70,19 @@ pub(crate) fn are_same(text: &[u8], other: &[u8]) -> bool
         at += RUN;
     }
     is_same_run(text, other, last)
+}
+
+/// Whether two texts of one length are the same.
+#[inline(always)]
+pub(crate) fn are_same(text: &[u8], other: &[u8]) -> bool
+    requires { length text.now ≡ length other.now }
+    ensures { IsTrue result → text.now ≡ other.now }
+{
+    if text.len() < SHORT_RUN {
+        return text == other;
+    }
+    if text.len() > FEW {
+        return are_same_many(text, other);
+    }
+    are_same_few(text, other)
 }

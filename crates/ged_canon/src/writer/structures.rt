@@ -156,7 +156,7 @@ impl<F: Forest> Writer<'_, '_, F> {
     /// Appends the lines of the structures of a run that stand in a context, and of what stands below them, in the order of
     /// their tags. They are no records.
     #[cycle(trees)]
-    fn write_run(
+    pub(crate) fn write_run(
         &self,
         context: Context,
         level: u8,

@@ -15,4 +15,4 @@ returns-clause-ok c =
     let tagged = c.in_ok-extend_from_slice.ensures.items ∙ (λ i. c.in_ok-write_head.ensures.ok i ++ c.as_bytes.ensures.value i) in
     let front = c.in_ok-extend_from_slice-2.ensures.items ∙ ap (λ xs. xs ++ sign) tagged ∙ append_assoc (made ++ head) c.args.tag.now sign ∙ append_assoc made head (c.args.tag.now ++ sign) in
     let line = numbered_line made (decimal c.args.level) name c.args.tag.now (decimal c.args.number) _ c.extend_from_slice-2.new.self.items front (decimal-digits_of c.args.number c.requires.number c.ranges.number.fits) in
-    subst (λ text. OnOk c.push_ending.result (c.push_ending.new.out.items ≡ text)) line c.push_ending.ensures.ok
+    subst (λ text. OnOk c.push_closed.result (c.push_closed.new.out.items ≡ text)) line c.push_closed.ensures.ok

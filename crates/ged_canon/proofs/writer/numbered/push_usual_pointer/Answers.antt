@@ -15,4 +15,4 @@ returns-clause-ok c =
     let digit : c.args.level < 10 = omega (arith, c.if-level-gt9.false) in
     let front = c.in_ok-extend_from_slice.ensures.items ∙ (λ i. made ++ ((sym (decimal_digit c.args.level digit) i ++ 32 ∷ []) ++ (tag_is i ++ 32 ∷ 64 ∷ 88 ∷ []))) in
     let line = numbered_line made (decimal c.args.level) [] c.args.tag.now (decimal c.args.number) _ c.extend_from_slice.new.self.items front (decimal-digits_of c.args.number c.requires.number c.ranges.number.fits) in
-    subst (λ text. OnOk c.push_ending.result (c.push_ending.new.out.items ≡ text)) line c.push_ending.ensures.ok
+    subst (λ text. OnOk c.push_closed.result (c.push_closed.new.out.items ≡ text)) line c.push_closed.ensures.ok

@@ -1,4 +1,4 @@
-use Rattle.std.proofs.Common.{◌≡◌, ◌++◌, false, length, refl, sym, ap, ◌∙◌, subst, arith}
+use Rattle.std.proofs.Common.{◌≡◌, ◌++◌, None, false, length, refl, sym, ap, ◌∙◌, subst, arith}
 use Rattle.ged_line.specs.Spelling.{value_part}
 use Rattle.ged_tree.specs.Trees.{further_lines}
 use Rattle.ged_tree.specs.DocumentLines.{first_value}
@@ -23,4 +23,4 @@ returns-clause-lines g c = λ names h t.
     let tells : TellsPlain tag rest = subst (λ front. TellsPlain front rest) c.in-Some.ensures.tag (c.if-not-stays.ensures.plain refl) in
     c.in_ok-push_rest.ensures
     ∙ ap (λ text. c.args.work.now.answer ++ text)
-    (plain_line edition (row context tag) (number_of 1 names) c.args.level tag p rest value alone (plain_brief edition context tag rest p (c.if-not-stays.ensures.first refl) is tells) is)
+    (plain_line edition (row context tag) (number_of 1 names) c.args.level None tag p rest value alone (plain_brief edition context tag rest p (c.if-not-stays.ensures.first refl) is tells) is)

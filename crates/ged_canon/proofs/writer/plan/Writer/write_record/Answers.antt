@@ -1,13 +1,13 @@
 use Rattle.std.proofs.Common.{◌≡◌, ◌+◌, ◌<◌, ◌++◌, [], Some, None, OnOk, option_map, refl, sym, ap, ◌∙◌, subst, arith}
 use Rattle.std.specs.Option.{option_copied}
 use Rattle.ged_line.specs.Bytes.{Bytes}
-use Rattle.ged_line.specs.Names.{is_xref}
 use Rattle.ged_tree.specs.Places.{structure_at}
 use Rattle.ged_tree.specs.Runs.{IsRunOfTrees, trees_between}
 use Rattle.ged_tree.proofs.CallerLemmas.{below_run, run_below}
 use Rattle.ged_schema.specs.declared.context.Context.TheVariants.{File}
 use Rattle.ged_schema.specs.Rows.{as_row}
 use Rattle.ged_schema.specs.Tables.{row}
+use Rattle.ged_canon.specs.Normal.{numbered}
 use Rattle.ged_canon.specs.inner.Working.{is_named, number_of}
 use Rattle.ged_canon.specs.inner.Siblings.{own_tag}
 use Rattle.ged_canon.specs.inner.Writing.{CanWriteTree}
@@ -47,8 +47,8 @@ returns-then-number-eq0 g c = λ names h named.
     subst (λ (bytes : Bytes). OnOk c.write_tree.result (c.write_tree.new.work.answer ≡ c.args.work.now.answer ++ bytes))
     (lines_alike (number_of 1 names) edition None d tag x.place 0 _ (row File (own_tag d x)) c.tag-tag.ensures rule ∙ record_spelled (is_named d) edition names d x None unnamed) (c.write_tree.ensures.lines names h)
 
-pub write_tree-requires-2 : goal.write_tree-requires-2
-write_tree-requires-2 g c =
+pub write_named-requires-clause-stands : goal.write_named-requires-clause-stands
+write_named-requires-clause-stands g c =
     let d = g.F.Forest.trees c.args.self.now.forest.now in
     let edition = c.args.self.now.plan.edition in
     let x = c.args.sibling in
@@ -56,15 +56,15 @@ write_tree-requires-2 g c =
     let tag = c.tag-tag.result in
     let rule : option_map as_row (option_copied c.row-rule.result) ≡ row File (own_tag d x) = c.row-rule.ensures ∙ ap (λ k. row k tag.now) c.of-rows.ensures ∙ ap (row File) c.tag-tag.ensures in
     let here = c.requires.within.0.within in
-    let shown = ap is_xref (c.as_str.ensures.value ∙ c.in_ok-put_identifier.ensures) ∙ numbered_name c.own_number-number.result in
-    subst (λ r. CanWriteTree edition r 0 (Some c.as_str.result.now) d (record { tag = tag; place = at }) c.after-end.result) (sym rule)
-    (can_write_alike edition (row File (own_tag d x)) 0 (Some c.as_str.result.now) d tag at c.after-end.result c.tag-tag.ensures
+    let name = numbered c.own_number-number.result in
+    subst (λ r. CanWriteTree edition r 0 (Some name) d (record { tag = tag; place = at }) c.after-end.result) (sym rule)
+    (can_write_alike edition (row File (own_tag d x)) 0 (Some name) d tag at c.after-end.result c.tag-tag.ensures
     (record {
       document = c.requires.document;
       within = (here, refl);
       run = subst (λ q. IsRunOfTrees d (at + 1) q) (sym c.after-end.ensures) (run_below d at here);
       deeper = ap (trees_between d (at + 1)) c.after-end.ensures ∙ below_run d at here;
-      stands = own_stands (is_named d) edition d x [] c.requires.stand (Some c.as_str.result.now) shown;
+      stands = own_stands (is_named d) edition d x [] c.requires.stand (Some name) (numbered_name c.own_number-number.result);
       below = below_stands (is_named d) edition d x [] c.requires.stand;
     }))
 
@@ -75,9 +75,8 @@ returns g c = λ names h named.
     let x = c.args.sibling in
     let tag = c.tag-tag.result in
     let rule : option_map as_row (option_copied c.row-rule.result) ≡ row File (own_tag d x) = c.row-rule.ensures ∙ ap (λ k. row k tag.now) c.of-rows.ensures ∙ ap (row File) c.tag-tag.ensures in
-    let xref = Some c.as_str.result.now in
+    let xref = Some (numbered c.own_number-number.result) in
     let some : 0 < c.own_number-number.result = omega (arith, c.if-number-eq0.false) in
-    let shown = own_identifier d names named (structure_at d x.place).xref c.own_number-number.result (c.own_number-number.ensures names h) some
-    ∙ ap Some (sym (c.as_str.ensures.value ∙ c.in_ok-put_identifier.ensures)) in
-    subst (λ (bytes : Bytes). OnOk c.write_tree-2.result (c.write_tree-2.new.work.answer ≡ c.args.work.now.answer ++ bytes))
-    (lines_alike (number_of 1 names) edition xref d tag x.place 0 _ (row File (own_tag d x)) c.tag-tag.ensures rule ∙ record_spelled (is_named d) edition names d x xref shown) (c.write_tree-2.ensures.lines names h)
+    let shown = own_identifier d names named (structure_at d x.place).xref c.own_number-number.result (c.own_number-number.ensures names h) some in
+    subst (λ (bytes : Bytes). OnOk c.write_named.result (c.write_named.new.work.answer ≡ c.args.work.now.answer ++ bytes))
+    (lines_alike (number_of 1 names) edition xref d tag x.place 0 _ (row File (own_tag d x)) c.tag-tag.ensures rule ∙ record_spelled (is_named d) edition names d x xref shown) (c.write_named.ensures names h)

@@ -30,8 +30,8 @@ kept_value names name number at (inr same) = by (number_among 1 names name) refl
 pub returns-then-is_kept_name-clause-lines : goal.returns-then-is_kept_name-clause-lines
 returns-then-is_kept_name-clause-lines g c = λ names h.
     let d = g.F.Forest.trees c.args.self.now.forest.now in
-    let name = c.name_at-name.result.now in
-    let here = sym c.name_at-name.ensures in
+    let name = c.args.name.now in
+    let here = sym c.requires.names in
     let at : number_among 1 names name ≡ c.new_number_at-number.result = sym (c.new_number_at-number.ensures d names h (sym here)) in
     subst (λ value. OnOk c.write_kept_reference.result (c.write_kept_reference.new.answer ≡ c.args.work.now.answer ++ (spelling (line_parts c.args.level (option_copied c.args.xref) c.args.sibling.tag.now value) ++ 10 ∷ [])))
     (renamed_value names _ name name here (kept_value names name c.new_number_at-number.result at (c.is_kept_name.ensures.0 (search rules)))) c.write_kept_reference.ensures
@@ -39,8 +39,8 @@ returns-then-is_kept_name-clause-lines g c = λ names h.
 pub returns-clause-lines : goal.returns-clause-lines
 returns-clause-lines g c = λ names h.
     let d = g.F.Forest.trees c.args.self.now.forest.now in
-    let name = c.name_at-name.result.now in
-    let here = sym c.name_at-name.ensures in
+    let name = c.args.name.now in
+    let here = sym c.requires.names in
     let at : number_among 1 names name ≡ c.new_number_at-number.result = sym (c.new_number_at-number.ensures d names h (sym here)) in
     let other : c.new_number_at-number.result ≡ 0 → ⊥ = λ e. false≢true (sym c.if-is_kept_name.false ∙ c.is_kept_name.ensures.1 (inl e)) in
     let some : 0 < number_among 1 names name = omega (arith, at, other) in

@@ -1,5 +1,5 @@
 use Rattle.std.proofs.Common.{◌≡◌, ◌-◌, ◌<◌, ◌+◌, take}
-use Rattle.ged_canon.proofs.writer.same.are_same.Given as goal
+use Rattle.ged_canon.proofs.writer.same.are_same_many.Given as goal
 
 -- both texts are the same up to the place
 abbrev pub invariant-loop-at : goal.invariant-loop-at

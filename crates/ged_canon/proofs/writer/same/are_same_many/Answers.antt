@@ -1,6 +1,6 @@
 use Rattle.std.proofs.Common.{◌-◌, length, arith}
 use Rattle.ged_canon.proofs.writer.SameRuns.{same_more, same_ends}
-use Rattle.ged_canon.proofs.writer.same.are_same.Goals as goal
+use Rattle.ged_canon.proofs.writer.same.are_same_many.Goals as goal
 
 pub loop-at-preserved : goal.loop-at-preserved
 loop-at-preserved c = record {
@@ -11,5 +11,5 @@ loop-at-preserved c = record {
 pub returns : goal.returns
 returns c = λ set.
     let last = length c.args.text.now - 16 in
-    same_ends c.args.text.now c.args.other.now c.loop-at.at last 16 (omega (arith, c.loop-at-test.false)) (omega (arith, c.if-text-lt-RUN.false)) (omega (arith, c.if-text-lt-RUN.false, c.requires))
+    same_ends c.args.text.now c.args.other.now c.loop-at.at last 16 (omega (arith, c.loop-at-test.false)) (omega (arith, c.requires.many)) (omega (arith, c.requires.many, c.requires.alike))
     c.loop-at.invariant.same (c.is_same_run-2.ensures set)
