@@ -1,4 +1,5 @@
 pub mod WalkLemmas
+pub mod LevelWalks
 pub mod PairLemmas
 pub mod PlaceCases
 pub mod LinkLemmas

@@ -111,16 +111,6 @@ searched_pair links x y (Err at) ordered within parted =
 
 -- ---- links that are answered
 
-pub answered_more : (links : List (ℕ × ℕ)) (index x y : ℕ) → AreAnsweredBefore links index → slice_get links index ≡ Some (x, y) → is_listed links (y, x) ≡ true → AreAnsweredBefore links (index + 1)
-answered_more links index x y before here answered i p q h e = elim (cases_lt i index) [
-  | inl earlier ↦ before i p q earlier e
-  | inr past ↦ (
-      let same : i ≡ index = omega (arith, h) in
-      let f : ◌≡◌ {A = Option (ℕ × ℕ)} (Some (p, q)) (Some (x, y)) = sym e ∙ rw same here in
-      let both : ◌≡◌ {A = ℕ × ℕ} (p, q) (x, y) = cc in
-      ap (λ (pair : ℕ × ℕ). is_listed links (pair.1, pair.0)) both ∙ answered)
-]
-
 pub all_listed : (links : List (ℕ × ℕ)) (index : ℕ) → length links ≤ index → AreAnsweredBefore links index → (x y : ℕ) → is_listed links (x, y) ≡ true → is_listed links (y, x) ≡ true
 all_listed links index all before x y e =
     let at = place_of_listed links x y e in

@@ -39,13 +39,6 @@ module _ (d : Trees) (e : ℕ) (h : e ≡ trees_count d) where
   pub empty_run : IsRunOfTrees d e e
   empty_run = record { fills = rw (run_ends d e e (omega arith)) (omega arith) }
 
-pub whole_end : (d : Trees) (e : ℕ) → IsRunOfTrees d 0 e → trees_between d 0 e ≡ d → e ≡ trees_count d
-whole_end d e run is = let f : 0 + trees_count d ≡ e = rw is at run.fills in omega arith
-
--- a run without a tree is over
-pub run_over : (d : Trees) (p e : ℕ) → IsRunOfTrees d p e → trees_between d p e ≡ none → p ≡ e
-run_over d p e run ends = let f : p + 0 ≡ e = rw ends at run.fills in omega arith
-
 -- ---- the identifiers of the records that are left
 
 module _ {X : Type 0} where
@@ -248,9 +241,6 @@ records_all d p k e records whole run ends left are =
       placed = λ name other. (λ s. ((are.placed name other).0 s).1, λ h. (are.placed name other).1 (omega (arith, at_end, h.0), h));
       numbered = λ name other. (λ s. ((are.numbered name other).0 s).1, λ h. (are.numbered name other).1 (omega (arith, few, slice_get_within (identifiers (records_of d)) other (Some name) h), h));
     }
-
-pub records_count : (d : Trees) (p k e : ℕ) → trees_between d p e ≡ none → drop k (identifiers (records_of d)) ≡ identifiers (trees_between d p e) → k ≤ length (identifiers (records_of d)) → k ≡ length (identifiers (records_of d))
-records_count d p k e ends left few = let many = left_none (identifiers (records_of d)) k (left ∙ ap identifiers ends) in omega arith
 
 -- no identifier is repeated before the place of the walk
 pub none_repeated : (d : Trees) (p k : ℕ) (records : Names) → AreRecordsBefore d p k records → (place : ℕ) → place < p → IsRepeated d place → ⊥

@@ -1,9 +1,8 @@
 -- Marks of the records that pointers name.
-use Rattle.std.proofs.Common.{◌≡◌, ◌≢◌, ℕ, ◌+◌, ◌<◌, Bool, true, false, Option, Some, None, List, [], ◌∷◌, ◌⊎◌, inl, inr, length, refl, sym, subst, ◌∙◌, arith, get_or-set_other, slice_set, slice_index_or, replicate, zero, suc, ap, option_map, Bor}
+use Rattle.std.proofs.Common.{◌≡◌, ◌≢◌, ℕ, ◌+◌, ◌<◌, Bool, true, false, Option, Some, None, List, ◌∷◌, ◌⊎◌, inl, inr, length, refl, sym, subst, ◌∙◌, arith, get_or-set_other, slice_set, ap, option_map, Bor}
 use Rattle.std.proofs.Math.Nat.{eq-or-lt_of_le}
 use Rattle.std.proofs.lemmas.Bool.{cases_lt}
 use Rattle.std.proofs.lemmas.Grind.{get_or-set_at}
-use Rattle.std.proofs.lemmas.List.{length-replicate}
 use Rattle.std.proofs.lemmas.Option.{slice_get_within}
 use Rattle.ged_line.specs.Bytes.{Bytes}
 use Rattle.ged_tree.specs.Trees.{Trees, trees_count, records_of}
@@ -19,10 +18,8 @@ use Rattle.ged_link.specs.LinkFaults.{HasXref, HasPointer, IsDangling, IsLowest}
 use Rattle.ged_link.specs.declared.names.Names.{Names}
 use Rattle.ged_link.specs.Indexes.{found_in, AreRecords, number_in}
 use Rattle.ged_link.specs.inner.LinkWalks.{target}
-use Rattle.ged_link.specs.inner.Resolving.{AreUsedBefore, NoneDanglesBefore, AreFollowed, AreUsed}
-use Rattle.ged_link.specs.declared.pointers.Followed.{Followed}
+use Rattle.ged_link.specs.inner.Resolving.{AreUsedBefore, NoneDanglesBefore, AreUsed}
 use Rattle.ged_link.proofs.LinkLemmas.{named_at, at_named}
-use Rattle.ged_link.proofs.TargetLemmas.{none_told}
 
 same_or_not : (k n : ℕ) → (k ≡ n) ⊎ (k ≢ n)
 same_or_not k n = elim (cases_lt k n) [
@@ -66,22 +63,6 @@ pub told_no_target : (find : Bytes → Option ℕ) (p : Payload) → is_pointer 
 told_no_target find Void denied = refl
 told_no_target find (Pointer name) denied = absurd (let f : true ≡ false = denied in cc)
 told_no_target find (Text lines) denied = refl
-
--- before the first pointer no record is marked
-none_marked : (count number : ℕ) → slice_index_or (replicate count false) number false ≡ true → ⊥
-none_marked zero zero e = cc
-none_marked zero (suc number) e = cc
-none_marked (suc count) zero e = cc
-none_marked (suc count) (suc number) e = none_marked count number e
-
-pub followed_start : (d : Trees) (count : ℕ) (followed : Followed) → followed.used.items ≡ replicate count false → followed.targets.items ≡ [] → followed.led ≡ true → count ≡ length (identifiers (records_of d)) → AreFollowed d 0 followed
-followed_start d count followed is empty led long = record {
-  long = ap (λ (us : List Bool). length us) is ∙ length-replicate count false ∙ long;
-  marked = λ number. (λ e. absurd (none_marked count number (rw is at e)), λ h. absurd (omega (arith, h.2.1)));
-  told = none_told d followed.targets.items empty;
-  found = λ other before h. absurd (omega (arith, before));
-  led = (λ _ other before. absurd (omega (arith, before)), λ _. led);
-}
 
 module _ (d : Trees) (place : ℕ) (within : place < trees_count d) where
   -- a structure without a pointer changes nothing

@@ -7,24 +7,10 @@ use Rattle.ged_tree.specs.declared.payload.Payload.{Payload}
 use Rattle.ged_tree.specs.declared.payload.Payload.TheVariants.{Void, Pointer, Text}
 use Rattle.ged_link.specs.declared.names.Names.{Names}
 use Rattle.ged_link.specs.Indexes.{AreRecords, place_in}
-use Rattle.ged_link.specs.inner.LinkWalks.{role_under, role_eq, is_role, is_place, target, linked, has_link_to, has_pair, is_one_way_for, is_one_way, one_way_below, one_way_places}
-
--- a step of a walk up to an end
-pub next_after : (p a : ℕ) → p < a → p + 1 ≤ a
-next_after p a h = omega arith
-
-pub up_to : (a e n : ℕ) → a ≤ e → e ≤ n → a ≤ n
-up_to a e n h k = omega arith
+use Rattle.ged_link.specs.inner.LinkWalks.{role_under, role_eq, is_role, is_place, target, linked, is_one_way_for, is_one_way, one_way_below, one_way_places}
 
 pub nearer : (p a e : ℕ) → p < a → a ≤ e → e - a < e - p
 nearer p a e h k = omega arith
-
-pub link_none : (find : Bytes → Option ℕ) (role : Role) (at : Bytes) (q : ℕ) (t : Trees) → t ≡ none → has_link_to find role at q t ≡ false
-link_none find role at q t e = rw e refl
-
-pub link_tree : (find : Bytes → Option ℕ) (role : Role) (at : Bytes) (q : ℕ) (t : Trees) (s : Structure) (b n : Trees) → t ≡ tree s b n
-    → has_link_to find role at q t ≡ is_place (linked find role at s) q || has_link_to find role at q n
-link_tree find role at q t s b n e = rw e refl
 
 -- a structure that is no link, and one that is
 pub no_role : (find : Bytes → Option ℕ) (role : Role) (at : Bytes) (q : ℕ) (s : Structure) → None ≡ role_under at s.tag → is_place (linked find role at s) q ≡ false
@@ -45,27 +31,6 @@ is_link find role other at q r s h k = rw (← h, ← k) (go (role_eq role other
     go true = refl
     go false = refl
 
-pub pair_none : (find : Bytes → Option ℕ) (role : Role) (p : ℕ) (t : Trees) (pair : ℕ × ℕ) → t ≡ none → has_pair find role p t pair ≡ false
-pair_none find role p t pair e = rw e refl
-
-pub pair_tree : (find : Bytes → Option ℕ) (role : Role) (p a : ℕ) (t : Trees) (s : Structure) (b n : Trees) (pair : ℕ × ℕ) → t ≡ tree s b n → p + 1 + trees_count b ≡ a
-    → has_pair find role p t pair ≡ (nat_eq pair.0 p && has_link_to find role s.tag pair.1 b) || has_pair find role a n pair
-pair_tree find role p a t s b n pair e k = rw (e, k) refl
-
-pub pairs_start : (find : Bytes → Option ℕ) (role : Role) (t d : Trees) (pair : ℕ × ℕ) (old : Bool) → t ≡ d → old ≡ false → (has_pair find role 0 t pair || old) ≡ has_pair find role 0 d pair
-pairs_start find role t d pair old e k = rw (e, k) (go (has_pair find role 0 d pair))
-  where
-    go : (b : Bool) → b || false ≡ b
-    go true = refl
-    go false = refl
-
--- one more pair of a record
-pub moved_pair : (here is rest old : Bool) → ((here && rest) || ((here && is) || old)) ≡ ((here && (is || rest)) || old)
-moved_pair true true true old = refl
-moved_pair true true false old = refl
-moved_pair true false rest old = refl
-moved_pair false is rest old = refl
-
 pub turned_pair : (here is there old : Bool) → ((is && (here && there)) || old) ≡ ((here && (is && there)) || old)
 turned_pair true true there old = refl
 turned_pair true false there old = refl
@@ -75,35 +40,6 @@ turned_pair false false there old = refl
 pub no_pair : (here old : Bool) → ((here && false) || old) ≡ old
 no_pair true old = refl
 no_pair false old = refl
-
-pub moved_pairs : (a b c : Bool) → (b || (a || c)) ≡ ((a || b) || c)
-moved_pairs true true c = refl
-moved_pairs true false c = refl
-moved_pairs false b c = refl
-
--- the links of a record that are told so far, beside those that are left of it
-pub links_kept : (here was now : Bool) → now ≡ was → (here || now) ≡ (here || was)
-links_kept here was now e = rw e refl
-
-pub links_more : (find : Bytes → Option ℕ) (role : Role) (at : Bytes) (q : ℕ) (here : Bool) (t : Trees) (s : Structure) (b n : Trees) (old new : Bool) → t ≡ tree s b n
-    → new ≡ ((here && is_place (linked find role at s) q) || old) → ((here && has_link_to find role at q n) || new) ≡ ((here && has_link_to find role at q t) || old)
-links_more find role at q here t s b n old new e k =
-    ap (λ (x : Bool). (here && has_link_to find role at q n) || x) k ∙ (moved_pair here (is_place (linked find role at s) q) (has_link_to find role at q n) old
-    ∙ sym (ap (λ (x : Bool). (here && x) || old) (link_tree find role at q t s b n e)))
-
-pub links_all : (find : Bytes → Option ℕ) (role : Role) (at : Bytes) (q : ℕ) (here : Bool) (t : Trees) (now : Bool) → t ≡ none → now ≡ ((here && has_link_to find role at q t) || now)
-links_all find role at q here t now e = sym (ap (λ (x : Bool). (here && x) || now) (link_none find role at q t e) ∙ no_pair here now)
-
--- the same of all records
-pub pairs_more : (find : Bytes → Option ℕ) (role : Role) (p a : ℕ) (t : Trees) (s : Structure) (b n : Trees) (pair : ℕ × ℕ) (old new : Bool) → t ≡ tree s b n → p + 1 + trees_count b ≡ a
-    → new ≡ ((nat_eq pair.0 p && has_link_to find role s.tag pair.1 b) || old) → (has_pair find role a n pair || new) ≡ (has_pair find role p t pair || old)
-pairs_more find role p a t s b n pair old new e f k =
-    let here = nat_eq pair.0 p && has_link_to find role s.tag pair.1 b in
-    ap (λ (x : Bool). has_pair find role a n pair || x) k ∙ (moved_pairs here (has_pair find role a n pair) old
-    ∙ sym (ap (λ (x : Bool). x || old) (pair_tree find role p a t s b n pair e f)))
-
-pub pairs_all : (find : Bytes → Option ℕ) (role : Role) (p : ℕ) (t : Trees) (pair : ℕ × ℕ) (now : Bool) → t ≡ none → now ≡ (has_pair find role p t pair || now)
-pairs_all find role p t pair now e = sym (ap (λ (x : Bool). x || now) (pair_none find role p t pair e))
 
 -- the lists after a structure that is no link, and after one that is
 pub not_linked : (find : Bytes → Option ℕ) (role : Role) (at : Bytes) (q : ℕ) (s : Structure) (here old : Bool) → is_place (linked find role at s) q ≡ false

@@ -1,7 +1,7 @@
 // Where the pointers of a document lead: the records that they name, and the links between records.
-ghost use Rattle.std.specs.Prelude.{◌≡◌, ◌<◌, ◌≤◌, ◌+◌, ◌⊎◌, ℕ, false, IsTrue, ◌↔◌, IfOk, IfErr, IfSome, OnOk, length, nat_eq, ◌&&◌, ◌||◌, option_map, alloc_error};
+ghost use Rattle.std.specs.Prelude.{◌≡◌, ◌<◌, ◌≤◌, ◌+◌, ◌⊎◌, ℕ, false, IsTrue, ◌↔◌, IfOk, IfErr, IfSome, OnOk, length, nat_eq, ◌==◌, ◌&&◌, ◌||◌, option_map, alloc_error};
 ghost use Rattle.ged_tree.specs.Trees.{records_of, trees_count};
-ghost use Rattle.ged_tree.specs.Places.{structure_at};
+ghost use Rattle.ged_tree.specs.Places.{structure_at, level_at};
 ghost use Rattle.ged_tree.specs.Runs.{trees_between, IsRunOfTrees};
 ghost use Rattle.ged_link.specs.Links.{identifiers};
 ghost use Rattle.ged_link.specs.LinkFaults.{HasLinkFault, IsRepeated, IsDangling};
@@ -22,7 +22,7 @@ use crate::links::role_of;
 use crate::names::Names;
 use crate::record_type::{RecordType, leads_as_tagged};
 use crate::targets::{Target, push_target};
-use ged_tree::{Forest, PayloadView, end_of_all, next_in_run};
+use ged_tree::{Forest, PayloadView};
 use std::alloc::{AllocError, Global};
 
 /// What is known of the records that the pointers of a document name.
@@ -86,91 +86,38 @@ fn follow<'f, F: Forest>(
     Ok(Some(Pointed { tag, to: found }))
 }
 
-/// Marks the records that the structures from a place on point to, up to an end; or the fault of the first pointer there
-/// that names none.
-fn follow_all<F: Forest>(
-    forest: &F,
-    records: &Records<'_>,
-    start: usize,
-    end: usize,
-    followed: &mut Followed,
-) -> Result<(), LinkFault>
-    requires order { start ≤ end }
-    requires within { end ≤ trees_count (F.trees forest.now) }
-    requires records { AreKnown (F.trees forest.now) records.now }
-    requires distinct { (place : ℕ) → IsRepeated (F.trees forest.now) place → ⊥ }
-    requires used { AreFollowed (F.trees forest.now) start followed.old }
-    ensures used { OnOk result (AreFollowed (F.trees forest.now) end followed.new) }
-    ensures fault { IfErr result (λ fault. (fault ≡ Memory alloc_error) ⊎ HasLinkFault (F.trees forest.now) fault) }
-{
-    for place in start..end {
-        follow(forest, records, place, followed)?;
-    }
-    Ok(())
-}
-
-/// Marks the record that a structure directly under a record with a tag points to, and adds the link of both where it is
-/// one.
+/// Marks the record that a structure in another record points to, and adds the link of both where it is one: only structures directly
+/// under a record, at level 1, tell links.
+#[inline(always)]
 fn follow_link<F: Forest>(
     forest: &F,
     records: &Records<'_>,
     from: usize,
-    record_tag: &str,
     place: usize,
     followed: &mut Followed,
     lists: &mut LinkLists,
 ) -> Result<(), LinkFault>
-    requires record_tag { record_tag.now ≡ (structure_at (F.trees forest.now) from).tag }
+    requires from { from < trees_count (F.trees forest.now) }
     requires within { place < trees_count (F.trees forest.now) }
     requires records { AreKnown (F.trees forest.now) records.now }
     requires distinct { (place : ℕ) → IsRepeated (F.trees forest.now) place → ⊥ }
     requires used { AreFollowed (F.trees forest.now) place followed.old }
     ensures used { OnOk result (AreFollowed (F.trees forest.now) (place + 1) followed.new) }
     ensures links { OnOk result ((role : Role) (pair : ℕ × ℕ) → lists_have lists.new role pair
-        ≡ ((nat_eq pair.0 from && is_place (linked (place_in records.now.names.now) role (structure_at (F.trees forest.now) from).tag (structure_at (F.trees forest.now) place)) pair.1)
+        ≡ (((level_at 0 (F.trees forest.now) place == 1 && nat_eq pair.0 from) && is_place (linked (place_in records.now.names.now) role (structure_at (F.trees forest.now) from).tag (structure_at (F.trees forest.now) place)) pair.1)
         || lists_have lists.old role pair)) }
     ensures fault { IfErr result (λ fault. (fault ≡ Memory alloc_error) ⊎ HasLinkFault (F.trees forest.now) fault) }
 {
     let Some(pointed) = follow(forest, records, place, followed)? else {
         return Ok(());
     };
-    let Some(role) = role_of(record_tag, pointed.tag) else {
+    if forest.level(place) != 1 {
+        return Ok(());
+    }
+    let Some(role) = role_of(forest.tag(from), pointed.tag) else {
         return Ok(());
     };
     lists.push(role, from, pointed.to)?;
-    Ok(())
-}
-
-/// The same for all structures of a record, which end before a place.
-fn follow_record<F: Forest>(
-    forest: &F,
-    records: &Records<'_>,
-    from: usize,
-    end: usize,
-    followed: &mut Followed,
-    lists: &mut LinkLists,
-) -> Result<(), LinkFault>
-    requires from { from < trees_count (F.trees forest.now) }
-    requires end { end ≤ trees_count (F.trees forest.now) }
-    requires run { IsRunOfTrees (F.trees forest.now) (from + 1) end }
-    requires records { AreKnown (F.trees forest.now) records.now }
-    requires distinct { (place : ℕ) → IsRepeated (F.trees forest.now) place → ⊥ }
-    requires used { AreFollowed (F.trees forest.now) from followed.old }
-    ensures used { OnOk result (AreFollowed (F.trees forest.now) end followed.new) }
-    ensures links { OnOk result ((role : Role) (pair : ℕ × ℕ) → lists_have lists.new role pair
-        ≡ ((nat_eq pair.0 from && has_link_to (place_in records.now.names.now) role (structure_at (F.trees forest.now) from).tag pair.1 (trees_between (F.trees forest.now) (from + 1) end))
-        || lists_have lists.old role pair)) }
-    ensures fault { IfErr result (λ fault. (fault ≡ Memory alloc_error) ⊎ HasLinkFault (F.trees forest.now) fault) }
-{
-    lists.begin_record()?;
-    follow(forest, records, from, followed)?;
-    let record_tag = forest.tag(from);
-    let mut place = from + 1;
-    while let Some(after) = next_in_run(forest, place, end) {
-        follow_link(forest, records, from, record_tag, place, followed, lists)?;
-        follow_all(forest, records, place + 1, after, followed)?;
-        place = after;
-    }
     Ok(())
 }
 
@@ -201,11 +148,13 @@ pub(crate) fn follow_pointers<F: Forest>(
         led: true,
     };
     let mut lists = none;
-    let end = end_of_all(forest);
-    let mut place = 0;
-    while let Some(after) = next_in_run(forest, place, end) {
-        follow_record(forest, records, place, after, &mut followed, &mut lists)?;
-        place = after;
+    let mut from = 0;
+    for place in 0..forest.size() {
+        if forest.level(place) == 0 {
+            from = place;
+            lists.begin_record()?;
+        }
+        follow_link(forest, records, from, place, &mut followed, &mut lists)?;
     }
     Ok((followed, lists))
 }

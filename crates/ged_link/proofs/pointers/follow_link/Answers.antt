@@ -1,8 +1,9 @@
-use Rattle.std.proofs.Common.{◌≡◌, Some, None, sym, ap, ◌∙◌, nat_eq, option_map}
-use Rattle.ged_tree.specs.Places.{structure_at}
+use Rattle.std.proofs.Common.{◌≡◌, ℕ, Bool, true, ◌||◌, subst, Some, None, sym, ap, ◌∙◌, nat_eq, ◌&&◌, option_map}
+use Rattle.std.specs.Prelude.{◌==◌}
+use Rattle.ged_tree.specs.Places.{structure_at, level_at}
 use Rattle.ged_link.specs.declared.pointers.Pointed.{Pointed}
 use Rattle.ged_link.specs.Indexes.{place_in}
-use Rattle.ged_link.specs.inner.LinkWalks.{target, role_under}
+use Rattle.ged_link.specs.inner.LinkWalks.{target, role_under, is_place, linked}
 use Rattle.ged_link.specs.inner.PairSets.{lists_have}
 use Rattle.ged_link.proofs.WalkLemmas.{no_role, no_target, not_linked, one_linked, role_here}
 use Rattle.ged_link.proofs.pointers.follow_link.Goals as goal
@@ -13,8 +14,9 @@ returns-in_default-clause-links g c role pair =
     let find = place_in c.args.records.now.names.now in
     let s = structure_at w c.args.place in
     let at = (structure_at w c.args.from).tag in
+    let here = level_at 0 w c.args.place == 1 && nat_eq pair.0 c.args.from in
     let missing : None ≡ target find s.payload = sym (ap (option_map (λ (pointed : Pointed). pointed.to.place)) c.in_default.is) ∙ c.in_ok-pointed.ensures.target in
-    not_linked find role at pair.1 s (nat_eq pair.0 c.args.from) (lists_have c.args.lists.now role pair) (no_target find role at pair.1 s missing)
+    not_linked find role at pair.1 s here (lists_have c.args.lists.now role pair) (no_target find role at pair.1 s missing)
 
 pub returns-in_default-role_of-clause-links : goal.returns-in_default-role_of-clause-links
 returns-in_default-role_of-clause-links g c role pair =
@@ -22,9 +24,10 @@ returns-in_default-role_of-clause-links g c role pair =
     let find = place_in c.args.records.now.names.now in
     let s = structure_at w c.args.place in
     let at = (structure_at w c.args.from).tag in
+    let here = level_at 0 w c.args.place == 1 && nat_eq pair.0 c.args.from in
     let tag = rw c.in-Some.is at c.in_ok-pointed.ensures.tag in
-    let told : None ≡ role_under at s.tag = role_here c.role_of.result c.args.record_tag.now c.in-Some.pointed.tag.now at s.tag None c.role_of.ensures c.requires.record_tag tag c.in_default-role_of.is in
-    not_linked find role at pair.1 s (nat_eq pair.0 c.args.from) (lists_have c.args.lists.now role pair) (no_role find role at pair.1 s told)
+    let told : None ≡ role_under at s.tag = role_here c.role_of.result c.tag.result.now c.in-Some.pointed.tag.now at s.tag None c.role_of.ensures c.tag.ensures tag c.in_default-role_of.is in
+    not_linked find role at pair.1 s here (lists_have c.args.lists.now role pair) (no_role find role at pair.1 s told)
 
 pub returns-clause-links : goal.returns-clause-links
 returns-clause-links g c role pair =
@@ -32,11 +35,13 @@ returns-clause-links g c role pair =
     let find = place_in c.args.records.now.names.now in
     let s = structure_at w c.args.place in
     let at = (structure_at w c.args.from).tag in
+    let direct : (level_at 0 w c.args.place == 1) ≡ true = ap (λ (level : ℕ). level == 1) (sym c.level.ensures ∙ c.if-level-ne1.false) in
     let tag = rw c.in-Some.is at c.in_ok-pointed.ensures.tag in
     let told : Some c.in-Some-role_of.role ≡ role_under at s.tag =
-    role_here c.role_of.result c.args.record_tag.now c.in-Some.pointed.tag.now at s.tag (Some c.in-Some-role_of.role) c.role_of.ensures c.requires.record_tag tag c.in-Some-role_of.is in
+    role_here c.role_of.result c.tag.result.now c.in-Some.pointed.tag.now at s.tag (Some c.in-Some-role_of.role) c.role_of.ensures c.tag.ensures tag c.in-Some-role_of.is in
     let to : Some c.in-Some.pointed.to.place ≡ target find s.payload = sym (ap (option_map (λ (pointed : Pointed). pointed.to.place)) c.in-Some.is) ∙ c.in_ok-pointed.ensures.target in
-    one_linked find role c.in-Some-role_of.role at pair.1 c.in-Some.pointed.to.place s (nat_eq pair.0 c.args.from) (lists_have c.args.lists.now role pair) (lists_have c.push.new.self role pair) told to (c.in_ok-push.ensures role pair)
+    subst (λ (level : Bool). lists_have c.push.new.self role pair ≡ (((level && nat_eq pair.0 c.args.from) && is_place (linked find role at s) pair.1) || lists_have c.args.lists.now role pair)) (sym direct)
+    (one_linked find role c.in-Some-role_of.role at pair.1 c.in-Some.pointed.to.place s (nat_eq pair.0 c.args.from) (lists_have c.args.lists.now role pair) (lists_have c.push.new.self role pair) told to (c.in_ok-push.ensures role pair))
 
 pub returns-in_default-clause-fault : goal.returns-in_default-clause-fault
 returns-in_default-clause-fault g c = tt

@@ -1,89 +1,67 @@
-use Rattle.std.proofs.Common.{◌+◌, ◌∙◌, length, subst, ℕ, ◌≤◌, refl}
-use Rattle.ged_tree.specs.Places.{structure_at}
-use Rattle.ged_tree.specs.Runs.{trees_between, IsStep}
+use Rattle.std.proofs.Common.{◌≡◌, ℕ, ◌+◌, ◌-◌, ◌<◌, ◌≤◌, ◌&&◌, ◌||◌, nat_eq, sym, ap, ◌∙◌, arith}
+use Rattle.std.specs.Prelude.{◌==◌}
+use Rattle.ged_tree.specs.Trees.{trees_count}
+use Rattle.ged_tree.specs.Places.{structure_at, level_at}
 use Rattle.ged_link.specs.Indexes.{place_in}
-use Rattle.ged_link.proofs.RecordLemmas.{whole_end, run_over}
-use Rattle.ged_link.proofs.UseLemmas.{followed_start, used_all, dangles_all}
-use Rattle.ged_link.proofs.WalkLemmas.{nearer, pairs_start, pairs_more, pairs_all}
-use Rattle.ged_link.proofs.LedLemmas.{led_all}
+use Rattle.ged_link.specs.declared.pairs.Role.{Role}
+use Rattle.ged_link.specs.inner.LinkWalks.{is_place, linked}
 use Rattle.ged_link.specs.inner.PairSets.{lists_have}
+use Rattle.ged_link.proofs.LevelWalks.{IsIn, begins, goes_on, pair_before, pair_step, pair_all, record_place, record_tag}
+use Rattle.ged_link.proofs.UseLemmas.{used_all, dangles_all}
+use Rattle.ged_link.proofs.LedLemmas.{led_all}
+use Rattle.ged_link.proofs.pointers.follow_pointers.Goals.{then-level-eq0+in_ok-begin_record, else-level-eq0}
 use Rattle.ged_link.proofs.pointers.follow_pointers.Goals as goal
 
-pub loop-after-init : goal.loop-after-init
-loop-after-init g c =
+pub loop-place-preserved : goal.loop-place-preserved
+loop-place-preserved g c =
     let w = g.F.Forest.trees c.args.forest.now in
+    let find = place_in c.args.records.now.names.now in
+    let p = c.loop-place.place in
+    let from = c.if-level-eq0.from in
+    let inv = c.loop-place.invariant in
+    let inside : p < trees_count w = omega (arith, c.loop-place-test.true, c.size-place-end.ensures.count) in
+    let is_in : IsIn w p c.loop-place.from inside from = elim c.if-level-eq0.branch [
+      | then-level-eq0+in_ok-begin_record b ↦ begins w p c.loop-place.from inside from b.from-is (sym c.level.ensures ∙ b.if-level-eq0.true)
+      | else-level-eq0 b ↦ goes_on w p c.loop-place.from inside from b.from-is (λ z. b.if-level-eq0.false (c.level.ensures ∙ z)) inv.before inv.from_is inv.tag_is
+    ] in
+    let kept : (role : Role) (pair : ℕ × ℕ) → lists_have c.if-level-eq0.lists role pair ≡ pair_before find role 0 w p pair = elim c.if-level-eq0.branch [
+      | then-level-eq0+in_ok-begin_record b ↦ λ role pair. ap (λ lists. lists_have lists role pair) b.lists-is ∙ b.in_ok-begin_record.ensures role pair ∙ inv.told role pair
+      | else-level-eq0 b ↦ λ role pair. ap (λ lists. lists_have lists role pair) b.lists-is ∙ inv.told role pair
+    ] in
+    let last : p + 1 - 1 ≡ p = omega arith in
     record {
-      whole = whole_end w c.end_of_all-end.result c.end_of_all-end.ensures.run c.end_of_all-end.ensures.all;
-      run = c.end_of_all-end.ensures.run;
-      used = followed_start w (length c.args.records.now.types.now) _ (c.in_ok-used.ensures.items_if_clones_equal (λ y e. e)) c.new-targets.ensures.items refl c.requires.count;
-      told = λ role pair. pairs_start (place_in c.args.records.now.names.now) role _ w pair (lists_have c.args.none role pair) c.end_of_all-end.ensures.all (c.requires.none role pair);
+      used = c.in_ok-follow_link.ensures.used;
+      told = λ role pair.
+          c.in_ok-follow_link.ensures.links role pair
+          ∙ (λ i. ((level_at 0 w p == 1 && nat_eq pair.0 (is_in.place_is i)) && is_place (linked find role (is_in.tag_is i) (structure_at w p)) pair.1) || kept role pair i)
+          ∙ sym (pair_step find role 0 w p pair inside);
+      before = λ _. is_in.before;
+      from_is = λ _. is_in.place_is ∙ ap (record_place 0 w) (sym last);
+      tag_is = λ _. is_in.tag_is ∙ ap (record_tag w) (sym last);
     }
 
 pub returns-clause-used : goal.returns-clause-used
 returns-clause-used g c =
     let w = g.F.Forest.trees c.args.forest.now in
-    let inv = c.loop-after.invariant in
-    used_all w c.loop-after.place c.loop-after.followed.used.items (run_over w c.loop-after.place c.end_of_all-end.result inv.run c.in_default.ensures ∙ inv.whole) inv.used.marked
-
-pub returns-clause-found : goal.returns-clause-found
-returns-clause-found g c =
-    let w = g.F.Forest.trees c.args.forest.now in
-    let inv = c.loop-after.invariant in
-    dangles_all w c.loop-after.place (run_over w c.loop-after.place c.end_of_all-end.result inv.run c.in_default.ensures ∙ inv.whole) inv.used.found
+    let over : c.loop-place.place ≡ trees_count w = omega (arith, c.loop-place-test.false, c.loop-place.auto.place-end, c.size-place-end.ensures.count) in
+    used_all w c.loop-place.place c.loop-place.followed.used.items over c.loop-place.invariant.used.marked
 
 pub returns-clause-led : goal.returns-clause-led
 returns-clause-led g c =
     let w = g.F.Forest.trees c.args.forest.now in
-    let inv = c.loop-after.invariant in
-    let all = led_all w c.loop-after.place (run_over w c.loop-after.place c.end_of_all-end.result inv.run c.in_default.ensures ∙ inv.whole) in
+    let inv = c.loop-place.invariant in
+    let over : c.loop-place.place ≡ trees_count w = omega (arith, c.loop-place-test.false, c.loop-place.auto.place-end, c.size-place-end.ensures.count) in
+    let all = led_all w c.loop-place.place over in
     (λ is. all.0 (inv.used.led.0 is), λ led. inv.used.led.1 (all.1 led))
 
-pub loop-after-preserved : goal.loop-after-preserved
-loop-after-preserved g c =
+pub returns-clause-found : goal.returns-clause-found
+returns-clause-found g c =
     let w = g.F.Forest.trees c.args.forest.now in
-    let p = c.loop-after.place in
-    let e = c.end_of_all-end.result in
-    let a = c.in-Some.after in
-    let inv = c.loop-after.invariant in
-    let step : IsStep w p e a = c.in-Some.ensures in
-    record {
-      whole = inv.whole;
-      run = step.rest;
-      used = c.in_ok-follow_record.ensures.used;
-      told = λ role pair. pairs_more (place_in c.args.records.now.names.now) role p a (trees_between w p e) (structure_at w p) (trees_between w (p + 1) a) (trees_between w a e) pair (lists_have c.loop-after.lists role pair) (lists_have c.follow_record.new.lists role pair) step.first step.below.fills (c.in_ok-follow_record.ensures.links role pair) ∙ inv.told role pair;
-    }
+    let over : c.loop-place.place ≡ trees_count w = omega (arith, c.loop-place-test.false, c.loop-place.auto.place-end, c.size-place-end.ensures.count) in
+    dangles_all w c.loop-place.place over c.loop-place.invariant.used.found
 
 pub returns-clause-links : goal.returns-clause-links
 returns-clause-links g c role pair =
     let w = g.F.Forest.trees c.args.forest.now in
-    pairs_all (place_in c.args.records.now.names.now) role c.loop-after.place (trees_between w c.loop-after.place c.end_of_all-end.result) pair (lists_have c.loop-after.lists role pair) c.in_default.ensures ∙ c.loop-after.invariant.told role pair
-
-pub follow_record-requires-clause-distinct : goal.follow_record-requires-clause-distinct
-follow_record-requires-clause-distinct g c = c.requires.distinct
-
-pub returns-clause-fault : goal.returns-clause-fault
-returns-clause-fault g c = tt
-
-pub returns-clause-targets : goal.returns-clause-targets
-returns-clause-targets g c = c.loop-after.invariant.used.told
-
-pub next_in_run-requires : goal.next_in_run-requires
-next_in_run-requires g c = record { run = c.loop-after.invariant.run }
-
-pub follow_record-requires-clause-from : goal.follow_record-requires-clause-from
-follow_record-requires-clause-from g c = c.in-Some.ensures.within
-
-pub follow_record-requires-clause-end : goal.follow_record-requires-clause-end
-follow_record-requires-clause-end g c = subst (λ (n : ℕ). c.in-Some.after ≤ n) c.loop-after.invariant.whole c.in-Some.ensures.room
-
-pub follow_record-requires-clause-run : goal.follow_record-requires-clause-run
-follow_record-requires-clause-run g c = c.in-Some.ensures.below
-
-pub follow_record-requires-clause-records : goal.follow_record-requires-clause-records
-follow_record-requires-clause-records g c = c.requires.records
-
-pub follow_record-requires-clause-used : goal.follow_record-requires-clause-used
-follow_record-requires-clause-used g c = c.loop-after.invariant.used
-
-pub loop-after-smaller : goal.loop-after-smaller
-loop-after-smaller g c = nearer c.loop-after.place c.in-Some.after c.end_of_all-end.result c.in-Some.ensures.forth c.in-Some.ensures.room
+    let all : trees_count w ≤ c.loop-place.place = omega (arith, c.loop-place-test.false, c.size-place-end.ensures.count) in
+    c.loop-place.invariant.told role pair ∙ pair_all (place_in c.args.records.now.names.now) role 0 w c.loop-place.place pair all

@@ -1,22 +1,20 @@
-use Rattle.std.proofs.Common.{◌-◌, ◌≡◌, ℕ, ◌||◌}
-use Rattle.ged_tree.specs.Trees.{trees_count}
-use Rattle.ged_tree.specs.Runs.{trees_between, IsRunOfTrees}
+use Rattle.std.proofs.Common.{◌≡◌, ℕ, ◌<◌, ◌-◌}
+use Rattle.ged_tree.specs.Places.{structure_at}
 use Rattle.ged_link.specs.Indexes.{place_in}
-use Rattle.ged_link.specs.inner.LinkWalks.{has_pair}
 use Rattle.ged_link.specs.inner.PairSets.{lists_have}
 use Rattle.ged_link.specs.inner.Resolving.{AreFollowed}
 use Rattle.ged_link.specs.declared.pairs.Role.{Role}
+use Rattle.ged_link.proofs.LevelWalks.{pair_before, record_place, record_tag}
 use Rattle.ged_link.proofs.pointers.follow_pointers.Given as goal
 
-abbrev pub invariant-loop-after : goal.invariant-loop-after
-invariant-loop-after g l =
+-- the pointers before the place are followed, and it is known in which record the one before the place stands
+abbrev pub invariant-loop-place : goal.invariant-loop-place
+invariant-loop-place g l =
     let trees = g.F.Forest.trees l.forest in
     record {
-      whole : l.end ≡ trees_count trees;
-      run : IsRunOfTrees trees l.place l.end;
       used : AreFollowed trees l.place l.followed;
-      told : (role : Role) (pair : ℕ × ℕ) → (has_pair (place_in l.records.names.now) role l.place (trees_between trees l.place l.end) pair || lists_have l.lists role pair) ≡ has_pair (place_in l.records.names.now) role 0 trees pair;
+      told : (role : Role) (pair : ℕ × ℕ) → lists_have l.lists role pair ≡ pair_before (place_in l.records.names.now) role 0 trees l.place pair;
+      before : 0 < l.place → l.from < l.place;
+      from_is : 0 < l.place → l.from ≡ record_place 0 trees (l.place - 1);
+      tag_is : 0 < l.place → (structure_at trees l.from).tag ≡ record_tag trees (l.place - 1);
     }
-
-abbrev pub decreases-loop-after : goal.decreases-loop-after
-decreases-loop-after g l = l.end - l.place
