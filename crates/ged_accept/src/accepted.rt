@@ -17,7 +17,7 @@ use crate::readers::Readers;
 use ged_faults::{Fault, FileFault};
 use ged_link::{Index, LinkFault, resolve_with};
 use ged_schema::{Coverage, LineWalk, Profile, check_walked};
-use ged_tree::{BuildFault, Flat, LineReader, flatten_with};
+use ged_tree::{BuildFault, Flat, LineReader, flatten_text_with, flatten_with};
 use std::alloc::{AllocError, Global};
 use std::marker::Model;
 
@@ -83,6 +83,21 @@ pub fn accept(alloc: Global, profile: Profile, bytes: &[u8]) -> Result<Accepted<
         return Err(Fault::Memory(AllocError));
     };
     match flatten_with(alloc, bytes, &mut readers) {
+        Ok(flat) => accept_table(alloc, profile, flat, readers),
+        Err(fault) => Err(told_of_lines(fault)),
+    }
+}
+
+/// What [`accept`] answers, of a file whose bytes are known to be UTF-8, so that they are not validated once more. Grows as [`accept`] does
+/// (FamilySearch GEDCOM 7.0, "Lines", "Structures" and "Data types").
+pub fn accept_text(alloc: Global, profile: Profile, file: &str) -> Result<Accepted<'_>, Fault>
+    ensures accepted { IfOk result (λ accepted. IsAccepted profile file.now accepted) }
+    ensures refused { IfErr result (IsRefusal (FileFaultAt profile file.now)) }
+{
+    let Ok(mut readers) = Readers::new(alloc) else {
+        return Err(Fault::Memory(AllocError));
+    };
+    match flatten_text_with(alloc, file, &mut readers) {
         Ok(flat) => accept_table(alloc, profile, flat, readers),
         Err(fault) => Err(told_of_lines(fault)),
     }

@@ -9,7 +9,7 @@ mod noticed;
 mod readers;
 mod show;
 
-pub use accepted::{Accepted, accept};
+pub use accepted::{Accepted, accept, accept_text};
 pub use laws::{
     accepted_is_faultless, accepted_or_faulty, lines_from_one, one_accepted, one_file_fault,
     one_list_of_notices, one_verdict, strict_refuses_notices,

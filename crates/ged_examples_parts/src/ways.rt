@@ -4,21 +4,29 @@ use crate::trees::say_build_fault;
 use ged_document::{Document, build, document_of, to_lines};
 use ged_examples_answers::Answer;
 use ged_line::{Lines, read_lines};
-use ged_tree::{BuildFault, Flat, Forest, flatten};
+use ged_schema::LineWalk;
+use ged_tree::{BuildFault, Flat, Forest, flatten, flatten_text_with};
 use std::alloc::Global;
+use std::str;
 
 /// How many structures a file has or its fault, behind the name of each way that tells another answer.
 pub(crate) fn say_each_way(alloc: Global, file: &[u8], answer: &mut Answer) {
     if let Some(lines) = answer.given(read_lines(alloc, file)) {
         match flatten(alloc, file) {
-            Ok(flat) => say_of_accepted(alloc, &lines, &flat, answer),
-            Err(fault) => say_of_refused(alloc, &lines, &fault, answer),
+            Ok(flat) => say_of_accepted(alloc, file, &lines, &flat, answer),
+            Err(fault) => say_of_refused(alloc, file, &lines, &fault, answer),
         }
     }
 }
 
-/// The fault of a file, behind `build` where its lines do not have the same.
-fn say_of_refused(alloc: Global, lines: &Lines, fault: &BuildFault, answer: &mut Answer) {
+/// The fault of a file, behind the name of each other way that tells another answer.
+fn say_of_refused(
+    alloc: Global,
+    file: &[u8],
+    lines: &Lines,
+    fault: &BuildFault,
+    answer: &mut Answer,
+) {
     let mut told = Answer::new(alloc);
     match build(alloc, lines) {
         Ok(_) => told.say("a document"),
@@ -29,13 +37,21 @@ fn say_of_refused(alloc: Global, lines: &Lines, fault: &BuildFault, answer: &mut
     if told.differs(&wanted) {
         answer.say("build, ");
     }
+    compare_as_text(alloc, file, &wanted, answer);
     answer.append(&wanted);
 }
 
 /// How many structures a table has, behind the name of each way that tells another document.
-fn say_of_accepted(alloc: Global, lines: &Lines, flat: &Flat<'_>, answer: &mut Answer) {
+fn say_of_accepted(
+    alloc: Global,
+    file: &[u8],
+    lines: &Lines,
+    flat: &Flat<'_>,
+    answer: &mut Answer,
+) {
     let mut told = Answer::new(alloc);
     say_forest(flat, &mut told);
+    compare_as_text(alloc, file, &told, answer);
     if let Some(copy) = answer.given(document_of(alloc, flat)) {
         compare(alloc, "document_of, ", &copy, &told, answer);
     }
@@ -73,5 +89,20 @@ fn compare(alloc: Global, way: &str, document: &Document, told: &Answer, answer:
     say_forest(document, &mut other);
     if other.differs(told) {
         answer.say(way);
+    }
+}
+
+/// Names `flatten_text_with` where it does not tell of a file that is a text what `flatten` told.
+fn compare_as_text(alloc: Global, file: &[u8], told: &Answer, answer: &mut Answer) {
+    let Ok(text) = str::from_utf8(file) else {
+        return;
+    };
+    let mut other = Answer::new(alloc);
+    match flatten_text_with(alloc, text, &mut LineWalk::new()) {
+        Ok(flat) => say_forest(&flat, &mut other),
+        Err(fault) => say_build_fault(&mut other, &fault),
+    }
+    if other.differs(told) {
+        answer.say("flatten_text_with, ");
     }
 }

@@ -34,10 +34,6 @@ level_least l (tree s b n) k h =
           omega (arith, at, level_least l n (k - 1 - trees_count b) (omega (arith, w.1, w.2)))
     ]
 
-or_false : (p : Bool) → (p || false) ≡ p
-or_false true = refl
-or_false false = refl
-
 or_moved : (p x y : Bool) → (p || (x || y)) ≡ (x || (p || y))
 or_moved true true y = refl
 or_moved true false y = refl

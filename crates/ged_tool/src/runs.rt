@@ -5,4 +5,5 @@ pub(crate) mod digest_line;
 pub(crate) mod one_file;
 pub(crate) mod told;
 pub(crate) mod two_files;
+pub(crate) mod whole_file;
 pub(crate) mod written;

@@ -30,5 +30,5 @@ pub use laws::places::{
 pub use laws::whole_files::document_or_fault_of_file;
 pub use payload::{Payload, TextLines};
 pub use table::flat::Flat;
-pub use table::flatten::{flatten, flatten_with};
+pub use table::flatten::{flatten, flatten_text_with, flatten_with};
 pub use table::line_reader::LineReader;

@@ -108,7 +108,7 @@ fn tag_at<F: Forest>(forest: &F, place: usize) -> &str
     ""
 }
 
-/// Whether the forest has all tags at hand. One that is very long, or stands behind a very long identifier, is read anew from its line
+/// Whether the forest has all tags at hand. One that is very long, or stands behind a very long identifier, is found anew in its line
 /// each time.
 fn are_at_hand<F: Forest>(forest: &F, siblings: &[RankedSibling]) -> bool
     requires { AllByRecursion (StandsRanked (F.trees forest.now)) siblings.now }

@@ -4,7 +4,9 @@ ghost use Rattle.sha2.specs.Sha256.{sha256};
 ghost use Rattle.ged_tool.specs.Settings.{profile_of, edition_of};
 ghost use Rattle.ged_accept.specs.Accepted.{FileFaultAt, IsRefusal};
 ghost use Rattle.ged_tool.specs.Digest.{IsDigest};
+ghost use Rattle.ged_tool.specs.inner.FileTexts.{file_bytes};
 
+use crate::calls::file_text::FileText;
 use crate::calls::spell::spell_form;
 use crate::comparison::Form;
 use crate::settings::Settings;
@@ -34,7 +36,19 @@ pub fn digest_as(alloc: Global, settings: Settings, bytes: &[u8]) -> Result<[u8;
     ensures digest { IfOk result (λ digest. IsDigest (profile_of settings) (edition_of settings) bytes.now digest) }
     ensures refused { IfErr result (IsRefusal (FileFaultAt (profile_of settings) bytes.now)) }
 {
-    match spell_form(alloc, settings, Form::Canonical, bytes) {
+    digest_of(alloc, settings, FileText::Bytes(bytes))
+}
+
+/// What [`digest_as`] answers, of a file that may be known to be a text. Grows.
+pub(crate) fn digest_of(
+    alloc: Global,
+    settings: Settings,
+    file: FileText<'_>,
+) -> Result<[u8; 32], Fault>
+    ensures digest { IfOk result (λ digest. IsDigest (profile_of settings) (edition_of settings) (file_bytes file.entry) digest) }
+    ensures refused { IfErr result (IsRefusal (FileFaultAt (profile_of settings) (file_bytes file.entry))) }
+{
+    match spell_form(alloc, settings, Form::Canonical, file) {
         Ok(form) => Ok(sha256_of(form.reader())),
         Err(fault) => Err(fault),
     }

@@ -4,8 +4,10 @@ ghost use Rattle.ged_tool.specs.Settings.{profile_of, edition_of};
 ghost use Rattle.ged_line.specs.Bytes.{Bytes};
 ghost use Rattle.ged_accept.specs.Accepted.{FileFaultAt, IsRefusal};
 ghost use Rattle.ged_tool.specs.Same.{AreCompared, AreComparedBy, IsInForm, IsSameRefusal, relation_of};
+ghost use Rattle.ged_tool.specs.inner.FileTexts.{file_bytes};
 
-use crate::calls::accept::accept_as;
+use crate::calls::accept::accept_file;
+use crate::calls::file_text::FileText;
 use crate::calls::spell::spell_form;
 use crate::comparison::{Comparison, Form};
 use crate::settings::Settings;
@@ -69,10 +71,29 @@ pub fn same_by(
         (relation_of comparison.form (edition_of comparison.settings)) first.now second.now) }
     ensures refused { IfErr result (λ at. IsSameRefusal (profile_of comparison.settings) first.now second.now at.which at.fault) }
 {
-    if are_equal(first, second) {
+    same_files(
+        alloc,
+        comparison,
+        FileText::Bytes(first),
+        FileText::Bytes(second),
+    )
+}
+
+/// What [`same_by`] answers, of files that may be known to be texts. Grows.
+pub(crate) fn same_files(
+    alloc: Global,
+    comparison: Comparison,
+    first: FileText<'_>,
+    second: FileText<'_>,
+) -> Result<bool, SameFault>
+    ensures compared { IfOk result (AreComparedBy (profile_of comparison.settings)
+        (relation_of comparison.form (edition_of comparison.settings)) (file_bytes first.entry) (file_bytes second.entry)) }
+    ensures refused { IfErr result (λ at. IsSameRefusal (profile_of comparison.settings) (file_bytes first.entry) (file_bytes second.entry) at.which at.fault) }
+{
+    if are_equal(first.bytes(), second.bytes()) {
         return is_as_its_copy(alloc, comparison, first);
     }
-    if may_be_form_of(first, second) {
+    if may_be_form_of(first.bytes(), second.bytes()) {
         return compare_to_second(alloc, comparison, first, second);
     }
     compare_to_first(alloc, comparison, first, second)
@@ -105,13 +126,13 @@ fn form_of(
     alloc: Global,
     comparison: Comparison,
     which: Which,
-    bytes: &[u8],
+    file: FileText<'_>,
 ) -> Result<SpelledForm<'_>, SameFault>
-    ensures form { IfOk result (λ text. IsInForm comparison.form (profile_of comparison.settings) (edition_of comparison.settings) bytes.now text) }
+    ensures form { IfOk result (λ text. IsInForm comparison.form (profile_of comparison.settings) (edition_of comparison.settings) (file_bytes file.entry) text) }
     ensures which { IfErr result (λ at. at.which ≡ which) }
-    ensures fault { IfErr result (λ at. IsRefusal (FileFaultAt (profile_of comparison.settings) bytes.now) at.fault) }
+    ensures fault { IfErr result (λ at. IsRefusal (FileFaultAt (profile_of comparison.settings) (file_bytes file.entry)) at.fault) }
 {
-    match spell_form(alloc, comparison.settings, comparison.form, bytes) {
+    match spell_form(alloc, comparison.settings, comparison.form, file) {
         Ok(form) => Ok(form),
         Err(fault) => Err(SameFault { which, fault }),
     }
@@ -122,18 +143,18 @@ fn form_of(
 fn compare_to_first(
     alloc: Global,
     comparison: Comparison,
-    first: &[u8],
-    second: &[u8],
+    first: FileText<'_>,
+    second: FileText<'_>,
 ) -> Result<bool, SameFault>
     ensures compared { IfOk result (AreComparedBy (profile_of comparison.settings)
-        (relation_of comparison.form (edition_of comparison.settings)) first.now second.now) }
-    ensures refused { IfErr result (λ at. IsSameRefusal (profile_of comparison.settings) first.now second.now at.which at.fault) }
+        (relation_of comparison.form (edition_of comparison.settings)) (file_bytes first.entry) (file_bytes second.entry)) }
+    ensures refused { IfErr result (λ at. IsSameRefusal (profile_of comparison.settings) (file_bytes first.entry) (file_bytes second.entry) at.which at.fault) }
 {
     let first_form = match form_of(alloc, comparison, Which::First, first) {
         Ok(form) => form,
         Err(at) => return Err(at),
     };
-    if is_spelled(&first_form, second) {
+    if is_spelled(&first_form, second.bytes()) {
         return Ok(true);
     }
     let second_form = match form_of(alloc, comparison, Which::Second, second) {
@@ -147,18 +168,18 @@ fn compare_to_first(
 fn compare_to_second(
     alloc: Global,
     comparison: Comparison,
-    first: &[u8],
-    second: &[u8],
+    first: FileText<'_>,
+    second: FileText<'_>,
 ) -> Result<bool, SameFault>
     ensures compared { IfOk result (AreComparedBy (profile_of comparison.settings)
-        (relation_of comparison.form (edition_of comparison.settings)) first.now second.now) }
-    ensures refused { IfErr result (λ at. IsSameRefusal (profile_of comparison.settings) first.now second.now at.which at.fault) }
+        (relation_of comparison.form (edition_of comparison.settings)) (file_bytes first.entry) (file_bytes second.entry)) }
+    ensures refused { IfErr result (λ at. IsSameRefusal (profile_of comparison.settings) (file_bytes first.entry) (file_bytes second.entry) at.which at.fault) }
 {
     let second_form = match form_of(alloc, comparison, Which::Second, second) {
         Ok(form) => form,
         Err(at) => return Err(told_before(alloc, comparison.settings, first, at)),
     };
-    if is_spelled(&second_form, first) {
+    if is_spelled(&second_form, first.bytes()) {
         return Ok(true);
     }
     let first_form = match form_of(alloc, comparison, Which::First, first) {
@@ -169,11 +190,16 @@ fn compare_to_second(
 }
 
 /// Which fault is told where the second file has one: that of the first, if it has one too.
-fn told_before(alloc: Global, settings: Settings, first: &[u8], second: SameFault) -> SameFault
+fn told_before(
+    alloc: Global,
+    settings: Settings,
+    first: FileText<'_>,
+    second: SameFault,
+) -> SameFault
     ensures { (bytes : Bytes) → second.which ≡ Which.Second → IsRefusal (FileFaultAt (profile_of settings) bytes) second.fault
-        → IsSameRefusal (profile_of settings) first.now bytes result.which result.fault }
+        → IsSameRefusal (profile_of settings) (file_bytes first.entry) bytes result.which result.fault }
 {
-    match accept_as(alloc, settings, first) {
+    match accept_file(alloc, settings, first) {
         Ok(_) => second,
         Err(fault) => fault_of(Which::First, fault),
     }
@@ -181,12 +207,16 @@ fn told_before(alloc: Global, settings: Settings, first: &[u8], second: SameFaul
 
 /// What [`same_by`] answers for a file and a copy of it: they are the same where the file is accepted, so neither is put into
 /// the form.
-fn is_as_its_copy(alloc: Global, comparison: Comparison, bytes: &[u8]) -> Result<bool, SameFault>
+fn is_as_its_copy(
+    alloc: Global,
+    comparison: Comparison,
+    file: FileText<'_>,
+) -> Result<bool, SameFault>
     ensures compared { IfOk result (AreComparedBy (profile_of comparison.settings)
-        (relation_of comparison.form (edition_of comparison.settings)) bytes.now bytes.now) }
-    ensures refused { IfErr result (λ at. IsSameRefusal (profile_of comparison.settings) bytes.now bytes.now at.which at.fault) }
+        (relation_of comparison.form (edition_of comparison.settings)) (file_bytes file.entry) (file_bytes file.entry)) }
+    ensures refused { IfErr result (λ at. IsSameRefusal (profile_of comparison.settings) (file_bytes file.entry) (file_bytes file.entry) at.which at.fault) }
 {
-    match accept_as(alloc, comparison.settings, bytes) {
+    match accept_file(alloc, comparison.settings, file) {
         Ok(_) => Ok(true),
         Err(fault) => Err(fault_of(Which::First, fault)),
     }

@@ -3,9 +3,11 @@ ghost use Rattle.std.specs.Prelude.{◌≡◌, IfOk, IfErr, MatchResult, alloc_e
 ghost use Rattle.ged_tool.specs.Settings.{profile_of, edition_of};
 ghost use Rattle.ged_accept.specs.Accepted.{FileFaultAt, IsRefusal};
 ghost use Rattle.ged_tool.specs.Same.{IsInForm};
+ghost use Rattle.ged_tool.specs.inner.FileTexts.{file_bytes};
 ghost use Rattle.ged_tool.specs.inner.Forms.{IsFormOf};
 
-use crate::calls::accept::accept_as;
+use crate::calls::accept::accept_file;
+use crate::calls::file_text::FileText;
 use crate::calls::made::made_or_memory;
 use crate::comparison::Form;
 use crate::settings::Settings;
@@ -21,15 +23,21 @@ pub(crate) fn spell_form(
     alloc: Global,
     settings: Settings,
     form: Form,
-    bytes: &[u8],
+    file: FileText<'_>,
 ) -> Result<SpelledForm<'_>, Fault>
     ensures { MatchResult result
-        (λ text. IsInForm form (profile_of settings) (edition_of settings) bytes.now text)
-        (IsRefusal (FileFaultAt (profile_of settings) bytes.now)) }
+        (λ text. IsInForm form (profile_of settings) (edition_of settings) (file_bytes file.entry) text)
+        (IsRefusal (FileFaultAt (profile_of settings) (file_bytes file.entry))) }
 {
-    match accept_as(alloc, settings, bytes) {
+    match accept_file(alloc, settings, file) {
         Ok(accepted) => {
-            spell_accepted(alloc, settings.edition, form, &accepted, behind_mark(bytes))
+            spell_accepted(
+                alloc,
+                settings.edition,
+                form,
+                &accepted,
+                behind_mark(file.bytes()),
+            )
         }
         Err(fault) => Err(fault),
     }
@@ -64,7 +72,7 @@ pub(crate) fn bytes_in_form(
         (λ text. IsInForm form (profile_of settings) (edition_of settings) bytes.now text.items)
         (IsRefusal (FileFaultAt (profile_of settings) bytes.now)) }
 {
-    match spell_form(alloc, settings, form, bytes) {
+    match spell_form(alloc, settings, form, FileText::Bytes(bytes)) {
         Ok(spelled) => made_or_memory(spelled.into_bytes(alloc)),
         Err(fault) => Err(fault),
     }

@@ -3,9 +3,11 @@ ghost use Rattle.std.specs.Prelude.{MatchResult};
 ghost use Rattle.ged_tool.specs.Settings.{profile_of, edition_of};
 ghost use Rattle.ged_accept.specs.Accepted.{IsRefusal};
 ghost use Rattle.ged_tool.specs.Answers.{Answers, FaultAt};
+ghost use Rattle.ged_tool.specs.inner.FileTexts.{file_bytes};
 
-use crate::calls::accept::accept_as;
+use crate::calls::accept::accept_file;
 use crate::calls::canonicalise::canonicalise_as;
+use crate::calls::file_text::FileText;
 use crate::calls::made::made_or_memory;
 use crate::calls::tidy::tidy_as;
 use crate::settings::Settings;
@@ -45,12 +47,25 @@ pub fn answer(
     ensures { MatchResult result (λ text. Answers (profile_of settings) (edition_of settings) command bytes.now text.items)
         (IsRefusal (FaultAt (profile_of settings) command bytes.now)) }
 {
+    answer_file(alloc, settings, command, FileText::Bytes(bytes))
+}
+
+/// The same of a file that may be known to be a text.
+pub(crate) fn answer_file(
+    alloc: Global,
+    settings: Settings,
+    command: Command,
+    file: FileText<'_>,
+) -> Result<Vec<u8>, Fault>
+    ensures { MatchResult result (λ text. Answers (profile_of settings) (edition_of settings) command (file_bytes file.entry) text.items)
+        (IsRefusal (FaultAt (profile_of settings) command (file_bytes file.entry))) }
+{
     match command {
-        Command::Lines => answer_lines(alloc, bytes),
-        Command::Check => answer_check(alloc, settings, bytes),
-        Command::Show => answer_show(alloc, settings, bytes),
-        Command::Canon => canonicalise_as(alloc, settings, bytes),
-        Command::Tidy => tidy_as(alloc, settings, bytes),
+        Command::Lines => answer_lines(alloc, file.bytes()),
+        Command::Check => answer_check(alloc, settings, file),
+        Command::Show => answer_show(alloc, settings, file),
+        Command::Canon => canonicalise_as(alloc, settings, file.bytes()),
+        Command::Tidy => tidy_as(alloc, settings, file.bytes()),
     }
 }
 
@@ -61,21 +76,21 @@ fn answer_lines(alloc: Global, bytes: &[u8]) -> Result<Vec<u8>, Fault>
     Ok(respell_lines(alloc, bytes)?)
 }
 
-fn answer_check(alloc: Global, settings: Settings, bytes: &[u8]) -> Result<Vec<u8>, Fault>
-    ensures { MatchResult result (λ text. Answers (profile_of settings) (edition_of settings) Command.Check bytes.now text.items)
-        (IsRefusal (FaultAt (profile_of settings) Command.Check bytes.now)) }
+fn answer_check(alloc: Global, settings: Settings, file: FileText<'_>) -> Result<Vec<u8>, Fault>
+    ensures { MatchResult result (λ text. Answers (profile_of settings) (edition_of settings) Command.Check (file_bytes file.entry) text.items)
+        (IsRefusal (FaultAt (profile_of settings) Command.Check (file_bytes file.entry))) }
 {
-    match accept_as(alloc, settings, bytes) {
+    match accept_file(alloc, settings, file) {
         Ok(accepted) => made_or_memory(verdict(alloc, &accepted)),
         Err(fault) => Err(fault),
     }
 }
 
-fn answer_show(alloc: Global, settings: Settings, bytes: &[u8]) -> Result<Vec<u8>, Fault>
-    ensures { MatchResult result (λ text. Answers (profile_of settings) (edition_of settings) Command.Show bytes.now text.items)
-        (IsRefusal (FaultAt (profile_of settings) Command.Show bytes.now)) }
+fn answer_show(alloc: Global, settings: Settings, file: FileText<'_>) -> Result<Vec<u8>, Fault>
+    ensures { MatchResult result (λ text. Answers (profile_of settings) (edition_of settings) Command.Show (file_bytes file.entry) text.items)
+        (IsRefusal (FaultAt (profile_of settings) Command.Show (file_bytes file.entry))) }
 {
-    match accept_as(alloc, settings, bytes) {
+    match accept_file(alloc, settings, file) {
         Ok(accepted) => made_or_memory(show_text(alloc, &accepted)),
         Err(fault) => Err(fault),
     }

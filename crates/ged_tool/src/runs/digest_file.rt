@@ -5,12 +5,14 @@ ghost use Rattle.ged_tool.specs.Settings.{profile_of, edition_of};
 ghost use Rattle.ged_tool.specs.RunDevices.{TellsDevices};
 ghost use Rattle.ged_accept.specs.Accepted.{FileFaultAt, IsRefusal};
 ghost use Rattle.ged_tool.specs.DigestRun.{IsKeptDigestRun, TellsDigest};
+ghost use Rattle.ged_tool.specs.inner.FileTexts.{file_bytes};
 
-use crate::calls::digest::digest_as;
+use crate::calls::digest::digest_of;
+use crate::calls::file_text::FileText;
 use crate::calls::made::made_or_memory;
 use crate::runs::digest_line::digest_line;
-use crate::runs::one_file::read_whole;
 use crate::runs::told::{Told, told_with, told_without};
+use crate::runs::whole_file::{Validation, read_whole};
 use crate::settings::Settings;
 use ged_devices::{Failed, Sink, Source, write_whole};
 use ged_faults::{Fault, Outcome};
@@ -42,29 +44,34 @@ pub fn run_digest<R: Source, W: Sink>(
         (W.taken writer.old) (W.taken writer.new) result.outcome result.bytes.items }
     ensures fate { W.fate writer.new ≡ W.fate writer.old }
 {
-    let bytes = match read_whole(alloc, limit, reader) {
-        Ok(bytes) => bytes,
+    let file = match read_whole(alloc, limit, Validation::AsItComes, reader) {
+        Ok(file) => file,
         Err(fault) => return told_without(alloc, Outcome::Failed { which: None, fault }),
     };
-    let line = match line_of(alloc, settings, name, &bytes) {
+    let line = match line_of(alloc, settings, name, file.text()) {
         Ok(line) => line,
-        Err(fault) => return told_with(fault, bytes),
+        Err(fault) => return told_with(fault, file.into_bytes()),
     };
     match write_whole(writer, &line) {
         Ok(()) => Told {
             outcome: Outcome::Done,
-            bytes,
+            bytes: file.into_bytes(),
         },
-        Err(Failed) => told_with(Fault::WriteFailed, bytes),
+        Err(Failed) => told_with(Fault::WriteFailed, file.into_bytes()),
     }
 }
 
 /// The line that tells the digest of a file, or why there is none: a fault of the file, or want of memory.
-fn line_of(alloc: Global, settings: Settings, name: &str, bytes: &[u8]) -> Result<Vec<u8>, Fault>
-    ensures { MatchResult result (λ line. TellsDigest (profile_of settings) (edition_of settings) name.now bytes.now line.items)
-        (IsRefusal (FileFaultAt (profile_of settings) bytes.now)) }
+fn line_of(
+    alloc: Global,
+    settings: Settings,
+    name: &str,
+    file: FileText<'_>,
+) -> Result<Vec<u8>, Fault>
+    ensures { MatchResult result (λ line. TellsDigest (profile_of settings) (edition_of settings) name.now (file_bytes file.entry) line.items)
+        (IsRefusal (FileFaultAt (profile_of settings) (file_bytes file.entry))) }
 {
-    let digest = match digest_as(alloc, settings, bytes) {
+    let digest = match digest_of(alloc, settings, file) {
         Ok(digest) => digest,
         Err(fault) => return Err(fault),
     };

@@ -11,13 +11,22 @@ ghost use Rattle.ged_tool.specs.inner.Steps.{StopsReading};
 
 use crate::runs::answer::Command;
 use crate::runs::told::{Told, told_with, told_without};
+use crate::runs::whole_file::{Validation, read_whole};
 use crate::runs::written::write_answer;
 use crate::settings::Settings;
 use ged_canon::Edition;
-use ged_devices::{Failed, Sink, Source};
-use ged_faults::{Fault, Outcome};
+use ged_devices::{Sink, Source};
+use ged_faults::Outcome;
 use ged_schema::Profile;
-use std::alloc::{AllocError, Global};
+use std::alloc::Global;
+
+/// What looks at lines alone validates them in blocks; every other command wants the whole file as a text.
+fn validation_for(command: Command) -> Validation {
+    match command {
+        Command::Lines => Validation::Later,
+        _ => Validation::AsItComes,
+    }
+}
 
 /// What [`run_as`] does under the lenient profile, under which a notice refuses nothing, and in the first edition.
 pub fn run<R: Source, W: Sink>(
@@ -93,70 +102,15 @@ pub fn run_told<R: Source, W: Sink>(
         (W.taken writer.old) (W.taken writer.new) result.outcome result.bytes.items }
     ensures fate { W.fate writer.new ≡ W.fate writer.old }
 {
-    let bytes = match read_whole(alloc, limit, reader) {
-        Ok(bytes) => bytes,
+    let file = match read_whole(alloc, limit, validation_for(command), reader) {
+        Ok(file) => file,
         Err(fault) => return told_without(alloc, Outcome::Failed { which: None, fault }),
     };
-    match write_answer(alloc, settings, command, &bytes, writer) {
+    match write_answer(alloc, settings, command, file.text(), writer) {
         Ok(()) => Told {
             outcome: Outcome::Done,
-            bytes,
+            bytes: file.into_bytes(),
         },
-        Err(fault) => told_with(fault, bytes),
+        Err(fault) => told_with(fault, file.into_bytes()),
     }
-}
-
-/// The whole file: reads to the reader's end, or until more than the limit came.
-pub(crate) fn read_whole<R: Source>(
-    alloc: Global,
-    limit: u64,
-    reader: &mut R,
-) -> Result<Vec<u8>, Fault>
-    requires limit { limit ≤ greatest_limit }
-    requires unread { R.reads reader.old ≡ 0 }
-    requires no_failure { R.failed reader.old ≡ false }
-    ensures calls { R.reads reader.new ≤ limit + 1 }
-    ensures once_at_the_end { IfOk result (λ bytes. R.reads reader.new ≤ vec_len bytes + 1) }
-    ensures read_failed { IsTrue (R.failed reader.new) ↔ IsErrOf result Fault.ReadFailed }
-    ensures whole { IfOk result (λ bytes. IsWhole limit bytes.items (R.to_come reader.new)
-        × Consumes (R.to_come reader.old) (R.to_come reader.new) bytes.items) }
-    ensures stopped { IfErr result (λ fault. (came : Bytes)
-        × Consumes (R.to_come reader.old) (R.to_come reader.new) came
-        × StopsReading limit came fault) }
-{
-    let (mut bytes, mut chunk) = match make_room(alloc, reader.expected(), limit) {
-        Ok(room) => room,
-        Err(error) => return Err(Fault::Memory(error)),
-    };
-    for _ in 0..=limit {
-        let count = match reader.read(&mut chunk) {
-            Ok(count) => count,
-            Err(Failed) => return Err(Fault::ReadFailed),
-        };
-        if count == 0 {
-            return Ok(bytes);
-        }
-        if (bytes.len() + count) as u64 > limit {
-            return Err(Fault::TooLong);
-        }
-        if let Err(error) = bytes.extend_from_slice(&chunk[..count]) {
-            return Err(Fault::Memory(error));
-        }
-    }
-    Err(Fault::TooLong)
-}
-
-/// The most bytes that one call of read is asked for.
-const CHUNK: usize = 131072;
-
-/// An empty vector with room for the bytes that are thought to come, if these are no more than the limit, and room for one call of read.
-/// What came is copied from there, so that the vector that holds the file is never filled with zeros, and only as much of it is touched
-/// as came.
-fn make_room(alloc: Global, expected: u64, limit: u64) -> Result<(Vec<u8>, Vec<u8>), AllocError>
-    ensures { IfOk result (λ room. (room.0.items ≡ []) × (vec_len room.1 ≡ greatest_read)) }
-{
-    let first = if expected <= limit { expected } else { 0 };
-    let bytes = Vec::with_capacity(alloc, first as usize)?;
-    let chunk = vec![in alloc; 0; CHUNK]?;
-    Ok((bytes, chunk))
 }

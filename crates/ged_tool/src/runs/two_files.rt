@@ -8,10 +8,10 @@ ghost use Rattle.ged_tool.specs.SameRun.{IsSameRun, same_line as line_of_same};
 ghost use Rattle.ged_tool.specs.Kept.{IsKeptSameRunOf};
 ghost use Rattle.ged_tool.specs.inner.Steps.{of_which};
 
-use crate::calls::same::{SameFault, same_by};
+use crate::calls::same::{SameFault, same_files};
 use crate::comparison::{Comparison, Form};
-use crate::runs::one_file::read_whole;
 use crate::runs::told::{Told, told_without};
+use crate::runs::whole_file::{Validation, read_whole};
 use crate::settings::Settings;
 use ged_canon::Edition;
 use ged_devices::{Failed, Sink, Source, write_whole};
@@ -101,17 +101,17 @@ pub fn run_same_told<R: Source, S: Source, W: Sink>(
         (W.taken writer.old) (W.taken writer.new) result.outcome result.bytes.items }
     ensures fate { W.fate writer.new ≡ W.fate writer.old }
 {
-    let first_bytes = match read_whole(alloc, limit, first) {
-        Ok(bytes) => bytes,
+    let first_file = match read_whole(alloc, limit, Validation::AsItComes, first) {
+        Ok(file) => file,
         Err(fault) => return told_without(alloc, failed_at(Which::First, fault)),
     };
-    let second_bytes = match read_whole(alloc, limit, second) {
-        Ok(bytes) => bytes,
+    let second_file = match read_whole(alloc, limit, Validation::AsItComes, second) {
+        Ok(file) => file,
         Err(fault) => return told_without(alloc, failed_at(Which::Second, fault)),
     };
-    let same = match same_by(alloc, comparison, &first_bytes, &second_bytes) {
+    let same = match same_files(alloc, comparison, first_file.text(), second_file.text()) {
         Ok(same) => same,
-        Err(at) => return told_of(at, first_bytes, second_bytes),
+        Err(at) => return told_of(at, first_file.into_bytes(), second_file.into_bytes()),
     };
     match write_whole(writer, same_line(same)) {
         Ok(()) if same => told_without(alloc, Outcome::Done),

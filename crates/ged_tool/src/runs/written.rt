@@ -8,12 +8,14 @@ ghost use Rattle.ged_tool.specs.Settings.{profile_of, edition_of};
 ghost use Rattle.ged_accept.specs.Accepted.{FileFaultAt};
 ghost use Rattle.ged_tool.specs.Answers.{Answers, FaultAt};
 ghost use Rattle.ged_tool.specs.Same.{IsInForm};
+ghost use Rattle.ged_tool.specs.inner.FileTexts.{file_bytes};
 ghost use Rattle.ged_tool.specs.inner.Steps.{IsWritten, StopsAnswering};
 
-use crate::calls::accept::accept_as;
+use crate::calls::accept::accept_file;
+use crate::calls::file_text::FileText;
 use crate::calls::spell::spell_form;
 use crate::comparison::Form;
-use crate::runs::answer::{Command, answer};
+use crate::runs::answer::{Command, answer_file};
 use crate::settings::Settings;
 use ged_accept::write_shown;
 use ged_canon::{Edition, FormReader};
@@ -31,23 +33,23 @@ pub(crate) fn write_answer<W: Sink>(
     alloc: Global,
     settings: Settings,
     command: Command,
-    bytes: &[u8],
+    file: FileText<'_>,
     writer: &mut W,
 ) -> Result<(), Fault>
     requires { W.failed writer.old ≡ false }
     ensures failed { IsTrue (W.failed writer.new) ↔ IsErrOf result Fault.WriteFailed }
-    ensures ok { OnOk result (IsWritten (Answers (profile_of settings) (edition_of settings) command bytes.now)
+    ensures ok { OnOk result (IsWritten (Answers (profile_of settings) (edition_of settings) command (file_bytes file.entry))
         (W.taken writer.old) (W.taken writer.new)) }
-    ensures err { IfErr result (λ fault. StopsAnswering (Answers (profile_of settings) (edition_of settings) command bytes.now)
-        (FaultAt (profile_of settings) command bytes.now) (W.taken writer.old) (W.taken writer.new) fault) }
+    ensures err { IfErr result (λ fault. StopsAnswering (Answers (profile_of settings) (edition_of settings) command (file_bytes file.entry))
+        (FaultAt (profile_of settings) command (file_bytes file.entry)) (W.taken writer.old) (W.taken writer.new) fault) }
     ensures fate { W.fate writer.new ≡ W.fate writer.old }
 {
     match command {
-        Command::Lines => write_lines(alloc, bytes, writer),
-        Command::Show => write_show(alloc, settings, bytes, writer),
-        Command::Canon => write_form(alloc, settings, Form::Canonical, bytes, writer),
-        Command::Tidy => write_form(alloc, settings, Form::Tidy, bytes, writer),
-        _ => write_text(alloc, settings, command, bytes, writer),
+        Command::Lines => write_lines(alloc, file.bytes(), writer),
+        Command::Show => write_show(alloc, settings, file, writer),
+        Command::Canon => write_form(alloc, settings, Form::Canonical, file, writer),
+        Command::Tidy => write_form(alloc, settings, Form::Tidy, file, writer),
+        _ => write_text(alloc, settings, command, file, writer),
     }
 }
 
@@ -56,18 +58,18 @@ fn write_text<W: Sink>(
     alloc: Global,
     settings: Settings,
     command: Command,
-    bytes: &[u8],
+    file: FileText<'_>,
     writer: &mut W,
 ) -> Result<(), Fault>
     requires { W.failed writer.old ≡ false }
     ensures failed { IsTrue (W.failed writer.new) ↔ IsErrOf result Fault.WriteFailed }
-    ensures ok { OnOk result (IsWritten (Answers (profile_of settings) (edition_of settings) command bytes.now)
+    ensures ok { OnOk result (IsWritten (Answers (profile_of settings) (edition_of settings) command (file_bytes file.entry))
         (W.taken writer.old) (W.taken writer.new)) }
-    ensures err { IfErr result (λ fault. StopsAnswering (Answers (profile_of settings) (edition_of settings) command bytes.now)
-        (FaultAt (profile_of settings) command bytes.now) (W.taken writer.old) (W.taken writer.new) fault) }
+    ensures err { IfErr result (λ fault. StopsAnswering (Answers (profile_of settings) (edition_of settings) command (file_bytes file.entry))
+        (FaultAt (profile_of settings) command (file_bytes file.entry)) (W.taken writer.old) (W.taken writer.new) fault) }
     ensures fate { W.fate writer.new ≡ W.fate writer.old }
 {
-    let text = match answer(alloc, settings, command, bytes) {
+    let text = match answer_file(alloc, settings, command, file) {
         Ok(text) => text,
         Err(fault) => return Err(fault),
     };
@@ -98,22 +100,22 @@ fn write_lines<W: Sink>(alloc: Global, bytes: &[u8], writer: &mut W) -> Result<(
 fn write_show<W: Sink>(
     alloc: Global,
     settings: Settings,
-    bytes: &[u8],
+    file: FileText<'_>,
     writer: &mut W,
 ) -> Result<(), Fault>
     requires { W.failed writer.old ≡ false }
     ensures failed { IsTrue (W.failed writer.new) ↔ IsErrOf result Fault.WriteFailed }
-    ensures ok { OnOk result (IsWritten (Answers (profile_of settings) (edition_of settings) Command.Show bytes.now)
+    ensures ok { OnOk result (IsWritten (Answers (profile_of settings) (edition_of settings) Command.Show (file_bytes file.entry))
         (W.taken writer.old) (W.taken writer.new)) }
-    ensures err { IfErr result (λ fault. StopsAnswering (Answers (profile_of settings) (edition_of settings) Command.Show bytes.now)
-        (FaultAt (profile_of settings) Command.Show bytes.now) (W.taken writer.old) (W.taken writer.new) fault) }
+    ensures err { IfErr result (λ fault. StopsAnswering (Answers (profile_of settings) (edition_of settings) Command.Show (file_bytes file.entry))
+        (FaultAt (profile_of settings) Command.Show (file_bytes file.entry)) (W.taken writer.old) (W.taken writer.new) fault) }
     ensures fate { W.fate writer.new ≡ W.fate writer.old }
 {
     let mut buffer = match Vec::with_capacity(alloc, BUFFER) {
         Ok(buffer) => buffer,
         Err(error) => return Err(Fault::Memory(error)),
     };
-    match accept_as(alloc, settings, bytes) {
+    match accept_file(alloc, settings, file) {
         Ok(accepted) => match write_shown(&accepted, &mut buffer, writer) {
             Ok(()) => Ok(()),
             Err(Failed) => Err(Fault::WriteFailed),
@@ -127,18 +129,18 @@ fn write_form<W: Sink>(
     alloc: Global,
     settings: Settings,
     form: Form,
-    bytes: &[u8],
+    file: FileText<'_>,
     writer: &mut W,
 ) -> Result<(), Fault>
     requires { W.failed writer.old ≡ false }
     ensures failed { IsTrue (W.failed writer.new) ↔ IsErrOf result Fault.WriteFailed }
-    ensures ok { OnOk result (IsWritten (IsInForm form (profile_of settings) (edition_of settings) bytes.now)
+    ensures ok { OnOk result (IsWritten (IsInForm form (profile_of settings) (edition_of settings) (file_bytes file.entry))
         (W.taken writer.old) (W.taken writer.new)) }
-    ensures err { IfErr result (λ fault. StopsAnswering (IsInForm form (profile_of settings) (edition_of settings) bytes.now)
-        (FileFaultAt (profile_of settings) bytes.now) (W.taken writer.old) (W.taken writer.new) fault) }
+    ensures err { IfErr result (λ fault. StopsAnswering (IsInForm form (profile_of settings) (edition_of settings) (file_bytes file.entry))
+        (FileFaultAt (profile_of settings) (file_bytes file.entry)) (W.taken writer.old) (W.taken writer.new) fault) }
     ensures fate { W.fate writer.new ≡ W.fate writer.old }
 {
-    let spelled = match spell_form(alloc, settings, form, bytes) {
+    let spelled = match spell_form(alloc, settings, form, file) {
         Ok(spelled) => spelled,
         Err(fault) => return Err(fault),
     };

@@ -1,3 +1,4 @@
+use Rattle.std.proofs.Common.{◌∙◌}
 use Rattle.ged_tool.proofs.calls.Forms.{are_compared, accepted_in_form, compared_to_form}
 use Rattle.ged_tool.proofs.calls.same.compare_to_first.Goals as goal
 
@@ -6,7 +7,7 @@ returns-in-Err-clause-refused c = rw c.in-Err.ensures.which c.in-Err.ensures.fau
 
 pub returns-then-is_spelled-clause-compared : goal.returns-then-is_spelled-clause-compared
 returns-then-is_spelled-clause-compared c =
-    let same = c.is_spelled.ensures.0 c.if-is_spelled.true in
+    let same = c.is_spelled.ensures.0 c.if-is_spelled.true ∙ c.bytes.ensures in
     rw (← same) (compared_to_form _ _ _ _ _ c.in-Ok.ensures.form)
 
 pub returns-in-Err-form_of-clause-refused : goal.returns-in-Err-form_of-clause-refused

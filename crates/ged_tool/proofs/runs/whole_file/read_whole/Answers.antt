@@ -1,11 +1,11 @@
 use Rattle.std.proofs.Common.{◌++◌, take, arith, length-append}
 use Rattle.std.proofs.KnownBytes.{Consumes-trans}
-use Rattle.ged_tool.proofs.runs.one_file.read_whole.Goals as goal
+use Rattle.ged_tool.proofs.runs.whole_file.read_whole.Goals as goal
 
 -- in both, what came is what is held and what the last call gave
 pub returns-then-len-count-clause-stopped : goal.returns-then-len-count-clause-stopped
 returns-then-len-count-clause-stopped g c =
-    let held = c.loop.bytes.items in
+    let held = c.loop.file.bytes.items in
     let gave = take c.in-Ok-read.count c.read.new.buf in
     let long = length-append held gave in (
       held ++ gave,
@@ -16,9 +16,9 @@ returns-then-len-count-clause-stopped g c =
       },
     )
 
-pub returns-in-Err-extend_from_slice-clause-stopped : goal.returns-in-Err-extend_from_slice-clause-stopped
-returns-in-Err-extend_from_slice-clause-stopped g c =
-    let held = c.loop.bytes.items in
+pub returns-in-Err-push-clause-stopped : goal.returns-in-Err-push-clause-stopped
+returns-in-Err-push-clause-stopped g c =
+    let held = c.loop.file.bytes.items in
     let gave = take c.in-Ok-read.count c.read.new.buf in
     let long = length-append held gave in (
       held ++ gave,

@@ -1,8 +1,8 @@
 use Rattle.std.proofs.Common.{rules}
-use Rattle.ged_tool.proofs.runs.answer.answer.Goals as goal
+use Rattle.ged_tool.proofs.runs.answer.answer_file.Goals as goal
 
 pub returns-in-Lines : goal.returns-in-Lines
-returns-in-Lines c = rw c.in-Lines.is c.answer_lines.ensures
+returns-in-Lines c = rw c.in-Lines.is (rw c.bytes.ensures at c.answer_lines.ensures)
 
 pub returns-in-Check : goal.returns-in-Check
 returns-in-Check c = rw c.in-Check.is c.answer_check.ensures

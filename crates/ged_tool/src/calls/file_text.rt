@@ -1,0 +1,21 @@
+// The bytes of a file, as a text where they are known to be one.
+ghost use Rattle.std.specs.Prelude.{◌≡◌};
+ghost use Rattle.ged_tool.specs.inner.FileTexts.{file_bytes};
+
+/// The bytes of a file. Where they are known to be UTF-8, no call need validate them.
+#[derive(Clone, Copy)]
+pub(crate) enum FileText<'a> {
+    Text(&'a str),
+    Bytes(&'a [u8]),
+}
+
+impl<'a> FileText<'a> {
+    pub(crate) fn bytes(self) -> &'a [u8]
+        ensures { result.now ≡ file_bytes self.entry }
+    {
+        match self {
+            FileText::Text(text) => text.as_bytes(),
+            FileText::Bytes(bytes) => bytes,
+        }
+    }
+}
