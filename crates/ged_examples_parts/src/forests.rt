@@ -82,6 +82,9 @@ pub(crate) fn say_own_lines<F: Forest>(forest: &F, answer: &mut Answer) {
 fn say_further<F: Forest>(forest: &F, place: usize, answer: &mut Answer)
     requires { place < trees_count (F.trees forest.now) }
 {
+    if forest.has_further(place) == (forest.further(place) == 0) {
+        answer.say(" and not so many lines");
+    }
     match forest.further_lines(place) {
         Some(further) => {
             for number in 0..further.count() {

@@ -103,7 +103,7 @@ fn is_text_right<F: Forest>(forest: &F, kind: Kind, line: &str, place: usize) ->
     if takes_any_text(kind) {
         return true;
     }
-    if forest.further(place) > 0 {
+    if forest.has_further(place) {
         return false;
     }
     if line.is_empty() && matches!(kind, Kind::Nothing | Kind::EventFlag) {

@@ -3,7 +3,7 @@ pub(crate) mod continuations;
 pub(crate) mod own_line;
 pub(crate) mod payload;
 
-ghost use Rattle.std.specs.Prelude.{◌≡◌, ◌<◌, Some, true, length, slice_get, MatchOption, IfSome};
+ghost use Rattle.std.specs.Prelude.{◌≡◌, ◌<◌, ◌↔◌, Some, true, IsTrue, length, slice_get, MatchOption, IfSome};
 ghost use Rattle.std.specs.Option.{option_copied};
 ghost use Rattle.ged_tree.specs.Trees.{Trees, none, trees_count, further_lines};
 ghost use Rattle.ged_tree.specs.Documents.{is_document};
@@ -73,6 +73,14 @@ pub trait Forest {
     fn further(&self, place: usize) -> usize
         requires { place < trees_count (trees self.now) }
         ensures { result ≡ length (further_lines (structure_at (trees self.now) place).payload) };
+
+    /// Whether the payload has lines past the first. A forest that tells it without counting them answers so.
+    fn has_further(&self, place: usize) -> bool
+        requires { place < trees_count (trees self.now) }
+        ensures { IsTrue result ↔ 0 < length (further_lines (structure_at (trees self.now) place).payload) }
+    {
+        self.further(place) > 0
+    }
 
     /// A line of the payload past the first, counted from 0.
     fn further_line(&self, place: usize, number: usize) -> &str

@@ -1,5 +1,6 @@
 -- What is read as a name is spelled so, and what is spelled so is read.
-use Rattle.std.proofs.Common.{◌≡◌, Bool, true, false, ◌&&◌, cond, [], ◌∷◌, ◌++◌, Option, Some, None, refl, sym, ap, subst, ◌∙◌, append-nil}
+use Rattle.std.proofs.Common.{◌≡◌, ℕ, ◌≤◌, ◌-◌, Bool, true, false, ◌&&◌, cond, [], ◌∷◌, ◌++◌, Option, Some, None, refl, sym, ap, subst, ◌∙◌, append-nil, arith, length, take, drop, slice_index_or, IsTrue}
+use Rattle.std.proofs.lemmas.List.{take_all}
 use Rattle.ged_value.specs.Words.{Bytes}
 use Rattle.ged_value.specs.inner.Cuts.{cut_at, marked}
 use Rattle.ged_value.specs.Names.{NameParts, plain, parts, is_name_part, NameText}
@@ -40,3 +41,32 @@ parts_found before (Some others) n h =
 
 pub name_found : (n : NameParts) (text : Bytes) → name_at text ≡ Some n → NameText n text
 name_found n text h = subst (NameText n) (sym (cut_joined 47 text)) (parts_found (cut_at 47 text).0 (cut_at 47 text).1 n h)
+
+-- ---- the quick test
+
+-- a part of a name at the front of bytes
+abbrev pub StartsNamed : Bytes → Bytes → Type 0
+StartsNamed bytes rest = (part : Bytes) × IsTrue (is_name_part part) × (bytes ≡ part ++ rest)
+
+-- behind the first of some bytes
+behind_first : (b : ℕ) (bs : Bytes) → take (length (b ∷ bs) - 1) (drop 1 (b ∷ bs)) ≡ bs
+behind_first b bs = take_all (length (b ∷ bs) - 1) bs (omega arith)
+
+pub one_byte_more : (bytes rest : Bytes) (is : Bool) → 1 ≤ length bytes → is ≡ true → is ≡ is_name_byte (slice_index_or bytes 0 0)
+    → StartsNamed (take (length bytes - 1) (drop 1 bytes)) rest → StartsNamed bytes rest
+one_byte_more [] rest is some so told behind = absurd (omega (arith, some))
+one_byte_more (b ∷ bs) rest is some so told (part, are, same) =
+    let first : is_name_byte b ≡ true = sym told ∙ so in
+    (b ∷ part, rw first are, ap (λ (more : Bytes). b ∷ more) (sym (behind_first b bs) ∙ same))
+
+pub without_surname : (bytes rest : Bytes) → StartsNamed bytes rest → length rest ≡ 0 → (name : NameParts) × NameText name bytes
+without_surname bytes [] (part, are, same) none = (plain part, (are, same ∙ append-nil part))
+without_surname bytes (b ∷ bs) (part, are, same) none = absurd (omega (arith, none))
+
+pub about_surname : (bytes rest : Bytes) → StartsNamed bytes rest → 1 ≤ length rest → slice_index_or rest 0 0 ≡ 47
+    → ((surname : Bytes) × (after : Bytes) × IsTrue (is_name_part surname) × IsTrue (is_name_part after) × (take (length rest - 1) (drop 1 rest) ≡ surname ++ (47 ∷ after)))
+    → (name : NameParts) × NameText name bytes
+about_surname bytes [] named some slash behind = absurd (omega (arith, some))
+about_surname bytes (b ∷ bs) (part, are, same) some slash (surname, after, first, second, told) =
+    let more : bs ≡ surname ++ (47 ∷ after) = sym (behind_first b bs) ∙ told in
+    (parts part surname after, (rw (are, first, second) refl, same ∙ ap (λ (more : Bytes). part ++ more) (ap (λ (x : ℕ). x ∷ bs) slash ∙ ap (λ (more : Bytes). 47 ∷ more) more)))

@@ -10,7 +10,7 @@ ghost use Rattle.ged_value.specs.Kinds.{IsVersion, FitsLine, Fits, kind_word, ta
 use crate::age::read_age;
 use crate::enumerations::{is_name_type, is_of_any_set, is_pedigree, is_sex, is_status};
 use crate::exact::read_exact_date;
-use crate::name::read_name;
+use crate::name::{is_plain_name, read_name};
 use crate::quick::{is_plain_exact, is_plain_value};
 use crate::quick_time::is_plain_time;
 use crate::restrictions::are_restrictions;
@@ -177,6 +177,13 @@ fn reads_name(text: &str) -> bool
     read_name(text).is_some()
 }
 
+/// Whether a text is the name of a person. Most pass the quick test.
+fn is_name(text: &str) -> bool
+    ensures { IsTrue result ↔ ((name : NameParts) × NameText name text.now) }
+{
+    is_plain_name(text) || reads_name(text)
+}
+
 /// Whether a text is a date value. Most pass the quick test.
 fn is_date_value(text: &str) -> bool
     ensures { IsTrue result ↔ ((value : ValueParts) × DateValueText value text.now) }
@@ -234,7 +241,7 @@ fn fits_line(kind: Kind, text: &str) -> bool
         Kind::DateExact => is_exact_date(text),
         Kind::Time => is_time(text),
         Kind::Age => reads_age(text),
-        Kind::Name => reads_name(text),
+        Kind::Name => is_name(text),
         Kind::EnumAny => is_of_any_set(text),
         Kind::SexEnum => is_sex(text) || is_extension_tag(text),
         Kind::PediEnum => is_pedigree(text) || is_extension_tag(text),

@@ -1,9 +1,10 @@
 // Names of persons.
-ghost use Rattle.std.specs.Prelude.{◌≡◌};
+ghost use Rattle.std.specs.Prelude.{◌≡◌, ◌++◌, ◌∷◌, IsTrue};
 ghost use Rattle.std.specs.List.{list_all};
 ghost use Rattle.std.specs.Option.{option_map};
 ghost use Rattle.ged_value.specs.Reading.{Reads};
-ghost use Rattle.ged_value.specs.Names.{NameText, is_name_part as tests_name_part};
+ghost use Rattle.ged_value.specs.Names.{NameParts, NameText, is_name_part as tests_name_part};
+ghost use Rattle.ged_value.specs.Words.{Bytes};
 ghost use Rattle.ged_value.specs.inner.NameReading.{is_name_byte as tests_name_byte, name_at as reads_name};
 ghost use Rattle.ged_value.specs.NameViews.{name_parts};
 
@@ -42,6 +43,37 @@ fn is_name_part(text: &str) -> bool
     ensures { result ≡ tests_name_part text.now }
 {
     are_name_bytes(text.as_bytes())
+}
+
+/// What stands behind the bytes at the front of a text that may all stand in one part of a name.
+fn behind_name_part(bytes: &[u8]) -> &[u8]
+    ensures { (part : Bytes) × IsTrue (tests_name_part part) × (bytes.now ≡ part ++ result.now) }
+{
+    match bytes {
+        [first, more @ ..] if is_name_byte(*first) => behind_name_part(more),
+        rest => rest,
+    }
+}
+
+/// Whether a text is a surname, a `/`, and what may stand behind a surname.
+fn is_surname_and_more(bytes: &[u8]) -> bool
+    ensures { IsTrue result → (surname : Bytes) × (after : Bytes) × IsTrue (tests_name_part surname) × IsTrue (tests_name_part after)
+        × (bytes.now ≡ surname ++ 47 ∷ after) }
+{
+    match behind_name_part(bytes) {
+        [b'/', after @ ..] => are_name_bytes(after),
+        _ => false,
+    }
+}
+
+/// A quick test for names, which looks at each byte once. Where it answers `false`, nothing is said: [`read_name`] decides.
+pub(crate) fn is_plain_name(text: &str) -> bool
+    ensures { IsTrue result → (name : NameParts) × NameText name text.now }
+{
+    match behind_name_part(text.as_bytes()) {
+        [b'/', more @ ..] => is_surname_and_more(more),
+        rest => rest.is_empty(),
+    }
 }
 
 /// The one answer of [`read_name`].

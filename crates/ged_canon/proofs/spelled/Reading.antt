@@ -1,9 +1,7 @@
 -- What was read of the bytes of a form, and what is left of them.
-use Rattle.std.proofs.Common.{◌≡◌, ◌≤◌, ◌+◌, ◌-◌, ◌++◌, length, take, drop, sym, ap, ◌∙◌, append_assoc, arith, take-add, ℕ}
-use Rattle.std.proofs.lemmas.List.{length-append, length-take-le, length-drop, append_cancel_left, take-take, drop-drop}
-use Rattle.std.proofs.lemmas.Slice.{drop-put_mid, take-put_mid}
-use Rattle.std.proofs.Math.Seq.{take-append-add, take-append_seam, drop-append_seam}
-use borrow.Rule.Slice.PartMut.{put_mid, same_len_mid}
+use Rattle.std.proofs.Common.{◌≡◌, ◌≤◌, ◌+◌, ◌++◌, length, take, sym, ap, ◌∙◌, append_assoc}
+use Rattle.std.proofs.lemmas.List.{length-append, append_cancel_left, take-take}
+use Rattle.std.proofs.Math.Seq.{take-append-add, take-append_seam}
 use Rattle.std.specs.Io.{StartsWith}
 use Rattle.ged_line.specs.Bytes.{Bytes}
 
@@ -31,25 +29,3 @@ pub front_is : (left behind piece new : Bytes) → take (length left) behind ≡
 front_is left behind piece new begins b few =
     ap (λ xs. take (length piece) xs) (sym begins) ∙ take-take (length piece) (length left) behind few
     ∙ ap (λ xs. take (length piece) xs) b ∙ take-append_seam piece new
-
--- the next piece was put into a buffer behind those that were
-pub filled_more : (bytes before buffer self piece new text : Bytes) (filled k total : ℕ) → filled ≤ length buffer → length buffer ≡ total
-    → take filled buffer ≡ take filled bytes → self ≡ drop filled bytes → drop filled buffer ≡ drop filled before
-    → self ≡ piece ++ new → length piece ≤ length buffer - filled
-    → k ≡ length piece → text ≡ piece
-    → (filled + length piece ≤ length (put_mid filled k buffer text)) × (length (put_mid filled k buffer text) ≡ total)
-    × (take (filled + length piece) (put_mid filled k buffer text) ≡ take (filled + length piece) bytes) × (new ≡ drop (filled + length piece) bytes)
-    × (drop (filled + length piece) (put_mid filled k buffer text) ≡ drop (filled + length piece) before)
-filled_more bytes before buffer self piece new text filled k total few all front rest behind s room same copied =
-    let count = ap length copied in
-    let long = same_len_mid filled k buffer text (omega (arith, count, same, room, few, length-take-le k (drop filled buffer) (omega (arith, same, room, few, length-drop filled buffer)))) in (
-      omega (arith, long, few, room),
-      long ∙ all,
-      take-put_mid filled k buffer text (filled + length piece) (omega (arith, count)) few
-          ∙ (λ i. front i ++ copied i)
-          ∙ ap (λ xs. take filled bytes ++ xs) (sym (ap (λ xs. take (length piece) xs) (sym rest ∙ s) ∙ take-append_seam piece new))
-          ∙ sym (take-add filled (length piece) bytes),
-      sym (drop-append_seam piece new) ∙ ap (λ xs. drop (length piece) xs) (sym s ∙ rest) ∙ drop-drop (length piece) filled bytes,
-      drop-put_mid filled k buffer text (filled + length piece) (omega (arith, same)) few (count ∙ sym same)
-          ∙ sym (drop-drop (length piece) filled buffer) ∙ ap (λ xs. drop (length piece) xs) behind ∙ drop-drop (length piece) filled before,
-    )

@@ -1,8 +1,8 @@
 -- Lines that are written as they stand, whatever the context.
 use Rattle.std.proofs.Common.{◌≡◌, ℕ, ◌+◌, Bool, true, false, cond, List, [], ◌∷◌, ◌++◌, map, Option, None, length, refl, sym, ap, ◌∙◌, ◌⊎◌, inl, inr, codes, decimal, arith}
-use Rattle.std.specs.Prelude.{◌==◌, ◌||◌}
+use Rattle.std.specs.Prelude.{◌==◌, ◌||◌, ◌<◌, ◌↔◌, IsTrue}
 use Rattle.std.specs.List.{list_any}
-use Rattle.std.proofs.lemmas.Bool.{or_parts}
+use Rattle.std.proofs.lemmas.Bool.{or_parts, true≢false, cases_lt}
 use Rattle.ged_line.specs.Bytes.{Bytes}
 use Rattle.ged_line.specs.Lines.{LineParts, line_parts, xref_part}
 use Rattle.ged_line.specs.Spelling.{value_part, spelled_lines}
@@ -82,3 +82,10 @@ module _ (edition : Edition) (r : Option Row) (new : Bytes → Bytes) (level : �
       ap (λ x. (decimal level ++ 32 ∷ (xref_part xref ++ x)) ++ 10 ∷ []) is
       ∙ ap (λ further. spelled_lines (line_parts level xref tag (first_value p) ∷ map (λ line. line_parts (level + 1) None (codes "CONT") (line_value line)) further)) (sym (nothing (further_lines p) few))
       ∙ ap (λ q. spelled_lines (lines_with q)) (sym (ap (renamed_payload new) same ∙ value_kept new p value))
+
+-- where it is told that there are no further lines, there is none
+pub none_further : (count : ℕ) (goes_on : Bool) → (IsTrue goes_on ↔ (0 < count)) → goes_on ≡ false → count ≡ 0
+none_further count goes_on told off = elim (cases_lt 0 count) [
+  | inl some ↦ absurd (true≢false (sym (told.1 some) ∙ off))
+  | inr few ↦ omega (arith, few)
+]

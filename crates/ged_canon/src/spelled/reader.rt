@@ -1,11 +1,18 @@
 // Reading the bytes of a form, which stand in many places.
-ghost use Rattle.std.specs.Prelude.{◌≡◌, ◌≤◌, ◌<◌, ◌++◌, [], IsTrue, false, length, take, drop};
+ghost use Rattle.std.specs.Prelude.{◌≡◌, ℕ, ◌+◌, ◌^◌, ◌≤◌, ◌<◌, ◌++◌, [], IsTrue, false, length, take, drop};
 ghost use Rattle.std.specs.Io.{StartsWith};
 ghost use Rattle.ged_line.specs.Bytes.{Bytes};
 
 use crate::spelled::KeptRun;
 use std::marker::Model;
 use std::{cmp, mem};
+
+/// How many bytes are copied at once of what was made before a run, where it has no more.
+const MADE_BLOCK: usize = 64;
+
+/// The same of a run. Both are lengths that most do not reach; this one is the longer, so that what has room for it has room for the
+/// other.
+const KEPT_BLOCK: usize = 128;
 
 /// The pieces of a form that are still to be read. Contracts see them as their bytes.
 #[derive(Drop)]
@@ -51,6 +58,135 @@ impl<'a> Pieces<'a> {
             }
         }
     }
+
+    /// Puts whole runs, each behind what was made before it, to the front of a buffer, and answers how many bytes they are. It may stop
+    /// before any run: that it goes far is no clause. Of what stands in the buffer behind them, it may overwrite as many bytes as the
+    /// form has there.
+    #[inline(never)]
+    fn put_runs(&mut self, buffer: &mut [u8]) -> usize
+        ensures count { result ≤ length buffer.old }
+        ensures few { result ≤ length self.old }
+        ensures length { length buffer.new ≡ length buffer.old }
+        ensures front { take result buffer.new ≡ take result self.old }
+        ensures behind { drop (length self.old) buffer.new ≡ drop (length self.old) buffer.old }
+        ensures rest { self.new ≡ drop result self.old }
+    {
+        let mut put = 0usize;
+        loop {
+            let count = self.put_run(&mut buffer[put..]);
+            if count == 0 {
+                return put;
+            }
+            put += count;
+        }
+    }
+
+    /// The same of the next run alone, or of none. As many bytes as a block has are still made behind the run, and these are all part of
+    /// the form; so what is copied too much is where later bytes of it will stand.
+    #[inline(always)]
+    fn put_run(&mut self, buffer: &mut [u8]) -> usize
+        ensures count { result ≤ length buffer.old }
+        ensures few { result ≤ length self.old }
+        ensures length { length buffer.new ≡ length buffer.old }
+        ensures front { take result buffer.new ≡ take result self.old }
+        ensures behind { drop (length self.old) buffer.new ≡ drop (length self.old) buffer.old }
+        ensures rest { self.new ≡ drop result self.old }
+    {
+        if !self.kept.is_empty() {
+            return 0;
+        }
+        let Some((run, runs)) = self.runs.split_first() else {
+            return 0;
+        };
+        let made = run.made as usize;
+        let start = run.start as usize;
+        let length = run.length as usize;
+        if self.made.len() < made + KEPT_BLOCK {
+            return 0;
+        }
+        if self.file.len() < start + KEPT_BLOCK {
+            return 0;
+        }
+        if buffer.len() < made + KEPT_BLOCK {
+            return 0;
+        }
+        if !put_both(buffer, self.made, made, &self.file[start..], length) {
+            return 0;
+        }
+        self.runs = runs;
+        self.made = &self.made[made..];
+        made + length
+    }
+}
+
+/// Puts the first bytes of two texts to the front of a buffer, one behind the other, and answers true; or false, where it did not. It may
+/// overwrite what a block behind the first of them reaches.
+#[inline(always)]
+fn put_both(
+    buffer: &mut [u8],
+    made: &[u8],
+    made_count: usize,
+    kept: &[u8],
+    kept_count: usize,
+) -> bool
+    ensures length { length buffer.new ≡ length buffer.old }
+    ensures room { IsTrue result → made_count + kept_count ≤ length buffer.old }
+    ensures made { IsTrue result → made_count ≤ length made.now }
+    ensures kept { IsTrue result → kept_count ≤ length kept.now }
+    ensures put { IsTrue result → take (made_count + kept_count) buffer.new ≡ take made_count made.now ++ take kept_count kept.now }
+    ensures behind { (at : ℕ) → MADE_BLOCK ≤ at → length (take made_count made.now) + KEPT_BLOCK ≤ at
+        → length (take made_count made.now) + length (take kept_count kept.now) ≤ at → drop at buffer.new ≡ drop at buffer.old }
+{
+    if !put_front::<MADE_BLOCK>(buffer, made, made_count) {
+        return false;
+    }
+    put_front::<KEPT_BLOCK>(&mut buffer[made_count..], kept, kept_count)
+}
+
+/// Puts the first bytes of a text to the front of a buffer and answers true; or false, where it did not. A block is copied whole, by a few
+/// moves: a branch on how many bytes of it are wanted would be mispredicted, and their copy a call. It is copied by way of a local
+/// array, since two slices may overlap as far as the compiler knows, which it would test first.
+#[inline(always)]
+fn put_front<const BLOCK: usize>(buffer: &mut [u8], text: &[u8], count: usize) -> bool
+    requires { BLOCK < 2 ^ 32 }
+    ensures length { length buffer.new ≡ length buffer.old }
+    ensures room { IsTrue result → count ≤ length buffer.old }
+    ensures whole { IsTrue result → count ≤ length text.now }
+    ensures put { IsTrue result → take count buffer.new ≡ take count text.now }
+    ensures behind { (at : ℕ) → BLOCK ≤ at → length (take count text.now) ≤ at → drop at buffer.new ≡ drop at buffer.old }
+{
+    if BLOCK < count {
+        return put_exactly(buffer, text, count);
+    }
+    let Some(block) = text.first_chunk::<BLOCK>() else {
+        return false;
+    };
+    if buffer.len() < BLOCK {
+        return false;
+    }
+    let block = *block;
+    buffer[..BLOCK].copy_from_slice(&block);
+    true
+}
+
+/// The same where no more than these bytes are copied. It stays a call, or the compiler makes one copy of this one and that of a block,
+/// whose length is no constant.
+#[inline(never)]
+fn put_exactly(buffer: &mut [u8], text: &[u8], count: usize) -> bool
+    ensures length { length buffer.new ≡ length buffer.old }
+    ensures room { IsTrue result → count ≤ length buffer.old }
+    ensures whole { IsTrue result → count ≤ length text.now }
+    ensures put { IsTrue result → take count buffer.new ≡ take count text.now }
+    ensures behind { (at : ℕ) → length (take count text.now) ≤ at → drop at buffer.new ≡ drop at buffer.old }
+{
+    if text.len() < count {
+        return false;
+    }
+    if buffer.len() < count {
+        return false;
+    }
+    buffer[..count].copy_from_slice(&text[..count]);
+    true
 }
 
 /// The first so many bytes, or as many as there are, and the others.
@@ -93,6 +229,22 @@ impl<'a> FormReader<'a> {
         front
     }
 
+    /// Puts whole runs to the front of a buffer, as the pieces do, unless a piece is being read: then none.
+    #[inline(always)]
+    fn put_runs(&mut self, buffer: &mut [u8]) -> usize
+        ensures count { result ≤ length buffer.old }
+        ensures few { result ≤ length self.old }
+        ensures length { length buffer.new ≡ length buffer.old }
+        ensures front { take result buffer.new ≡ take result self.old }
+        ensures behind { drop (length self.old) buffer.new ≡ drop (length self.old) buffer.old }
+        ensures rest { self.new ≡ drop result self.old }
+    {
+        if !self.piece.is_empty() {
+            return 0;
+        }
+        self.pieces.put_runs(buffer)
+    }
+
     /// Reads as many bytes as the buffer has, or all that are left, to its front, and answers how many. What stands behind them in the
     /// buffer stays. Takes no memory.
     pub fn fill(&mut self, buffer: &mut [u8]) -> usize
@@ -104,6 +256,7 @@ impl<'a> FormReader<'a> {
     {
         let mut filled = 0usize;
         loop {
+            filled += self.put_runs(&mut buffer[filled..]);
             let piece = self.next_up_to(buffer.len() - filled);
             if piece.is_empty() {
                 return filled;

@@ -252,7 +252,7 @@ impl<F: Forest> Writer<'_, '_, F> {
             return Ok(true);
         }
         let stays = is_plain_line(self.plan.edition, line.tag, line.rest);
-        if !stays || self.forest.further(place) > 0 {
+        if !stays || self.forest.has_further(place) {
             return Ok(false);
         }
         let start = Some(line.start);
@@ -293,7 +293,7 @@ impl<F: Forest> Writer<'_, '_, F> {
         let Some(line) = self.forest.own_line(place) else {
             return Ok(false);
         };
-        if line.points || self.forest.further(place) > 0 || self.has_number(place, number) {
+        if line.points || self.forest.has_further(place) || self.has_number(place, number) {
             return Ok(false);
         }
         if !is_kept(self.forest, self.plan.edition, rule, place) {

@@ -73,7 +73,7 @@ impl<F: Forest> Writer<'_, '_, F> {
             (λ new. structure_lines level (renamed_sibling new self.now.plan.edition (row_of rule.entry) (option_copied xref.entry) (F.trees self.now.forest.now) sibling.entry)) }
     {
         self.write_own(rule, level, xref, sibling, work)?;
-        if self.forest.further(sibling.place) == 0 {
+        if !self.forest.has_further(sibling.place) {
             return Ok(());
         }
         self.write_further(sibling.place, level, &mut work.answer)

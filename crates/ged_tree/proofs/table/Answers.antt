@@ -187,11 +187,13 @@ module _ (structures : List Shown) (further : List Further) (flat : IsListed str
         | inr few ↦ (let zero : count ≡ 0 = omega (arith, few) in rw zero (sym (nothing (further_lines (structure_at (flat_trees structures further) place).payload) (omega (arith, zero, many, ap (λ (xs : List Bytes). length xs) same)))))
       ]
 
-  pub flat_alone : (place : ℕ) (s : Shown) → place < length structures → s ≡ get_or structures place s → s.has_further ≡ false → length (further_lines (structure_at (flat_trees structures further) place).payload) ≡ 0
+  pub flat_goes_on : (place : ℕ) (s : Shown) → place < length structures → s ≡ get_or structures place s → s.has_further ≡ nat_lt 0 (length (further_lines (structure_at (flat_trees structures further) place).payload))
   unfolding structure_at
+  flat_goes_on place s h e = ap (λ (x : TableRow). x.goes_on) (flat_at place s h e)
+
+  pub flat_alone : (place : ℕ) (s : Shown) → place < length structures → s ≡ get_or structures place s → s.has_further ≡ false → length (further_lines (structure_at (flat_trees structures further) place).payload) ≡ 0
   flat_alone place s h e alone =
-      let told : s.has_further ≡ nat_lt 0 (length (further_lines (structure_at (flat_trees structures further) place).payload)) = ap (λ (x : TableRow). x.goes_on) (flat_at place s h e) in
-      let few = ltb-false 0 (length (further_lines (structure_at (flat_trees structures further) place).payload)) (sym told ∙ alone) in
+      let few = ltb-false 0 (length (further_lines (structure_at (flat_trees structures further) place).payload)) (sym (flat_goes_on place s h e) ∙ alone) in
       omega (arith, few)
 
   pub flat_number : (place : ℕ) → place < length structures → place + further_before place (places_of further) + 1 ≡ line_at 1 (flat_trees structures further) place
@@ -249,6 +251,9 @@ module _ (file : Bytes) (apart : List TextApart) (structures : List KeptStructur
 
     pub kept_text : ¬ (text_at file apart place s ≡ [])
     kept_text = some_text (line_shown here) (text_at file apart place s) kept_spelled.0
+
+    pub kept_goes_on : kept_further s ≡ nat_lt 0 (length (further_lines (structure_at (flat_trees all further) place).payload))
+    kept_goes_on = flat_goes_on all further flat.lists place here within stands
 
     pub kept_alone : kept_further s ≡ false → length (further_lines (structure_at (flat_trees all further) place).payload) ≡ 0
     kept_alone alone = flat_alone all further flat.lists place here within stands alone

@@ -1,5 +1,5 @@
 // A document as a table of slices of its file.
-ghost use Rattle.std.specs.Prelude.{◌≡◌, ◌<◌, IfSome, Some, true, length, slice_get};
+ghost use Rattle.std.specs.Prelude.{◌≡◌, ◌<◌, ◌↔◌, IfSome, Some, true, IsTrue, length, slice_get};
 ghost use Rattle.ged_tree.specs.Trees.{trees_count, further_lines};
 ghost use Rattle.ged_tree.specs.Documents.{is_document};
 ghost use Rattle.ged_tree.specs.DocumentLines.{rest_of_line};
@@ -140,6 +140,15 @@ impl<'a> Flat<'a> {
         (place + before) as u64 + 1
     }
 
+    /// Whether the payload at a place has further lines.
+    #[inline(always)]
+    fn has_further_at(&self, place: usize) -> bool
+        requires { place < trees_count self.now }
+        ensures { IsTrue result ↔ 0 < length (further_lines (structure_at self.now place).payload) }
+    {
+        self.structures[place].has_further()
+    }
+
     /// How many further lines the payload at a place has.
     #[inline(always)]
     fn further_count(&self, place: usize) -> usize
@@ -251,6 +260,11 @@ impl<'a> Forest for Flat<'a> {
 
     fn further(&self, place: usize) -> usize {
         self.further_count(place)
+    }
+
+    #[inline(always)]
+    fn has_further(&self, place: usize) -> bool {
+        self.has_further_at(place)
     }
 
     fn further_line(&self, place: usize, number: usize) -> &str {

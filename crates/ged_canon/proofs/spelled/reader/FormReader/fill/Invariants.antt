@@ -1,12 +1,10 @@
-use Rattle.std.proofs.Common.{◌≡◌, ◌≤◌, ◌-◌, length, take, drop}
+use Rattle.std.proofs.Common.{◌-◌, length}
+use Rattle.ged_canon.proofs.spelled.Filling.{IsFilled}
 use Rattle.ged_canon.proofs.spelled.reader.FormReader.fill.Given as goal
 
--- the bytes so far stand in the buffer, before what stood there, and the others are still to be read
+-- the bytes so far stand in the buffer, and the others are still to be read
 abbrev pub invariant-loop-piece : goal.invariant-loop-piece
-invariant-loop-piece l =
-    (l.filled ≤ length l.buffer) × (length l.buffer ≡ length l.fn.buffer)
-    × (take l.filled l.buffer ≡ take l.filled l.fn.self) × (l.self ≡ drop l.filled l.fn.self)
-    × (drop l.filled l.buffer ≡ drop l.filled l.fn.buffer)
+invariant-loop-piece l = IsFilled l.fn.self l.fn.buffer l.buffer l.self l.filled
 
 abbrev pub decreases-loop-piece : goal.decreases-loop-piece
 decreases-loop-piece l = length l.buffer - l.filled

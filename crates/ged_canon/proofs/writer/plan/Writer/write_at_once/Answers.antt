@@ -1,4 +1,4 @@
-use Rattle.std.proofs.Common.{◌≡◌, ◌++◌, None, false, length, refl, sym, ap, ◌∙◌, subst, arith}
+use Rattle.std.proofs.Common.{◌≡◌, ◌++◌, None, false, length, refl, sym, ap, ◌∙◌, subst}
 use Rattle.ged_line.specs.Spelling.{value_part}
 use Rattle.ged_tree.specs.Trees.{further_lines}
 use Rattle.ged_tree.specs.DocumentLines.{first_value}
@@ -6,7 +6,7 @@ use Rattle.ged_tree.specs.Places.{structure_at}
 use Rattle.ged_tree.specs.Views.{is_pointer}
 use Rattle.ged_schema.specs.Tables.{row}
 use Rattle.ged_canon.specs.inner.Working.{number_of}
-use Rattle.ged_canon.proofs.writer.PlainLines.{TellsPlain, plain_brief, plain_line}
+use Rattle.ged_canon.proofs.writer.PlainLines.{TellsPlain, plain_brief, plain_line, none_further}
 use Rattle.ged_canon.proofs.writer.plan.Writer.write_at_once.Goals as goal
 
 pub returns-clause-lines : goal.returns-clause-lines
@@ -19,7 +19,7 @@ returns-clause-lines g c = λ names h t.
     let p = (structure_at d c.args.place).payload in
     let is : rest ≡ tag ++ value_part (first_value p) = c.in-Some.ensures.rest in
     let value : is_pointer p ≡ false = sym c.in-Some.ensures.points ∙ c.if-line.false in
-    let alone : length (further_lines p) ≡ 0 = omega (arith, c.further.ensures, c.if-further-gt0.false) in
+    let alone : length (further_lines p) ≡ 0 = none_further (length (further_lines p)) c.has_further.result c.has_further.ensures c.if-has_further.false in
     let tells : TellsPlain tag rest = subst (λ front. TellsPlain front rest) c.in-Some.ensures.tag (c.if-not-stays.ensures.plain refl) in
     c.in_ok-push_rest.ensures
     ∙ ap (λ text. c.args.work.now.answer ++ text)
