@@ -1,2 +1,3 @@
+mod Comparing
 mod Filling
 mod Reading

@@ -1,3 +1,5 @@
+pub mod AlikeDocuments
+pub mod AlikeRecords
 pub mod BriefTests
 pub mod BriefWords
 pub mod DatedRows

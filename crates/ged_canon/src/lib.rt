@@ -16,5 +16,6 @@ pub use laws::{
 pub use normal::{is_normal, is_normal_in};
 pub use spelled::SpelledForm;
 pub use spelled::reader::FormReader;
+pub use writer::alike::{IndexedDocument, have_same_form};
 pub use writer::document::{canonical_bytes, canonical_bytes_in, spell_canonical_in};
 pub use writer::tidy::{spell_tidy_in, tidy_bytes_in};

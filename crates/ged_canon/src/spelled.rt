@@ -1,10 +1,11 @@
 // A form of a document in bytes.
 pub(crate) mod reader;
 
-ghost use Rattle.std.specs.Prelude.{◌≡◌, IfOk};
+ghost use Rattle.std.specs.Prelude.{◌≡◌, ◌↔◌, IfOk, IsTrue, length, min};
 
 use crate::spelled::reader::{FormReader, Pieces};
 use std::alloc::{AllocError, Global};
+use std::cmp;
 use std::marker::Model;
 
 /// A run of bytes that a form has as they stand in a file, behind others that were made.
@@ -37,6 +38,14 @@ impl<'a> Model for SpelledForm<'a> {
     ghost view = { λ f. joined_runs f.file.now f.runs.items f.made.items };
 }
 
+/// How many bytes the shorter of two texts has.
+#[inline(always)]
+fn shorter(left: &[u8], right: &[u8]) -> usize
+    ensures { result ≡ min (length left.now) (length right.now) }
+{
+    cmp::min(left.len(), right.len())
+}
+
 impl<'a> SpelledForm<'a> {
     /// What reads the bytes, from the first on. Takes no memory.
     pub fn reader(&self) -> FormReader<'_>
@@ -56,6 +65,29 @@ impl<'a> SpelledForm<'a> {
             runs: &self.runs,
             made: &self.made,
             kept: &[],
+        }
+    }
+
+    /// Whether another form has the same bytes. They are compared piece by piece, where they stand. Takes no memory.
+    pub fn has_bytes_of(&self, other: &SpelledForm<'_>) -> bool
+        ensures { IsTrue result ↔ (self.now ≡ other.now) }
+    {
+        let (mut pieces, mut others) = (self.pieces(), other.pieces());
+        let (mut left, mut right): (&[u8], &[u8]) = (&[], &[]);
+        loop {
+            left = pieces.left_or_next(left);
+            right = others.left_or_next(right);
+            let count = shorter(left, right);
+            if count == 0 {
+                return left.len() == right.len();
+            }
+            let (front, rest) = left.split_at(count);
+            let (other_front, other_rest) = right.split_at(count);
+            if front != other_front {
+                return false;
+            }
+            left = rest;
+            right = other_rest;
         }
     }
 

@@ -1,4 +1,5 @@
 // The canonical spelling of a document, written from the document itself.
+pub(crate) mod alike;
 pub(crate) mod answer;
 pub(crate) mod brief;
 pub(crate) mod compared;

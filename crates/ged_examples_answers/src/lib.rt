@@ -5,4 +5,4 @@ mod answers;
 mod questions;
 
 pub use answers::Answer;
-pub use questions::Question;
+pub use questions::{Question, two_parts};

@@ -16,3 +16,13 @@ impl Question<'_> {
         Question { name, word }
     }
 }
+
+/// The two parts of an argument, which the byte 0 parts.
+pub fn two_parts(argument: &[u8]) -> (&[u8], &[u8]) {
+    let Some(at) = argument.iter().position(|byte| *byte == 0) else {
+        return (argument, b"");
+    };
+    let first = argument.get(..at).unwrap_or(b"");
+    let second = argument.get(at.saturating_add(1)..).unwrap_or(b"");
+    (first, second)
+}

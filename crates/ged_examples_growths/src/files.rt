@@ -13,8 +13,9 @@ use ged_examples_whole::{LIMIT, say_outcome};
 use ged_link::{Index, LinkFault, one_way, resolve};
 use ged_schema::unlisted;
 use ged_tool::{
-    Accepted, Command, Edition, Fault, Input, Outcome, Output, SameFault, Settings, accept,
-    accept_as, canonicalise_as, notices, run_as, run_same_as, same_as, show_text,
+    Accepted, Command, Comparison, Edition, Fault, Form, Input, Outcome, Output, SameFault,
+    Settings, accept, accept_as, canonicalise_as, notices, run_as, run_same_as, same_as, same_by,
+    show_text,
 };
 use ged_tree::{Flat, flatten};
 use std::alloc::Global;
@@ -31,7 +32,8 @@ pub(crate) fn call_of_file(
     match name {
         "accept" => call_accept(alloc, settings, file, marks, answer),
         "canonicalise" => call_canonicalise(alloc, settings, file, marks, answer),
-        "same" => call_same(alloc, settings, file, marks, answer),
+        "same" => call_same(alloc, settings, Form::Canonical, file, marks, answer),
+        "tidy_same" => call_same(alloc, settings, Form::Tidy, file, marks, answer),
         "run_lines" => call_run(alloc, settings, Command::Lines, file, marks, answer),
         "run_check" => call_run(alloc, settings, Command::Check, file, marks, answer),
         "run_show" => call_run(alloc, settings, Command::Show, file, marks, answer),
@@ -280,16 +282,21 @@ fn respelt(file: &[u8]) -> &[u8] {
     }
 }
 
-/// Compares a file with another spelling of itself.
+/// Compares a file with another spelling of itself: as documents in the canonical form, by their forms in the tidy one.
 fn call_same(
     alloc: Global,
     settings: Settings,
+    form: Form,
     file: &[u8],
     marks: &mut Marks,
     answer: &mut Answer,
 ) {
+    let other = respelt(file);
     marks.begin();
-    let made = same_as(alloc, settings, file, respelt(file));
+    let made = match form {
+        Form::Canonical => same_as(alloc, settings, file, other),
+        Form::Tidy => same_by(alloc, Comparison { settings, form }, file, other),
+    };
     marks.end();
     match made {
         Ok(is_same) => answer.say_truth(is_same),

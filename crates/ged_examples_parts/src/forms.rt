@@ -3,8 +3,10 @@ ghost use Rattle.ged_link.specs.Indexes.{IsIndexOf};
 ghost use Rattle.ged_schema.specs.Checked.{Checked};
 
 use crate::canon::{edition_of, index_of};
-use ged_canon::{Edition, SpelledForm, spell_canonical_in, spell_tidy_in};
-use ged_examples_answers::{Answer, Question};
+use ged_canon::{
+    Edition, IndexedDocument, SpelledForm, have_same_form, spell_canonical_in, spell_tidy_in,
+};
+use ged_examples_answers::{Answer, Question, two_parts};
 use ged_link::Index;
 use ged_tree::{Flat, flatten};
 use std::alloc::{AllocError, Global};
@@ -12,6 +14,10 @@ use std::alloc::{AllocError, Global};
 /// Answers a call on a file; false where this module has no call of this name.
 pub(crate) fn answer(alloc: Global, call: &str, argument: &[u8], answer: &mut Answer) -> bool {
     let question = Question::of(call);
+    if question.name == "have_same_form" {
+        tell_sameness(alloc, question, argument, answer);
+        return true;
+    }
     if !["canonical_form", "tidy_form"].contains(&question.name) {
         return false;
     }
@@ -92,4 +98,58 @@ fn read_by_sevens(alloc: Global, form: &SpelledForm<'_>) -> Result<Vec<u8>, Allo
         bytes.extend_from_slice(&buffer[..count])?;
     }
     Ok(bytes)
+}
+
+/// Tells whether the documents of two files, which the byte 0 parts, have the same form.
+fn tell_sameness(alloc: Global, question: Question<'_>, argument: &[u8], told: &mut Answer) {
+    let (first, second) = two_parts(argument);
+    let (Ok(flat), Ok(other_flat)) = (flatten(alloc, first), flatten(alloc, second)) else {
+        told.say("no document");
+        return;
+    };
+    let (Ok(Some(index)), Ok(Some(other_index))) = (
+        index_of(alloc, &flat),
+        index_of(alloc, &other_flat),
+    ) else {
+        told.say("not checked");
+        return;
+    };
+    let one = IndexedDocument {
+        forest: &flat,
+        index: &index,
+        file: first,
+    };
+    let other = IndexedDocument {
+        forest: &other_flat,
+        index: &other_index,
+        file: second,
+    };
+    tell_same_form(alloc, question, &one, &other, told);
+}
+
+/// Tells whether two documents have the same form; also whether their forms have other bytes all the same, or the same bytes where they have not.
+fn tell_same_form(
+    alloc: Global,
+    question: Question<'_>,
+    one: &IndexedDocument<'_, Flat<'_>>,
+    other: &IndexedDocument<'_, Flat<'_>>,
+    told: &mut Answer,
+)
+    requires index { IsIndexOf one.now.forest.now one.now.index.now }
+    requires checked { Checked one.now.forest.now }
+    requires other_index { IsIndexOf other.now.forest.now other.now.index.now }
+    requires other_checked { Checked other.now.forest.now }
+{
+    let edition = edition_of(question.word).unwrap_or(Edition::First);
+    let Some(same) = told.given(have_same_form(alloc, edition, one, other)) else {
+        return;
+    };
+    told.say_truth(same);
+    let made = spell_canonical_in(alloc, edition, one.forest, one.index, one.file);
+    let other_made = spell_canonical_in(alloc, edition, other.forest, other.index, other.file);
+    if let (Some(form), Some(other_form)) = (told.given(made), told.given(other_made)) {
+        if form.has_bytes_of(&other_form) != same {
+            told.say(" has_bytes_of: not as told");
+        }
+    }
 }

@@ -23,6 +23,7 @@ pub(crate) fn has_call(name: &str) -> bool {
         "Index::are_led_by_tags",
         "pointers_at",
         "records_at",
+        "records_standing_at",
         "one_way",
         "first_one_way",
         "used_and_one_way",
@@ -92,6 +93,7 @@ fn tell_index<F: Forest>(
         "payload_at" => say_payload(question.word, forest, told),
         "pointers_at" => say_pointers(question.word, forest, index, told),
         "records_at" => say_records(question.word, forest, index, told),
+        "records_standing_at" => say_standing(question.word, index, told),
         "first_one_way" => told.say_optional(first_one_way(forest, index)),
         "one_way" => {
             if let Some(notices) = told.given(one_way(alloc, forest, index)) {
@@ -190,6 +192,15 @@ fn say_records<F: Forest>(places: &str, forest: &F, index: &Index, told: &mut An
                 told.say("\n");
             }
         }
+    }
+}
+
+/// Says the number of each record that stands at one of these places, with one cursor too, whether it has an identifier or not.
+fn say_standing(places: &str, index: &Index, told: &mut Answer) {
+    let mut cursor = RecordCursor::new();
+    for place in places.split(',') {
+        say_place(told, index.record_standing_at(place_in(place), &mut cursor));
+        told.say("\n");
     }
 }
 

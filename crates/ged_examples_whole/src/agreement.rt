@@ -94,16 +94,6 @@ pub fn say_outcome(answer: &mut Answer, outcome: Outcome) {
     }
 }
 
-/// The two parts of an argument, which the byte 0 parts.
-pub(crate) fn two_parts(argument: &[u8]) -> (&[u8], &[u8]) {
-    let Some(at) = argument.iter().position(|byte| *byte == 0) else {
-        return (argument, b"");
-    };
-    let first = argument.get(..at).unwrap_or(b"");
-    let second = argument.get(at.saturating_add(1)..).unwrap_or(b"");
-    (first, second)
-}
-
 /// Whether the settings are those of the calls that are handed none.
 pub(crate) fn are_plain(settings: Settings) -> bool {
     settings == Settings::new()

@@ -2,11 +2,11 @@
 //
 // A device that fails here fails once, and would then go on: so a run that asks it once more is seen by the later calls
 // and by what it then wrote.
-use crate::agreement::{LIMIT, say_outcome, two_parts};
+use crate::agreement::{LIMIT, say_outcome};
 use crate::fakes::{Endless, Failure, Full, Taker, make_giver, make_taker};
 use crate::ranges::Ranges;
 use ged_devices::{Noted, Reason};
-use ged_examples_answers::Answer;
+use ged_examples_answers::{Answer, two_parts};
 use ged_tool::{Command, Input, Outcome, Output, Sink, Source, canonicalise, run, run_same};
 use std::alloc::Global;
 use std::io::{Read, Write};

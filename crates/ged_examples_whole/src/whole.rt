@@ -4,7 +4,7 @@
 // each call answers stands at the head of data/whole.rows.
 use crate::agreement::{
     Answered, LIMIT, Ways, accept_ways, answered, are_plain, canon_ways, check_ways, say_fault,
-    say_outcome, show_ways, tidy_ways, two_parts,
+    say_outcome, show_ways, tidy_ways,
 };
 use crate::by_trees::document_ways;
 use crate::digests::digest_ways;
@@ -12,7 +12,7 @@ use crate::feeding::answer_pieces;
 use crate::large;
 use crate::ranges::Ranges;
 use crate::respelling::lines_ways;
-use ged_examples_answers::Answer;
+use ged_examples_answers::{Answer, two_parts};
 use ged_tool::{
     Accepted, Comparison, Edition, Fault, FileFault, Form, Input, Outcome, Output, Profile,
     SameFault, Settings, Which, accept, run_same, run_same_as, run_same_told, same, same_as,

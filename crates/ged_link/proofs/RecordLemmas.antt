@@ -108,9 +108,6 @@ module _ (d : Trees) (p e a k : ℕ) (step : IsStep d p e a) (left : drop k (ide
   named_here : slice_get (identifiers (records_of d)) k ≡ Some (structure_at d p).xref
   named_here = left_here (identifiers (records_of d)) k (structure_at d p).xref (identifiers (trees_between d a e)) left_is
 
-  pub numbered_here : (name : Bytes) → HasXref d p name → IsRecordNumber d k name
-  numbered_here name has = named_here ∙ ap Some has.1
-
   number_before : (name : Bytes) (other : ℕ) → (other < k + 1) × IsRecordNumber d other name → ((other < k) × IsRecordNumber d other name) ⊎ ((other ≡ k) × ((structure_at d p).xref ≡ Some name))
   number_before name other h = elim (cases_lt other k) [
     | inl before ↦ inl (before, h.1)

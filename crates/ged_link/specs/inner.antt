@@ -5,6 +5,7 @@ pub mod Layout
 pub mod LinkWalks
 pub mod Listing
 pub mod PairSets
+pub mod Places
 pub mod RecordLines
 pub mod Resolving
 pub mod Slots

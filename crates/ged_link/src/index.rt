@@ -1,12 +1,13 @@
 // The records of a document by their cross-reference identifiers.
-ghost use Rattle.std.specs.Prelude.{◌≡◌, ◌↔◌, ℕ, Some, true, IsTrue};
-ghost use Rattle.ged_tree.specs.Trees.{Trees};
+ghost use Rattle.std.specs.Prelude.{◌≡◌, ◌<◌, ◌↔◌, ℕ, Some, true, IsTrue, slice_get};
+ghost use Rattle.ged_tree.specs.Trees.{Trees, records_of};
 ghost use Rattle.ged_tree.specs.Places.{structure_at};
 ghost use Rattle.ged_tree.specs.declared.payload.Payload.TheVariants.{Pointer};
-ghost use Rattle.ged_link.specs.Links.{IsRecordNumber, IsUsed};
+ghost use Rattle.ged_link.specs.Links.{IsRecordNumber, IsUsed, identifiers};
 ghost use Rattle.ged_link.specs.LinkFaults.{HasXref};
 ghost use Rattle.ged_link.specs.RecordTypes.{HasRecordOf};
 ghost use Rattle.ged_link.specs.LedByTags.{AreLed};
+ghost use Rattle.ged_link.specs.Places.{IsRecordPlace};
 ghost use Rattle.ged_link.specs.Indexes.{IsIndexOf, number_in, place_in};
 
 use crate::names::Names;
@@ -103,20 +104,32 @@ impl Index {
         }
     }
 
-    /// What [`Index::record_named`] answers for the identifier of the record at a place, whose name is handed in. Takes no
-    /// memory.
+    /// The number of the record at a place, with an identifier or without one, or `None` where no record stands there. A place
+    /// that is not kept, which is each from 4294967295 on, is answered `None` too. Takes no memory.
     ///
     /// The cursor tells where the index begins to look. Records that are asked for in the order of their places are found at
     /// once.
+    #[inline(always)]
+    pub fn record_standing_at(&self, place: usize, cursor: &mut RecordCursor) -> Option<usize>
+        ensures stands { (document : Trees) → IsIndexOf document self.now → (number : ℕ) →
+            (result ≡ Some number) ↔ (IsRecordPlace document number place × (place < 4294967295)) }
+        ensures identifier { (document : Trees) → IsIndexOf document self.now → (number : ℕ) → result ≡ Some number →
+            slice_get (identifiers (records_of document)) number ≡ Some (structure_at document place).xref }
+    {
+        match next_record(&self.places, place, cursor) {
+            Some(number) => Some(number),
+            None => searched_record(&self.places, place, cursor),
+        }
+    }
+
+    /// What [`Index::record_named`] answers for the identifier of the record at a place, whose name is handed in. The cursor is
+    /// that of [`Index::record_standing_at`]. Takes no memory.
     #[inline(always)]
     pub fn record_with(&self, place: usize, name: &str, cursor: &mut RecordCursor) -> Option<usize>
         ensures { (document : Trees) → IsIndexOf document self.now → HasXref document place name.now → (number : ℕ) →
             (result ≡ Some number) ↔ IsRecordNumber document number name.now }
     {
-        if let Some(number) = next_record(&self.places, place, cursor) {
-            return Some(number);
-        }
-        match searched_record(&self.places, place, cursor) {
+        match self.record_standing_at(place, cursor) {
             Some(number) => Some(number),
             None => self.record_named(name),
         }

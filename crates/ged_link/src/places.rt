@@ -1,10 +1,8 @@
 // The places of a document's records, by the numbers of the records.
-ghost use Rattle.std.specs.Prelude.{◌≡◌, ◌<◌, ◌≤◌, ◌+◌, ◌++◌, ◌∷◌, ℕ, [], Some, None, IsSome, OnOk, length, min};
-ghost use Rattle.ged_line.specs.Bytes.{Bytes};
-ghost use Rattle.ged_tree.specs.Trees.{Trees};
-ghost use Rattle.ged_link.specs.Links.{IsRecordNumber};
-ghost use Rattle.ged_link.specs.LinkFaults.{HasXref};
-ghost use Rattle.ged_link.specs.Places.{ArePlaces};
+ghost use Rattle.std.specs.Prelude.{◌≡◌, ◌≤◌, ◌+◌, ◌++◌, ◌∷◌, ℕ, [], Some, None, IsSome, OnOk, nat_lt};
+ghost use Rattle.std.specs.List.Sorted.{IsNonDecreasing};
+ghost use Rattle.ged_link.specs.Places.{place_kept};
+ghost use Rattle.ged_link.specs.inner.Places.{IsKeptAt};
 
 use std::alloc::AllocError;
 
@@ -26,7 +24,7 @@ impl RecordCursor {
 /// A place as it is kept: the greatest number stands for all that 32 bits do not hold.
 #[inline(always)]
 pub(crate) fn kept_place(place: usize) -> u32
-    ensures { result ≡ min place 4294967295 }
+    ensures { result ≡ place_kept place }
 {
     if place < u32::MAX as usize {
         place as u32
@@ -38,10 +36,7 @@ pub(crate) fn kept_place(place: usize) -> u32
 /// Adds the place of the next record, as it is kept. Grows.
 #[inline(always)]
 pub(crate) fn push_place(places: &mut Vec<u32>, place: usize) -> Result<(), AllocError>
-    ensures told { OnOk result (places.new.items ≡ places.old.items ++ min place 4294967295 ∷ []) }
-    ensures count { OnOk result (length places.new.items ≡ length places.old.items + 1) }
-    ensures kept { OnOk result ((document : Trees) → ((name : Bytes) → HasXref document place name → IsRecordNumber document (length places.old.items) name)
-        → ArePlaces document places.old.items → ArePlaces document places.new.items) }
+    ensures { OnOk result (places.new.items ≡ places.old.items ++ place_kept place ∷ []) }
 {
     places.push(kept_place(place))?;
     Ok(())
@@ -50,8 +45,8 @@ pub(crate) fn push_place(places: &mut Vec<u32>, place: usize) -> Result<(), Allo
 /// The number of the record at a place, if it is that at which the cursor stands, which then goes on.
 #[inline(always)]
 pub(crate) fn next_record(places: &[u32], place: usize, cursor: &mut RecordCursor) -> Option<usize>
-    ensures told { (document : Trees) → ArePlaces document places.now → (number : ℕ) → result ≡ Some number
-        → (name : Bytes) → HasXref document place name → IsRecordNumber document number name }
+    ensures told { (number : ℕ) → result ≡ Some number → IsKeptAt places.now number place }
+    ensures found { IsKeptAt places.now cursor.old.next place → IsSome result }
     ensures goes_on { IsSome result → cursor.new.next ≡ cursor.old.next + 1 }
     ensures stays { result ≡ None → cursor.new.next ≡ cursor.old.next }
 {
@@ -88,13 +83,17 @@ pub(crate) fn searched_record(
     place: usize,
     cursor: &mut RecordCursor,
 ) -> Option<usize>
-    ensures { (document : Trees) → ArePlaces document places.now → (number : ℕ) → result ≡ Some number
-        → (name : Bytes) → HasXref document place name → IsRecordNumber document number name }
+    ensures told { (number : ℕ) → result ≡ Some number → IsKeptAt places.now number place }
+    ensures found { IsNonDecreasing places.now → (number : ℕ) → IsKeptAt places.now number place → IsSome result }
 {
     move_on(places, place, cursor);
     if let Some(number) = next_record(places, place, cursor) {
         return Some(number);
     }
-    cursor.next = places.partition_point(|kept: &u32| -> bool { (*kept as usize) < place });
+    cursor.next = places.partition_point(
+        |kept: &u32| -> bool
+            ensures { result ≡ nat_lt kept.now place }
+        { (*kept as usize) < place },
+    );
     next_record(places, place, cursor)
 }

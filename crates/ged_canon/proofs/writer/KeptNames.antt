@@ -30,7 +30,7 @@ named_itself (Some name) = refl
 
 -- no record has a new number
 pub unnumbered : (d : Trees) (index : Index) → IsIndexOf d index → IsNumberingOf d [] index []
-unnumbered d index h = (h, record { known = λ name k. absurd k; each = λ number name k. refl })
+unnumbered d index h = (h, record { known = λ name k. absurd k; each = λ number name k. refl; unnamed = λ number k. refl })
 
 pub sorted_stands : (edition : Edition) (d : Trees) → is_document d ≡ true → Checked d → is_document (sorted_document edition d) ≡ true
 sorted_stands edition d v h = ends_in_document d (sorted_document edition d) v (in_place edition d (sorted_document edition d) (sorted_is_tidy_form edition d v h).equivalent)

@@ -5,7 +5,7 @@ use Rattle.std.proofs.Math.Nat.{eq-or-lt_of_le}
 use Rattle.std.proofs.lemmas.Bool.{cases_lt}
 use Rattle.std.proofs.lemmas.Grind.{get_or-set_at}
 use Rattle.ged_line.specs.Bytes.{Bytes}
-use Rattle.ged_tree.specs.Trees.{Trees, none, tree}
+use Rattle.ged_tree.specs.Trees.{Trees, none, tree, records_of}
 use Rattle.ged_link.specs.Links.{IsAmong, AreDistinct, xrefs, identifiers, IsRecordNumber}
 use Rattle.ged_link.specs.inner.Identifiers.{with_xref}
 use Rattle.ged_canon.specs.inner.Working.{number_among}
@@ -48,6 +48,14 @@ places_more d names name numbers place number are here only fresh inside counted
       let differ : name ≢ other = λ e. apart (only k (subst (IsRecordNumber d k) (sym e) at)) in
       get_or-set_other numbers place k (number + 1) 0 apart ∙ are k other at ∙ sym (among_later name other 1 names differ))
 ]
+
+-- the numbers of records without an identifier are 0
+abbrev pub AreUnnumbered : Trees → List ℕ → Type 0
+AreUnnumbered d numbers = (number : ℕ) → slice_get (identifiers (records_of d)) number ≡ Some None → slice_index_or numbers number 0 ≡ 0
+
+pub unnumbered_more : (d : Trees) (name : Bytes) (numbers : List ℕ) (place number : ℕ) → IsRecordNumber d place name → AreUnnumbered d numbers → AreUnnumbered d (slice_set numbers place number)
+unnumbered_more d name numbers place number here are k none_here =
+    get_or-set_other numbers place k number 0 (λ same. let there : IsRecordNumber d k name = subst (λ n. IsRecordNumber d n name) (sym same) here in absurd (let e : Some None ≡ Some (Some name) = sym none_here ∙ there in cc)) ∙ are k none_here
 
 -- names of records
 

@@ -1,6 +1,6 @@
 -- Nothing here need be believed: only private contracts and proofs cite it.
 -- The canonical spelling of HEAD and the records, as it is written; only private functions cite this.
-use Rattle.std.specs.Prelude.{◌≡◌, ◌↔◌, ℕ, ◌++◌, Bool, true, List, [], Option, Some, None, Result, OnOk}
+use Rattle.std.specs.Prelude.{◌≡◌, ◌↔◌, ℕ, ◌++◌, Bool, true, IsTrue, List, [], Option, Some, None, Result, OnOk}
 use Rattle.std.specs.List.{AllByRecursion}
 use Rattle.ged_line.specs.Bytes.{Bytes}
 use Rattle.ged_line.specs.Spelling.{spelled_lines}
@@ -48,3 +48,12 @@ WritesRecords d plan result old new siblings =
 abbrev pub WritesKept : {T E : Type 0} → Trees → Plan → Result T E → Bytes → Bytes → List RankedSibling → Type 0
 WritesKept d plan result old new siblings =
     IsNumberingOf d [] plan.index.now plan.numbers.now → OnOk result (new ≡ old ++ spelled_siblings each_used plan.edition [] d siblings)
+
+-- HEAD and records of two documents are told to be the same only where their lines are, and wherever they are, by the names to which the
+-- plans' numbers belong
+abbrev pub TellsSame : Trees → Plan → List RankedSibling → Trees → Plan → List RankedSibling → Bool → Type 0
+TellsSame d plan siblings e other_plan others same =
+    (names other_names : List Bytes) → IsNumberingOf d names plan.index.now plan.numbers.now → AreNamed d names
+    → IsNumberingOf e other_names other_plan.index.now other_plan.numbers.now → AreNamed e other_names
+    → (IsTrue same → spelled_siblings (is_named d) plan.edition names d siblings ≡ spelled_siblings (is_named e) other_plan.edition other_names e others)
+    × (numbered_siblings (is_named d) plan.edition names d siblings ≡ numbered_siblings (is_named e) other_plan.edition other_names e others → IsTrue same)

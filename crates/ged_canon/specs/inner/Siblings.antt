@@ -1,6 +1,6 @@
 -- Nothing here need be believed: only private contracts and proofs cite it.
 -- The trees of structures that are listed by their places, as they are written; only private functions cite this.
-use Rattle.std.specs.Prelude.{◌≡◌, ◌<◌, ◌≤◌, ◌%◌, ℕ, Bool, List, [], ◌∷◌, slice_index_or}
+use Rattle.std.specs.Prelude.{◌≡◌, ◌<◌, ◌≤◌, ◌%◌, ℕ, Bool, List, [], ◌∷◌, Option, Some, None, slice_index_or}
 use Rattle.ged_line.specs.Bytes.{Bytes}
 use Rattle.ged_tree.specs.Trees.{Trees, none, tree, trees_count}
 use Rattle.ged_tree.specs.Places.{structure_at, below_at}
@@ -10,6 +10,7 @@ use Rattle.ged_canon.specs.declared.edition.Edition.{Edition}
 use Rattle.ged_canon.specs.declared.writer.rank.RankedSibling.{RankedSibling}
 use Rattle.ged_canon.specs.declared.writer.rank.TaggedSibling.{TaggedSibling}
 use Rattle.ged_canon.specs.declared.writer.siblings.Sibling.{Sibling}
+use Rattle.ged_link.specs.Links.{IsRecordNumber}
 use Rattle.ged_link.specs.inner.Identifiers.{with_xref}
 use Rattle.ged_canon.specs.inner.Ranks.{tag_rank, rest_of_tag}
 use Rattle.ged_canon.specs.inner.Working.{is_named, used_xref, used_structure, brief_structure, grouped, sorted}
@@ -67,3 +68,8 @@ AreGrouped d before after = (used : Bytes → Bool) (edition : Edition) (context
 abbrev pub sibling_names : Trees → List RankedSibling → List Bytes
 sibling_names d [] = []
 sibling_names d (first ∷ rest) = with_xref (used_xref (is_named d) (structure_at d first.place).xref) (sibling_names d rest)
+
+-- which record has this identifier, if some pointer names it: the record's number, or that there is none such
+abbrev pub TellsUsed : Trees → Option Bytes → Option ℕ → Type 0
+TellsUsed d xref None = used_xref (is_named d) xref ≡ None
+TellsUsed d xref (Some number) = (name : Bytes) × IsRecordNumber d number name × (used_xref (is_named d) xref ≡ Some name)

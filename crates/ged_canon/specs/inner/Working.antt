@@ -1,19 +1,19 @@
 -- Nothing here need be believed: only private contracts and proofs cite it.
 -- The normal form of a document, as it is made: unused identifiers are dropped, trees sorted, payloads respelt, identifiers
 -- numbered. Only proofs and private functions cite what stands here.
-use Rattle.std.specs.Prelude.{◌≡◌, ⊤, ℕ, ◌+◌, Bool, true, false, if◌then◌else◌, ◌||◌, ◌&&◌, not, List, [], ◌∷◌, map, filter, Option, Some, None, slice_index_or}
+use Rattle.std.specs.Prelude.{◌≡◌, ⊤, ℕ, ◌+◌, Bool, true, false, if◌then◌else◌, ◌||◌, ◌&&◌, not, List, [], ◌∷◌, map, filter, Option, Some, None, slice_get, slice_index_or}
 use Rattle.std.specs.Str.{bytes_eq}
 use Rattle.std.specs.Ordering.{is_gt}
 use Rattle.ged_line.specs.Bytes.{Bytes}
 use Rattle.ged_line.specs.Names.{tag_order}
 use Rattle.ged_tree.specs.declared.payload.Payload.{Payload}
 use Rattle.ged_tree.specs.declared.payload.Payload.TheVariants.{Void, Pointer, Text}
-use Rattle.ged_tree.specs.Trees.{Structure, Trees, none, tree}
+use Rattle.ged_tree.specs.Trees.{Structure, Trees, none, tree, records_of}
 use Rattle.ged_value.specs.Words.{words_of, joined}
 use Rattle.ged_value.specs.Default.{default_word, is_other}
 use Rattle.ged_value.specs.Zeros.{has_leading_zero, trim_zeros}
 use Rattle.ged_link.specs.declared.index.Index.{Index}
-use Rattle.ged_link.specs.Links.{IsAmong, xrefs, IsRecordNumber, IsUsed}
+use Rattle.ged_link.specs.Links.{IsAmong, identifiers, xrefs, IsRecordNumber, IsUsed}
 use Rattle.ged_link.specs.Indexes.{IsIndexOf}
 use Rattle.ged_schema.specs.declared.context.Context.{Context}
 use Rattle.ged_schema.specs.declared.context.Context.TheVariants.{File}
@@ -144,10 +144,11 @@ number_among n [] name = 0
 number_among n (first ∷ rest) name = if bytes_eq first name then n else number_among (n + 1) rest name
 
 -- records of a document have these names, and the numbers, by the numbers of the document's records, are the places of the
--- records' names among them
+-- records' names among them; a record without an identifier has 0
 pub record AreNumbersOf (d : Trees) (names : List Bytes) (numbers : List ℕ) : Type 0 where
   pub known : (name : Bytes) → IsAmong name names → (number : ℕ) × IsRecordNumber d number name
   pub each : (number : ℕ) (name : Bytes) → IsRecordNumber d number name → slice_index_or numbers number 0 ≡ number_among 1 names name
+  pub unnamed : (number : ℕ) → slice_get (identifiers (records_of d)) number ≡ Some None → slice_index_or numbers number 0 ≡ 0
 
 -- so are they for a document that has this index
 abbrev pub IsNumberingOf : Trees → List Bytes → Index → List ℕ → Type 0

@@ -59,6 +59,18 @@ impl<'a> Pieces<'a> {
         }
     }
 
+    /// What is left of the piece that was read last, or the next one where nothing is: nothing where all are read.
+    #[inline(always)]
+    pub(crate) fn left_or_next(&mut self, left: &'a [u8]) -> &'a [u8]
+        ensures whole { left.entry.now ++ self.old ≡ result.now ++ self.new }
+        ensures some { result.now ≡ [] → self.new ≡ [] }
+    {
+        if left.is_empty() {
+            return self.next_piece();
+        }
+        left
+    }
+
     /// Puts whole runs, each behind what was made before it, to the front of a buffer, and answers how many bytes they are. It may stop
     /// before any run: that it goes far is no clause. Of what stands in the buffer behind them, it may overwrite as many bytes as the
     /// form has there.

@@ -74,6 +74,56 @@ impl<'f> Answer<'f> {
         })
     }
 
+    /// Nothing. Takes no memory.
+    pub(crate) fn none(alloc: Global, file: &'f [u8]) -> Answer<'f>
+        ensures { result ≡ [] }
+    {
+        Answer {
+            file,
+            pieced: Pieced::none(alloc),
+            start: 0,
+            end: 0,
+        }
+    }
+
+    /// All that is written, as a form of its own; what is written afterwards is written behind nothing.
+    pub(crate) fn take_form(&mut self, alloc: Global) -> Result<SpelledForm<'f>, AllocError>
+        ensures form { IfOk result (λ form. form ≡ self.old) }
+        ensures rest { OnOk result (self.new ≡ []) }
+    {
+        let start = mem::replace(&mut self.start, self.end);
+        self.pieced.place(self.file, start, self.end)?;
+        let Pieced {
+            runs,
+            made,
+            placed: _,
+        } = mem::replace(&mut self.pieced, Pieced::none(alloc));
+        Ok(SpelledForm {
+            file: self.file,
+            runs,
+            made,
+        })
+    }
+
+    /// Drops what is written, and writes in the memory of a form that is no longer wanted.
+    pub(crate) fn reuse(&mut self, form: SpelledForm<'f>)
+        ensures { self.new ≡ [] }
+    {
+        let SpelledForm {
+            file: _,
+            mut runs,
+            mut made,
+        } = form;
+        runs.clear();
+        made.clear();
+        self.start = self.end;
+        self.pieced = Pieced {
+            runs,
+            made,
+            placed: 0,
+        };
+    }
+
     /// All that is written.
     pub(crate) fn into_form(self) -> Result<SpelledForm<'f>, AllocError>
         ensures { IfOk result (λ form. form ≡ self.entry) }

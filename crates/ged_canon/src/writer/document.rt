@@ -22,7 +22,7 @@ use crate::edition::Edition;
 use crate::spelled::SpelledForm;
 use crate::writer::answer::Answer;
 use crate::writer::lines::put_identifier;
-use crate::writer::numbers::new_number_with;
+use crate::writer::numbers::new_number_of;
 use crate::writer::plan::{Plan, Work, Writer};
 use crate::writer::rank::RankedSibling;
 use crate::writer::siblings::{Sibling, numbers_in_order, push_sorted, ranked_sibling};
@@ -62,15 +62,26 @@ pub(crate) fn document_siblings<F: Forest>(
 }
 
 impl<F: Forest> Writer<'_, '_, F> {
-    /// The new number of the record at a place, or 0 where it gets none.
+    /// The new number of the record at a place, or 0 where it gets none. The record's line is not read.
     fn own_number(&self, place: usize, records: &mut RecordCursor) -> usize
         requires { place < trees_count (F.trees self.now.forest.now) }
         ensures { (names : List Bytes) → IsNumberingOf (F.trees self.now.forest.now) names self.now.plan.index.now self.now.plan.numbers.now → result ≡ number_at names (structure_at (F.trees self.now.forest.now) place).xref }
     {
+        match self.plan.index.record_standing_at(place, records) {
+            Some(number) => self.plan.numbers.get(number).copied().unwrap_or(0),
+            None => self.number_by_name(place),
+        }
+    }
+
+    /// The same for a place that the index does not keep, or at which no record stands. The identifier is read.
+    #[cold]
+    #[inline(never)]
+    fn number_by_name(&self, place: usize) -> usize
+        requires { place < trees_count (F.trees self.now.forest.now) }
+        ensures { (names : List Bytes) → IsNumberingOf (F.trees self.now.forest.now) names self.now.plan.index.now self.now.plan.numbers.now → result ≡ number_at names (structure_at (F.trees self.now.forest.now) place).xref }
+    {
         match self.forest.xref(place) {
-            Some(name) => {
-                new_number_with(self.plan.index, self.plan.numbers, place, name, records)
-            }
+            Some(name) => new_number_of(self.plan.index, self.plan.numbers, name),
             None => 0,
         }
     }
@@ -104,7 +115,7 @@ impl<F: Forest> Writer<'_, '_, F> {
     }
 
     /// Appends the lines of HEAD or of a record, and of what stands below it. The text takes the record's new identifier.
-    fn write_record(
+    pub(crate) fn write_record(
         &self,
         sibling: RankedSibling,
         name: &mut String,

@@ -5,11 +5,10 @@ ghost use Rattle.ged_line.specs.Bytes.{Bytes};
 ghost use Rattle.ged_tree.specs.Trees.{Trees};
 ghost use Rattle.ged_tree.specs.declared.payload.Payload.TheVariants.{Pointer as PointerPayload};
 ghost use Rattle.ged_tree.specs.Places.{structure_at};
-ghost use Rattle.ged_link.specs.LinkFaults.{HasXref};
 ghost use Rattle.ged_canon.specs.Normal.{numbered as spells_number};
 ghost use Rattle.ged_canon.specs.inner.Working.{number_among, IsNumberingOf};
 
-use ged_link::{Index, PointerCursor, RecordCursor};
+use ged_link::{Index, PointerCursor};
 use itoa::Buffer;
 
 /// Whether a text is the number. A function of its own, so that most names are told by their first letter alone.
@@ -60,19 +59,11 @@ pub(crate) fn new_number_at(
     }
 }
 
-/// The new number of the record at a place, or 0 where it has none; the name of its identifier is handed in. Records that are asked
-/// for in the order of their places are found at once.
-#[inline(always)]
-pub(crate) fn new_number_with(
-    index: &Index,
-    numbers: &[usize],
-    place: usize,
-    name: &str,
-    records: &mut RecordCursor,
-) -> usize
-    ensures { (d : Trees) (names : List Bytes) → IsNumberingOf d names index.now numbers.now → HasXref d place name.now → result ≡ number_among 1 names name.now }
+/// The new number of the record whose identifier has this name, or 0 where it has none.
+pub(crate) fn new_number_of(index: &Index, numbers: &[usize], name: &str) -> usize
+    ensures { (d : Trees) (names : List Bytes) → IsNumberingOf d names index.now numbers.now → result ≡ number_among 1 names name.now }
 {
-    match index.record_with(place, name, &mut *records) {
+    match index.record_named(name) {
         Some(number) => numbers.get(number).copied().unwrap_or(0),
         None => 0,
     }

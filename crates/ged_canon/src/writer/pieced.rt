@@ -45,6 +45,19 @@ impl Pieced {
         })
     }
 
+    /// No bytes. Takes no memory.
+    pub(crate) fn none(alloc: Global) -> Pieced
+        ensures runs { result.runs.items ≡ [] }
+        ensures made { result.made.items ≡ [] }
+        ensures placed { result.placed ≡ 0 }
+    {
+        Pieced {
+            runs: Vec::new(alloc),
+            made: Vec::new(alloc),
+            placed: 0,
+        }
+    }
+
     /// Appends the bytes of a file from one place up to another.
     #[inline(always)]
     pub(crate) fn place(&mut self, file: &[u8], start: usize, end: usize) -> Result<(), AllocError>

@@ -1,10 +1,11 @@
 // The structures of a run in the order of their tags.
-ghost use Rattle.std.specs.Prelude.{◌≡◌, ◌<◌, ◌++◌, ◌∷◌, [], ◌≤◌, Bool, true, false, IsTrue, IfOk, OnOk, length, take, drop};
+ghost use Rattle.std.specs.Prelude.{◌≡◌, ◌<◌, ◌++◌, ◌∷◌, [], ◌≤◌, Bool, true, false, Option, Some, IsTrue, IfOk, OnOk, length, take, drop, slice_get};
 ghost use Rattle.std.specs.List.{AllByRecursion};
 ghost use Rattle.std.specs.List.Sorted.{IsPermutation};
 ghost use Rattle.ged_line.specs.Bytes.{Bytes};
 ghost use Rattle.ged_tree.specs.Trees.{Trees, trees_count, records_of};
 ghost use Rattle.ged_tree.specs.Documents.{is_document};
+ghost use Rattle.ged_tree.specs.Places.{structure_at};
 ghost use Rattle.ged_canon.specs.declared.writer.rank.RankedSibling.{RankedSibling as RankedSiblingData};
 ghost use Rattle.ged_tree.specs.Runs.{IsRunOfTrees, trees_between};
 ghost use Rattle.ged_schema.specs.declared.context.Context.{Context as AnyContext};
@@ -12,7 +13,7 @@ ghost use Rattle.ged_canon.specs.declared.edition.Edition.{Edition as AnyEdition
 ghost use Rattle.ged_link.specs.Links.{identifiers, xrefs, IsAmong, AreDistinct};
 ghost use Rattle.ged_link.specs.Indexes.{IsIndexOf};
 ghost use Rattle.ged_canon.specs.inner.Working.{grouped, sorted, each_sorted, used_trees, AreNumbersOf};
-ghost use Rattle.ged_canon.specs.inner.Siblings.{StandsRanked, AreGrouped, sibling_trees, sibling_names};
+ghost use Rattle.ged_canon.specs.inner.Siblings.{StandsRanked, AreGrouped, TellsUsed, sibling_trees, sibling_names};
 
 use crate::writer::compared::compare_siblings;
 use crate::writer::gathered::gather_siblings;
@@ -129,6 +130,56 @@ pub(crate) fn push_sorted<F: Forest>(
     sort_siblings(alloc, forest, &mut siblings[base..])
 }
 
+/// The number itself, if some pointer names the record that has it.
+#[inline(always)]
+fn if_used(index: &Index, number: usize) -> Option<usize>
+    ensures { (d : Trees) (xref : Option Bytes) → IsIndexOf d index.now → slice_get (identifiers (records_of d)) number ≡ Some xref → TellsUsed d xref result }
+{
+    if index.is_used(number) {
+        Some(number)
+    } else {
+        None
+    }
+}
+
+/// What [`used_record`] answers for a place that the index does not keep, or at which no record stands. The identifier is read.
+#[cold]
+#[inline(never)]
+fn used_by_name<F: Forest>(forest: &F, index: &Index, place: usize) -> Option<usize>
+    requires index { IsIndexOf (F.trees forest.now) index.now }
+    requires document { is_document (F.trees forest.now) ≡ true }
+    requires within { place < trees_count (F.trees forest.now) }
+    ensures { TellsUsed (F.trees forest.now) (structure_at (F.trees forest.now) place).xref result }
+{
+    let Some(name) = forest.xref(place) else {
+        return None;
+    };
+    match index.record_named(name) {
+        Some(number) => if_used(index, number),
+        None => None,
+    }
+}
+
+/// The number of the record at a place, if some pointer names the record. Its identifier is not read: a pointer that names it shows that
+/// it has one, and its line is seldom at hand when the records are counted.
+#[inline(always)]
+fn used_record<F: Forest>(
+    forest: &F,
+    index: &Index,
+    place: usize,
+    cursor: &mut RecordCursor,
+) -> Option<usize>
+    requires index { IsIndexOf (F.trees forest.now) index.now }
+    requires document { is_document (F.trees forest.now) ≡ true }
+    requires within { place < trees_count (F.trees forest.now) }
+    ensures { TellsUsed (F.trees forest.now) (structure_at (F.trees forest.now) place).xref result }
+{
+    match index.record_standing_at(place, cursor) {
+        Some(number) => if_used(index, number),
+        None => used_by_name(forest, index, place),
+    }
+}
+
 /// The new numbers of a document's records, counted from 1, by the numbers that the records have in the document: those of
 /// the identifiers that pointers name, in the new order of the records. Any other record has the new number 0. HEAD, which has
 /// no identifier, may stand among the records.
@@ -150,13 +201,9 @@ pub(crate) fn numbers_in_order<F: Forest>(
     let mut number = 0;
     let mut cursor = RecordCursor::new();
     for each in records {
-        if let Some(name) = forest.xref(each.place) {
-            if let Some(record) = index.record_with(each.place, name, &mut cursor) {
-                if index.is_used(record) {
-                    number += 1;
-                    numbers[record] = number;
-                }
-            }
+        if let Some(record) = used_record(forest, index, each.place, &mut cursor) {
+            number += 1;
+            numbers[record] = number;
         }
     }
     Ok(numbers)

@@ -11,9 +11,9 @@ use crate::calls::file_text::FileText;
 use crate::calls::spell::spell_form;
 use crate::comparison::{Comparison, Form};
 use crate::settings::Settings;
-use ged_canon::{Edition, SpelledForm};
+use ged_canon::{Edition, IndexedDocument, SpelledForm, have_same_form};
 use ged_faults::{Fault, Which};
-use ged_line::split_pieces;
+use ged_line::{behind_mark, split_pieces};
 use ged_schema::Profile;
 use std::alloc::Global;
 
@@ -56,11 +56,14 @@ pub fn same_as(
 /// the canonical form whether one's document becomes the other's by steps, in the tidy form whether it does by steps at
 /// places, which leave each identifier as it is.
 ///
-/// Each file is put into the form, but for two files of equal bytes, which are judged once, and for a file that is the form of the other:
-/// the first, where that may be a form by its front, else the second. What stands in a file as the form has it is not copied.
+/// Two files of equal bytes are judged once. In the canonical form two files of which neither may be that form, by its front, are both
+/// judged, and then their documents are compared, record by record. Otherwise each file is put into the form, but for one that is the
+/// form of the other: the first, where that may be a form by its front, else the second. What stands in a file as the form has it is not
+/// copied.
 ///
 /// Answers InFile with the first file's first fault, or where that file is accepted with the second's, or Memory for the file for which
-/// none was found; no other fault. Grows; the comparison takes no memory.
+/// none was found, which is the second where it was found for both to be judged; no other fault. Grows; the comparison of two forms takes
+/// no memory.
 pub fn same_by(
     alloc: Global,
     comparison: Comparison,
@@ -93,6 +96,12 @@ pub(crate) fn same_files(
     if are_equal(first.bytes(), second.bytes()) {
         return is_as_its_copy(alloc, comparison, first);
     }
+    if comparison.form == Form::Canonical
+        && !may_be_canonical(first.bytes())
+        && !may_be_canonical(second.bytes())
+    {
+        return compare_documents(alloc, comparison.settings, first, second);
+    }
     if may_be_form_of(first.bytes(), second.bytes()) {
         return compare_to_second(alloc, comparison, first, second);
     }
@@ -105,6 +114,11 @@ pub(crate) fn same_files(
 fn may_be_form_of(first: &[u8], second: &[u8]) -> bool {
     begins_with_mark(first)
         && (!begins_with_mark(second) || is_numbered(first) || !is_numbered(second))
+}
+
+/// Whether a file may be a canonical form, as its front tells. No clause rests on it.
+fn may_be_canonical(bytes: &[u8]) -> bool {
+    begins_with_mark(bytes) && is_numbered(bytes)
 }
 
 fn begins_with_mark(bytes: &[u8]) -> bool {
@@ -138,6 +152,40 @@ fn form_of(
     }
 }
 
+/// What [`same_by`] answers in the canonical form, where neither file is put into it: both are accepted, and their documents compared.
+fn compare_documents(
+    alloc: Global,
+    settings: Settings,
+    first: FileText<'_>,
+    second: FileText<'_>,
+) -> Result<bool, SameFault>
+    ensures compared { IfOk result (AreCompared (profile_of settings) (edition_of settings) (file_bytes first.entry) (file_bytes second.entry)) }
+    ensures refused { IfErr result (λ at. IsSameRefusal (profile_of settings) (file_bytes first.entry) (file_bytes second.entry) at.which at.fault) }
+{
+    let one = match accept_file(alloc, settings, first) {
+        Ok(accepted) => accepted,
+        Err(fault) => return Err(fault_of(Which::First, fault)),
+    };
+    let other = match accept_file(alloc, settings, second) {
+        Ok(accepted) => accepted,
+        Err(fault) => return Err(fault_of(Which::Second, fault)),
+    };
+    let one = IndexedDocument {
+        forest: one.flat(),
+        index: one.index(),
+        file: behind_mark(first.bytes()),
+    };
+    let other = IndexedDocument {
+        forest: other.flat(),
+        index: other.index(),
+        file: behind_mark(second.bytes()),
+    };
+    match have_same_form(alloc, settings.edition, &one, &other) {
+        Ok(same) => Ok(same),
+        Err(error) => Err(fault_of(Which::Second, Fault::Memory(error))),
+    }
+}
+
 /// What [`same_by`] answers, where the first file is put into the form before the second. Where the second is that form byte for byte, it
 /// is accepted and has itself for its form, so it is not judged.
 fn compare_to_first(
@@ -161,7 +209,7 @@ fn compare_to_first(
         Ok(form) => form,
         Err(at) => return Err(at),
     };
-    Ok(have_equal_bytes(&first_form, &second_form))
+    Ok(first_form.has_bytes_of(&second_form))
 }
 
 /// The same, where the second file is put into the form before the first. Where the first is that form, it is not judged.
@@ -186,7 +234,7 @@ fn compare_to_second(
         Ok(form) => form,
         Err(at) => return Err(at),
     };
-    Ok(have_equal_bytes(&first_form, &second_form))
+    Ok(first_form.has_bytes_of(&second_form))
 }
 
 /// Which fault is told where the second file has one: that of the first, if it has one too.
@@ -241,21 +289,4 @@ fn is_spelled(form: &SpelledForm<'_>, bytes: &[u8]) -> bool
 {
     let mut reader = form.reader();
     reader.passes(bytes) && reader.next_up_to(1).is_empty()
-}
-
-/// Whether two forms have the same bytes. They are compared piece by piece, where they stand.
-fn have_equal_bytes(first: &SpelledForm<'_>, second: &SpelledForm<'_>) -> bool
-    ensures { IsTrue result ↔ (first.now ≡ second.now) }
-{
-    let mut first = first.reader();
-    let mut second = second.reader();
-    loop {
-        let piece = first.next_up_to(usize::MAX);
-        if piece.is_empty() {
-            return second.next_up_to(1).is_empty();
-        }
-        if !second.passes(piece) {
-            return false;
-        }
-    }
 }

@@ -45,8 +45,9 @@ pub fn run_same<R: Source, S: Source, W: Sink>(
 /// `limit` is the most bytes that each file may have, [`crate::GREATEST_LIMIT`] at most. The readers must not have been read before,
 /// and no device have failed. No more than `limit + 1` calls of read are made on each reader, and nothing is written
 /// unless both files are accepted. Memory is taken for both files, or for as many bytes as [`Source::expected`] says of one where these
-/// are more and within the limit, and 131,072 bytes to read each by, for the document and index of one at a time, and for what their forms
-/// have that the files have not; for files that are equal byte for byte no form is made, and none of a file that [`same_by`] leaves unjudged.
+/// are more and within the limit, and 131,072 bytes to read each by. For files that are equal byte for byte it is taken for one document
+/// and index; for two of which neither may be a canonical form, by its front, for both documents and indexes; else for one at a time, and
+/// for what the forms have that the files have not, but none for a file that [`same_by`] leaves unjudged.
 ///
 /// The outcome is Done where the files are the same and that was written, Different where they are not. Else it is
 /// Failed, and has

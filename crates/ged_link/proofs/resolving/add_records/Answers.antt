@@ -1,19 +1,20 @@
-use Rattle.std.proofs.Common.{◌≡◌, ◌+◌, ℕ, List, length, None, true, false, inr, inl, sym, ap, ◌∙◌, refl, arith, subst, map, slice_index_or, drop}
+use Rattle.std.proofs.Common.{◌≡◌, ◌+◌, ℕ, List, None, true, false, inr, inl, sym, ap, ◌∙◌, ◌++◌, refl, arith, subst, map, slice_index_or, drop}
 use Rattle.ged_tree.specs.Places.{structure_at}
-use Rattle.ged_tree.specs.Trees.{Trees}
+use Rattle.ged_tree.specs.Trees.{Trees, trees_count, records_of}
 use Rattle.ged_tree.specs.Documents.{are_at}
 use Rattle.ged_tree.specs.Runs.{trees_between, IsStep}
 use Rattle.ged_link.specs.Links.{identifiers}
 use Rattle.ged_link.specs.declared.names.Names.{Names}
 use Rattle.ged_link.specs.declared.index.RecordPlace.{RecordPlace}
+use Rattle.ged_link.specs.Places.{places_from, record_places, place_kept}
 use Rattle.ged_link.specs.RecordTypes.{IsTypeOf}
 use Rattle.ged_link.specs.inner.Indexes.{IsKeyed}
 use Rattle.ged_link.specs.inner.Listing.{listed_halves, listed_digits, AreTypesOf}
 use Rattle.ged_link.specs.inner.Resolving.{AddsRecord}
 use Rattle.ged_link.proofs.KeyLemmas.{none_empty, keyed_next}
-use Rattle.ged_link.proofs.KeptPlaces.{none_placed}
+use Rattle.ged_link.proofs.KeptPlaces.{places_start, places_next, places_end}
 use Rattle.ged_link.proofs.ListingLemmas.{listed_next, types_next}
-use Rattle.ged_link.proofs.RecordLemmas.{left_after, level_next, number_within, numbered_here, records_start, records_level, records_next, records_all, repeated_here, none_repeated_all, typed_start, typed_next}
+use Rattle.ged_link.proofs.RecordLemmas.{left_after, level_next, number_within, records_start, records_level, records_next, records_all, repeated_here, none_repeated_all, typed_start, typed_next}
 use Rattle.ged_link.proofs.WalkLemmas.{nearer}
 use Rattle.ged_link.proofs.resolving.add_records.Goals as goal
 
@@ -35,8 +36,10 @@ loop-after-init g c =
       found = records_start w c.requires.document c.args.start c.args.end c.requires.end c.requires.run is c.args.records.now c.requires.none;
       typed = λ types are. (subst (AreTypesOf types) (sym is) are, typed_start w c.args.records.now types c.requires.none);
       keyed = inl c.requires.others;
-      count = ap (λ (ps : List ℕ). length ps) c.in-Ok.ensures.items;
-      placed = none_placed w _ c.in-Ok.ensures.items;
+      placed =
+          let sum : c.args.start + trees_count (records_of w) ≡ trees_count w = rw (is, c.requires.end) at c.requires.run.fills in
+          ap (λ (ps : List ℕ). ps ++ map place_kept (places_from c.args.start (trees_between w c.args.start c.args.end))) c.in-Ok.ensures.items
+          ∙ ap (λ (t : Trees). map place_kept (places_from c.args.start t)) is ∙ ap (map place_kept) (places_start w c.args.start sum);
     }
 
 pub returns-in-Ok-false-clause-fault : goal.returns-in-Ok-false-clause-fault
@@ -78,8 +81,8 @@ loop-after-preserved g c =
           types_next types k (trees_between w p e) here (trees_between w (p + 1) a) (trees_between w a e) step.first before.0 in
           (next.1, typed_next w p e a k step inv.left inv.level old new types one refl refl next.0 adds before.1);
       keyed = keyed_next w p e a new step (c.in-Ok-true.ensures.keyed inv.keyed);
-      count = omega (arith, c.in-Ok-push_place.ensures.count, inv.count);
-      placed = c.in-Ok-push_place.ensures.kept w (λ name has. rw inv.count (numbered_here w p e a k step inv.left name has)) inv.placed;
+      placed = ap (λ (ps : List ℕ). ps ++ map place_kept (places_from a (trees_between w a e))) c.in-Ok-push_place.ensures
+          ∙ places_next w p e a step c.loop-after.places.items (map place_kept (record_places w)) inv.placed;
     }
 
 pub returns-clause-records : goal.returns-clause-records
@@ -183,7 +186,9 @@ returns-clause-keyed g c =
     subst (λ (place : ℕ). IsKeyed (g.F.Forest.trees c.args.forest.now) place c.args.end c.loop-after.records) at_end inv.keyed
 
 pub returns-clause-places : goal.returns-clause-places
-returns-clause-places g c = c.loop-after.invariant.placed
+returns-clause-places g c =
+    let w = g.F.Forest.trees c.args.forest.now in
+    places_end w _ c.loop-after.place (trees_between w c.loop-after.place c.args.end) c.in_default-next_in_run.ensures c.loop-after.invariant.placed
 
 pub next_in_run-requires : goal.next_in_run-requires
 next_in_run-requires g c = record { run = c.loop-after.invariant.run }

@@ -1,10 +1,10 @@
-use Rattle.std.proofs.Common.{◌-◌, ◌≡◌, ◌≤◌, true, drop, length, List, Option}
+use Rattle.std.proofs.Common.{◌-◌, ◌≡◌, ◌≤◌, ◌++◌, true, drop, length, map, List, Option}
 use Rattle.ged_tree.specs.Trees.{records_of}
 use Rattle.ged_tree.specs.Documents.{are_at}
 use Rattle.ged_tree.specs.Runs.{trees_between, IsRunOfTrees}
 use Rattle.ged_link.specs.Links.{identifiers}
 use Rattle.ged_link.specs.Indexes.{AreTyped}
-use Rattle.ged_link.specs.Places.{ArePlaces}
+use Rattle.ged_link.specs.Places.{places_from, record_places, place_kept}
 use Rattle.ged_link.specs.declared.record_type.RecordType.{RecordType}
 use Rattle.ged_link.specs.inner.Indexes.{IsKeyed}
 use Rattle.ged_link.specs.inner.Listing.{IsListedFrom, AreTypesOf}
@@ -24,8 +24,7 @@ invariant-loop-after g l =
       found : AreRecordsBefore trees l.place l.number l.records;
       typed : (types : List (Option RecordType)) → AreTypesOf types (records_of trees) → AreTypesOf (drop l.number types) (trees_between trees l.place l.end) × AreTyped trees l.records types;
       keyed : IsKeyed trees l.place l.end l.records;
-      count : length l.places.items ≡ l.number;
-      placed : ArePlaces trees l.places.items;
+      placed : l.places.items ++ map place_kept (places_from l.place (trees_between trees l.place l.end)) ≡ map place_kept (record_places trees);
     }
 
 abbrev pub decreases-loop-after : goal.decreases-loop-after

@@ -16,5 +16,5 @@ returns-in-Err-form_of-clause-refused c =
 
 pub returns-clause-compared : goal.returns-clause-compared
 returns-clause-compared c =
-    are_compared _ _ _ _ _ _ _ c.have_equal_bytes.result c.in-Ok.ensures.form c.in-Ok-form_of.ensures.form
-    c.have_equal_bytes.ensures
+    are_compared _ _ _ _ _ _ _ c.has_bytes_of.result c.in-Ok.ensures.form c.in-Ok-form_of.ensures.form
+    c.has_bytes_of.ensures

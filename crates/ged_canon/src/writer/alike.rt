@@ -1,0 +1,134 @@
+// Whether two documents have the same canonical form, told record by record.
+ghost use Rattle.std.specs.Prelude.{◌≡◌, ◌∷◌, ◌↔◌, [], List, IfOk, OnOk, IsTrue, length};
+ghost use Rattle.ged_line.specs.Bytes.{Bytes};
+ghost use Rattle.ged_tree.specs.Trees.{Trees};
+ghost use Rattle.ged_link.specs.Indexes.{IsIndexOf};
+ghost use Rattle.ged_schema.specs.Checked.{Checked};
+ghost use Rattle.ged_canon.specs.Steps.{Equivalent};
+ghost use Rattle.ged_canon.specs.inner.Working.{is_named, IsNumberingOf};
+ghost use Rattle.ged_canon.specs.inner.CanonBytes.{AreNamed, CanWriteRecords, TellsSame, spelled_siblings};
+
+use crate::edition::Edition;
+use crate::spelled::SpelledForm;
+use crate::writer::answer::Answer;
+use crate::writer::document::document_siblings;
+use crate::writer::plan::{Plan, Work, Writer};
+use crate::writer::rank::RankedSibling;
+use crate::writer::siblings::numbers_in_order;
+use ged_link::Index;
+use ged_tree::Forest;
+use std::alloc::{AllocError, Global};
+
+/// A document, its index, and the file that it was read from, behind a byte order mark: any other bytes serve too, more slowly.
+#[derive(Drop)]
+pub struct IndexedDocument<'a, F> {
+    pub forest: &'a F,
+    pub index: &'a Index,
+    pub file: &'a [u8],
+}
+
+impl<F: Forest> Writer<'_, '_, F> {
+    /// The lines of HEAD or of a record, and of what stands below it, as a form of their own, where nothing else is written. The text takes
+    /// the record's new identifier.
+    fn take_record<'f>(
+        &self,
+        sibling: RankedSibling,
+        name: &mut String,
+        work: &mut Work<'f>,
+    ) -> Result<SpelledForm<'f>, AllocError>
+        requires stands { CanWriteRecords (is_named (F.trees self.now.forest.now)) self.now.plan.edition (F.trees self.now.forest.now) (sibling ∷ []) }
+        requires empty { work.old.answer ≡ [] }
+        ensures empty { OnOk result (work.new.answer ≡ []) }
+        ensures lines { (names : List Bytes) → IsNumberingOf (F.trees self.now.forest.now) names self.now.plan.index.now self.now.plan.numbers.now → AreNamed (F.trees self.now.forest.now) names
+            → IfOk result (λ form. form ≡ spelled_siblings (is_named (F.trees self.now.forest.now)) self.now.plan.edition names (F.trees self.now.forest.now) (sibling ∷ [])) }
+    {
+        self.write_record(sibling, name, work)?;
+        work.answer.take_form(self.plan.alloc)
+    }
+}
+
+/// Whether HEAD and the records of two documents, of which there are as many, have the same lines. Each is written alone, up to the first
+/// that differs, in the memory of the one before it.
+fn are_alike<F: Forest, G: Forest>(
+    first: &Writer<'_, '_, F>,
+    siblings: &[RankedSibling],
+    work: &mut Work<'_>,
+    second: &Writer<'_, '_, G>,
+    others: &[RankedSibling],
+    other_work: &mut Work<'_>,
+) -> Result<bool, AllocError>
+    requires first { CanWriteRecords (is_named (F.trees first.now.forest.now)) first.now.plan.edition (F.trees first.now.forest.now) siblings.now }
+    requires second { CanWriteRecords (is_named (G.trees second.now.forest.now)) second.now.plan.edition (G.trees second.now.forest.now) others.now }
+    requires count { length siblings.now ≡ length others.now }
+    requires empty { work.old.answer ≡ [] }
+    requires other_empty { other_work.old.answer ≡ [] }
+    ensures { IfOk result (TellsSame (F.trees first.now.forest.now) first.now.plan siblings.now (G.trees second.now.forest.now) second.now.plan others.now) }
+{
+    let mut name = String::new(first.plan.alloc);
+    let mut number = 0;
+    while number < siblings.len() {
+        let form = first.take_record(siblings[number], &mut name, work)?;
+        let other = second.take_record(others[number], &mut name, other_work)?;
+        if !form.has_bytes_of(&other) {
+            return Ok(false);
+        }
+        work.answer.reuse(form);
+        other_work.answer.reuse(other);
+        number += 1;
+    }
+    Ok(true)
+}
+
+/// Whether one of two documents that are as the structure tables ask becomes the other by steps, so whether they have the same canonical
+/// form in an edition. The forms are not made: what either has of HEAD and of each record in turn is compared, up to the first that
+/// differs. Grows (FamilySearch GEDCOM 7.0, "Lines", "Structures", "Date" and "Integer").
+pub fn have_same_form<F: Forest, G: Forest>(
+    alloc: Global,
+    edition: Edition,
+    first: &IndexedDocument<'_, F>,
+    second: &IndexedDocument<'_, G>,
+) -> Result<bool, AllocError>
+    requires first_index { IsIndexOf (F.trees first.now.forest.now) first.now.index.now }
+    requires first_checked { Checked (F.trees first.now.forest.now) }
+    requires second_index { IsIndexOf (G.trees second.now.forest.now) second.now.index.now }
+    requires second_checked { Checked (G.trees second.now.forest.now) }
+    ensures { IfOk result (λ same. IsTrue same ↔ Equivalent edition (F.trees first.now.forest.now) (G.trees second.now.forest.now)) }
+{
+    let siblings = document_siblings(alloc, first.forest)?;
+    let others = document_siblings(alloc, second.forest)?;
+    let siblings = siblings.as_slice();
+    let others = others.as_slice();
+    if siblings.len() != others.len() {
+        return Ok(false);
+    }
+    let numbers = numbers_in_order(alloc, first.forest, first.index, siblings)?;
+    let other_numbers = numbers_in_order(alloc, second.forest, second.index, others)?;
+    let writer = Writer {
+        forest: first.forest,
+        plan: Plan {
+            alloc,
+            edition,
+            index: first.index,
+            numbers: numbers.as_slice(),
+        },
+    };
+    let other_writer = Writer {
+        forest: second.forest,
+        plan: Plan {
+            alloc,
+            edition,
+            index: second.index,
+            numbers: other_numbers.as_slice(),
+        },
+    };
+    let mut work = Work::new(alloc, Answer::none(alloc, first.file));
+    let mut other_work = Work::new(alloc, Answer::none(alloc, second.file));
+    are_alike(
+        &writer,
+        siblings,
+        &mut work,
+        &other_writer,
+        others,
+        &mut other_work,
+    )
+}
