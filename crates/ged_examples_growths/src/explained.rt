@@ -3,9 +3,9 @@
 use crate::calls::say_memory;
 use crate::growths::Marks;
 use ged_examples_answers::Answer;
-use ged_explain::{explain_device, explain_fault, explain_notice};
+use ged_explain::{Explainer, explain_device, explain_fault, explain_notice};
 use ged_link::{Notice, NoticeKind};
-use ged_tool::{Fault, FileFault};
+use ged_tool::{Fault, FileFault, accept};
 use std::alloc::{AllocError, Global};
 
 /// The name of the file in each explanation.
@@ -13,6 +13,12 @@ const NAME: &str = "tree.ged";
 
 /// The line that is explained.
 const LINE: u64 = 5;
+
+/// A notice at that line.
+const NOTICE: Notice = Notice {
+    line: LINE,
+    kind: NoticeKind::OneWay,
+};
 
 /// Makes a call that explains; false where there is none of this name.
 pub(crate) fn call_of_explained(
@@ -26,6 +32,7 @@ pub(crate) fn call_of_explained(
         "explain_fault" => call_explain_fault(alloc, file, marks, answer),
         "explain_notice" => call_explain_notice(alloc, file, marks, answer),
         "explain_device" => call_explain_device(alloc, marks, answer),
+        "Explainer::explain" => call_explainer(alloc, file, marks, answer),
         _ => return false,
     }
     true
@@ -51,12 +58,20 @@ fn call_explain_fault(alloc: Global, file: &[u8], marks: &mut Marks, answer: &mu
 }
 
 fn call_explain_notice(alloc: Global, file: &[u8], marks: &mut Marks, answer: &mut Answer) {
-    let notice = Notice {
-        line: LINE,
-        kind: NoticeKind::OneWay,
-    };
     marks.begin();
-    let made = explain_notice(alloc, file, &notice, NAME);
+    let made = explain_notice(alloc, file, &NOTICE, NAME);
+    marks.end();
+    say_made_text(answer, made);
+}
+
+fn call_explainer(alloc: Global, file: &[u8], marks: &mut Marks, answer: &mut Answer) {
+    let Ok(accepted) = accept(alloc, file) else {
+        say_memory(answer, None);
+        return;
+    };
+    let mut explainer = Explainer::new(file, accepted.flat(), accepted.index());
+    marks.begin();
+    let made = explainer.explain(alloc, &NOTICE, NAME);
     marks.end();
     say_made_text(answer, made);
 }

@@ -6,7 +6,7 @@ use crate::calls::{
     say_made_bytes, say_made_document, say_made_fault, say_made_lines, say_made_notices, say_memory,
 };
 use crate::growths::Marks;
-use ged_canon::canonical_bytes_in;
+use ged_canon::{canonical_bytes_in, tidy_bytes_in};
 use ged_document::{Document, ToDocument, canonical_in, document_of, to_lines, write_document};
 use ged_examples_answers::Answer;
 use ged_examples_whole::{LIMIT, say_outcome};
@@ -153,6 +153,12 @@ fn call_of_index(
         "canonical_bytes_in" => {
             marks.begin();
             let made = canonical_bytes_in(alloc, edition, document, index);
+            marks.end();
+            say_made_bytes(answer, made);
+        }
+        "tidy_bytes_in" => {
+            marks.begin();
+            let made = tidy_bytes_in(alloc, edition, document, index);
             marks.end();
             say_made_bytes(answer, made);
         }

@@ -22,7 +22,6 @@ pub(crate) fn has_call(name: &str) -> bool {
         "Index::is_used",
         "Index::are_led_by_tags",
         "pointers_at",
-        "records_at",
         "records_standing_at",
         "one_way",
         "first_one_way",
@@ -92,7 +91,6 @@ fn tell_index<F: Forest>(
     match question.name {
         "payload_at" => say_payload(question.word, forest, told),
         "pointers_at" => say_pointers(question.word, forest, index, told),
-        "records_at" => say_records(question.word, forest, index, told),
         "records_standing_at" => say_standing(question.word, index, told),
         "first_one_way" => told.say_optional(first_one_way(forest, index)),
         "one_way" => {
@@ -181,21 +179,7 @@ fn pointer_at<F: Forest>(forest: &F, place: usize) -> Option<&str> {
     }
 }
 
-/// Says the number of each record at these places, in this order and with one cursor.
-fn say_records<F: Forest>(places: &str, forest: &F, index: &Index, told: &mut Answer) {
-    let mut cursor = RecordCursor::new();
-    for place in places.split(',') {
-        let place = place_in(place);
-        if place < forest.size() {
-            if let Some(name) = forest.xref(place) {
-                say_place(told, index.record_with(place, name, &mut cursor));
-                told.say("\n");
-            }
-        }
-    }
-}
-
-/// Says the number of each record that stands at one of these places, with one cursor too, whether it has an identifier or not.
+/// Says the number of each record that stands at one of these places, in this order and with one cursor, whether it has an identifier or not.
 fn say_standing(places: &str, index: &Index, told: &mut Answer) {
     let mut cursor = RecordCursor::new();
     for place in places.split(',') {

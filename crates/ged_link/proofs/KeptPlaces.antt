@@ -5,13 +5,10 @@ use Rattle.std.specs.List.Sorted.{IsNonDecreasing, IsPartitionPoint}
 use Rattle.std.proofs.lemmas.Bool.{cases_lt}
 use Rattle.std.proofs.lemmas.List.{append-nil}
 use Rattle.std.proofs.lemmas.Option.{slice_get-map, slice_get_within, slice_get-get_or, get_or_from_slice_get}
-use Rattle.ged_line.specs.Bytes.{Bytes}
 use Rattle.ged_tree.specs.Trees.{Trees, none, tree, trees_count, records_of}
 use Rattle.ged_tree.specs.Places.{structure_at}
 use Rattle.ged_tree.specs.Runs.{trees_between, IsStep}
-use Rattle.ged_link.specs.declared.names.Names.{Names}
-use Rattle.ged_link.specs.Links.{IsRecordNumber, identifiers}
-use Rattle.ged_link.specs.Indexes.{AreRecords}
+use Rattle.ged_link.specs.Links.{identifiers}
 use Rattle.ged_link.specs.Places.{places_from, record_places, IsRecordPlace, place_kept, ArePlaces}
 use Rattle.ged_link.specs.inner.Places.{IsKeptAt}
 use Rattle.ged_link.proofs.PlaceCases.{at_first, at_next}
@@ -142,13 +139,3 @@ module _ (d : Trees) (places : List ℕ) (place : ℕ) (answer : Option ℕ) (ar
 
   pub answer_named : (number : ℕ) → answer ≡ Some number → slice_get (identifiers (records_of d)) number ≡ Some (structure_at d place).xref
   answer_named number is = record_stands d number place (kept_stands d places number place are (told number is))
-
--- ---- records by their names
-
--- a name that is a record's identifier is that of this record alone
-pub one_number : (d : Trees) (records : Names) (number : ℕ) (name : Bytes) → AreRecords d records → IsRecordNumber d number name
-    → (other : ℕ) → (Some number ≡ Some other) ↔ IsRecordNumber d other name
-one_number d records number name are one other = (
-  λ e. (let f : number ≡ other = cc in rw (← f) one),
-  λ h. sym ((are.numbered name number).1 one) ∙ (are.numbered name other).1 h,
-)

@@ -122,19 +122,6 @@ impl Index {
         }
     }
 
-    /// What [`Index::record_named`] answers for the identifier of the record at a place, whose name is handed in. The cursor is
-    /// that of [`Index::record_standing_at`]. Takes no memory.
-    #[inline(always)]
-    pub fn record_with(&self, place: usize, name: &str, cursor: &mut RecordCursor) -> Option<usize>
-        ensures { (document : Trees) → IsIndexOf document self.now → HasXref document place name.now → (number : ℕ) →
-            (result ≡ Some number) ↔ IsRecordNumber document number name.now }
-    {
-        match self.record_standing_at(place, cursor) {
-            Some(number) => Some(number),
-            None => self.record_named(name),
-        }
-    }
-
     /// What [`Index::leads_to`] answers for the pointer at a place, whose name is handed in. The cursor is that of
     /// [`Index::record_at`]. Takes no memory.
     #[inline(always)]

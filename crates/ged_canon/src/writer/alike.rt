@@ -19,11 +19,15 @@ use ged_link::Index;
 use ged_tree::Forest;
 use std::alloc::{AllocError, Global};
 
-/// A document, its index, and the file that it was read from, behind a byte order mark: any other bytes serve too, more slowly.
+/// A document with what is known of it.
 #[derive(Drop)]
 pub struct IndexedDocument<'a, F> {
+    /// The document.
     pub forest: &'a F,
+    /// Its index.
     pub index: &'a Index,
+    /// The bytes of the file that it was read from, behind a byte order mark. Lines that stand in them as the form has them are not copied:
+    /// any other bytes serve too, more slowly.
     pub file: &'a [u8],
 }
 

@@ -116,23 +116,32 @@ fn may_be_form_of(first: &[u8], second: &[u8]) -> bool {
         && (!begins_with_mark(second) || is_numbered(first) || !is_numbered(second))
 }
 
-/// Whether a file may be a canonical form, as its front tells. No clause rests on it.
+/// Whether a file may be a canonical form, as its front tells: it begins with a mark, and the first of its records that has an identifier, if
+/// one stands there, has that of a canonical form. No clause rests on it.
 fn may_be_canonical(bytes: &[u8]) -> bool {
-    begins_with_mark(bytes) && is_numbered(bytes)
+    begins_with_mark(bytes) && (is_numbered(bytes) || first_identified(bytes).is_none())
 }
 
 fn begins_with_mark(bytes: &[u8]) -> bool {
     bytes.starts_with(&[0xEF, 0xBB, 0xBF])
 }
 
-/// Whether a record near the front of a file has the first identifier of a canonical form.
+/// Whether the first record with an identifier near the front of a file has that of a canonical form.
 fn is_numbered(bytes: &[u8]) -> bool {
+    match first_identified(bytes) {
+        Some(line) => line.starts_with(b"0 @X1@ "),
+        None => false,
+    }
+}
+
+/// The line of the first record with an identifier near the front of a file.
+fn first_identified(bytes: &[u8]) -> Option<&[u8]> {
     for line in split_pieces(&bytes[..bytes.len().min(FRONT)]) {
-        if line.starts_with(b"0 @X1@ ") {
-            return true;
+        if line.starts_with(b"0 @") {
+            return Some(line);
         }
     }
-    false
+    None
 }
 
 /// One of the two files in the form of a comparison, or why it is not compared.
