@@ -7,3 +7,4 @@ pub mod Siblings
 pub mod StepParts
 pub mod Working
 pub mod Writing
+pub mod Written

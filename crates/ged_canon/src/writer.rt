@@ -17,3 +17,4 @@ pub(crate) mod same;
 pub(crate) mod siblings;
 pub(crate) mod structures;
 pub(crate) mod tidy;
+pub(crate) mod windows;

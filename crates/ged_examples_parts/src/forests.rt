@@ -78,6 +78,28 @@ pub(crate) fn say_own_lines<F: Forest>(forest: &F, answer: &mut Answer) {
     }
 }
 
+/// For each place the structure's own line, where the forest tells that it stands in a text as it is written, or a line with `None`.
+pub(crate) fn say_bare_lines<F: Forest>(forest: &F, answer: &mut Answer) {
+    for place in 0..forest.size() {
+        say_bare_line(forest, place, answer);
+    }
+}
+
+/// The line of one place. Where the forest tells it at another level too, it says so.
+fn say_bare_line<F: Forest>(forest: &F, place: usize, answer: &mut Answer)
+    requires { place < trees_count (F.trees forest.now) }
+{
+    let lines = forest.bare_lines();
+    let level = forest.level(place);
+    match lines.at(place, level) {
+        Some((start, end)) => answer.say_bytes(&lines.text()[start..end]),
+        None => answer.say("None\n"),
+    }
+    if lines.at(place, level.wrapping_add(1)).is_some() {
+        answer.say("and at another level\n");
+    }
+}
+
 /// The further lines of a payload: all at once where the forest has them so, else one by one, by another word.
 fn say_further<F: Forest>(forest: &F, place: usize, answer: &mut Answer)
     requires { place < trees_count (F.trees forest.now) }

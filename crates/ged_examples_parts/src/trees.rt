@@ -1,5 +1,5 @@
 // Calls of `ged_tree`, each under its name there.
-use crate::forests::{say_forest, say_own_lines, say_steps};
+use crate::forests::{say_bare_lines, say_forest, say_own_lines, say_steps};
 use crate::made;
 use crate::nodes::say_nodes;
 use crate::parts::{line_fault_number, say_line_fault};
@@ -14,8 +14,13 @@ use std::str;
 /// Answers a call on an argument; false where this module has no call of this name.
 pub(crate) fn answer(alloc: Global, call: &str, argument: &[u8], answer: &mut Answer) -> bool {
     match call {
-        "flatten" | "document_of" | "own_line" | "next_in_run" | "size" | "document_of/size" =>
-            answer_of_table(alloc, call, argument, answer),
+        "flatten"
+        | "document_of"
+        | "own_line"
+        | "bare_lines"
+        | "next_in_run"
+        | "size"
+        | "document_of/size" => answer_of_table(alloc, call, argument, answer),
         "build" | "Document::copy" | "to_lines" | "Node::copy" => {
             answer_of_document(alloc, call, argument, answer);
         }
@@ -72,6 +77,7 @@ fn say_of_table(alloc: Global, call: &str, flat: &Flat<'_>, answer: &mut Answer)
     match call {
         "flatten" => say_forest(flat, answer),
         "own_line" => say_own_lines(flat, answer),
+        "bare_lines" => say_bare_lines(flat, answer),
         "next_in_run" => say_steps(flat, answer),
         "size" => answer.say_number(flat.size() as u64),
         _ => {
@@ -96,6 +102,7 @@ fn say_of_document(alloc: Global, call: &str, document: &Document, answer: &mut 
     match call {
         "build" | "document_of" => say_forest(document, answer),
         "Document::of_file/own_line" => say_own_lines(document, answer),
+        "Document::of_file/bare_lines" => say_bare_lines(document, answer),
         "Document::of_file/next_in_run" => say_steps(document, answer),
         "Document::of_file/size" | "document_of/size" => answer.say_number(document.size() as u64),
         "Node::copy" => say_nodes(alloc, document, answer),

@@ -21,7 +21,7 @@ record_tag none k = []
 record_tag (tree s below next) k = cond (nat_le k (trees_count below)) s.tag (record_tag next (k - 1 - trees_count below))
 
 -- no level is below that of the first
-level_least : (l : ℕ) (t : Trees) (k : ℕ) → k < trees_count t → l ≤ level_at l t k
+pub level_least : (l : ℕ) (t : Trees) (k : ℕ) → k < trees_count t → l ≤ level_at l t k
 level_least l none k h = absurd (omega arith)
 level_least l (tree s b n) k h =
     elim (place_cases s b n k h) [
@@ -208,7 +208,7 @@ record_first base (tree s b n) k h e =
     ]
 
 -- so it does at the first place
-level_zero : (t : Trees) (i : ℕ) → i < trees_count t → i ≡ 0 → level_at 0 t i ≡ 0
+pub level_zero : (t : Trees) (i : ℕ) → i < trees_count t → i ≡ 0 → level_at 0 t i ≡ 0
 level_zero none i h e = absurd (omega arith)
 level_zero (tree s b n) i h e = level_first 0 s b n i e
 

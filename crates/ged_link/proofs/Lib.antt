@@ -1,9 +1,11 @@
 pub mod WalkLemmas
 pub mod LevelWalks
+pub mod TypeWalks
 pub mod PairLemmas
 pub mod PlaceCases
 pub mod LinkLemmas
 pub mod NameLemmas
+pub mod CountLemmas
 pub mod KeyLemmas
 pub mod ListingLemmas
 pub mod TypeLemmas
@@ -11,6 +13,8 @@ pub mod LawLemmas
 pub mod RecordLemmas
 pub mod RecordLineLemmas
 pub mod TargetLemmas
+pub mod TagLemmas
+pub mod PointerLemmas
 pub mod KeptPlaces
 pub mod UseLemmas
 pub mod AnswerLemmas

@@ -11,7 +11,7 @@ use Rattle.std.proofs.lemmas.Bool.Decides.{nat_tests}
 use Rattle.ged_line.specs.Bytes.{Bytes}
 use Rattle.ged_link.specs.declared.index.RecordPlace.{RecordPlace}
 use Rattle.ged_link.specs.declared.names.Names.{Names}
-use Rattle.ged_link.specs.NameNumbers.{name_number, digits_number, number_up_to, is_up_to, is_full, count_read, counted_number, short_number}
+use Rattle.ged_link.specs.NameNumbers.{name_number, digits_number, number_up_to, is_up_to, is_full, count_read, counted_number, number_within, short_number}
 use Rattle.ged_link.specs.declared.slots.Slots.{Slots}
 use Rattle.ged_link.specs.Indexes.{found_in, found_by, found_short, first_of}
 use Rattle.ged_link.specs.inner.Indexes.{HasNoOthers}
@@ -58,7 +58,7 @@ digits_same (a ∷ xs) (b ∷ bs) h k long e =
     cc
 
 -- a number with a one above so many bytes is less than the two that stands there in none
-bounded : (most : ℕ) (name : Bytes) → are_bytes name ≡ true → length name ≤ most → name_number name < 2 * 256 ^ most
+pub bounded : (most : ℕ) (name : Bytes) → are_bytes name ≡ true → length name ≤ most → name_number name < 2 * 256 ^ most
 bounded zero [] h k = omega arith
 bounded zero (b ∷ bs) h k = absurd (omega (arith, k))
 bounded (suc most) [] h k = let more = bounded most [] refl (omega arith) in omega (arith, more)
@@ -69,30 +69,30 @@ bounded (suc most) (b ∷ bs) h k =
     omega (arith, digit, more)
 
 -- what is known of a name that has a number: a one stands above its bytes, or it has eight
-record IsShorter (name : Bytes) (number : ℕ) : Type 0 where
-  bytes : are_bytes name ≡ true
-  long : length name ≤ 7
-  is : number ≡ name_number name
+pub record IsShorter (name : Bytes) (number : ℕ) : Type 0 where
+  pub bytes : are_bytes name ≡ true
+  pub long : length name ≤ 7
+  pub is : number ≡ name_number name
 
-record IsFull (name : Bytes) (number : ℕ) : Type 0 where
-  bytes : are_bytes name ≡ true
-  long : length name ≡ 8
-  is : number ≡ digits_number name
-  least : 2 * 256 ^ 7 ≤ number
-  most : number < 2 ^ 63
+pub record IsFull (name : Bytes) (number : ℕ) : Type 0 where
+  pub bytes : are_bytes name ≡ true
+  pub long : length name ≡ 8
+  pub is : number ≡ digits_number name
+  pub least : 2 * 256 ^ 7 ≤ number
+  pub most : number < 2 ^ 63
 
 -- or it is counted
-record IsCounted (name : Bytes) (number : ℕ) : Type 0 where
-  first : ℕ
-  digits : Bytes
-  count : ℕ
-  parts : name ≡ first ∷ digits
-  byte : first < 256
-  few : length digits < 16
-  read : count_read 0 digits ≡ Some count
-  is : number ≡ 2 ^ 63 + (first + 256 * (16 * count + length digits))
+pub record IsCounted (name : Bytes) (number : ℕ) : Type 0 where
+  pub first : ℕ
+  pub digits : Bytes
+  pub count : ℕ
+  pub parts : name ≡ first ∷ digits
+  pub byte : first < 256
+  pub few : length digits < 16
+  pub read : count_read 0 digits ≡ Some count
+  pub is : number ≡ 2 ^ 63 + (first + 256 * (16 * count + length digits))
 
-data IsNumbered (name : Bytes) (number : ℕ) : Type 0 where
+pub data IsNumbered (name : Bytes) (number : ℕ) : Type 0 where
   shorter : IsShorter name number → IsNumbered name number
   full : IsFull name number → IsNumbered name number
   counted : IsCounted name number → IsNumbered name number
@@ -114,16 +114,16 @@ is_counted (b ∷ digits) number e = go (nat_lt b 256 && nat_lt (length digits) 
         told (count_read 0 digits) refl (below b parts.0) (grind (arith, nat_tests)) k
     go false h k = cc
 
-numbered : (name : Bytes) (number : ℕ) → short_number name ≡ Some number → IsNumbered name number
-numbered name number e = in_full (is_full 8 name) refl e
+pub numbered : (name : Bytes) (number : ℕ) → short_number name ≡ Some number → IsNumbered name number
+numbered name number e = in_counted (counted_number name) refl e
   where
-    in_shorter : (short : Bool) → is_up_to 7 name ≡ short → option_or (cond short (Some (name_number name)) None) (counted_number name) ≡ Some number → IsNumbered name number
+    in_shorter : (short : Bool) → is_up_to 7 name ≡ short → cond short (Some (name_number name)) None ≡ Some number → IsNumbered name number
     in_shorter true h k =
         let parts : (nat_le (length name) 7 ≡ true) × (are_bytes name ≡ true) = both _ _ h in
         shorter (record { bytes = parts.1; long = grind (arith, nat_tests); is = cc })
-    in_shorter false h k = counted (is_counted name number k)
+    in_shorter false h k = cc
 
-    in_full : (is : Bool) → is_full 8 name ≡ is → option_or (cond is (Some (digits_number name)) (number_up_to 7 name)) (counted_number name) ≡ Some number → IsNumbered name number
+    in_full : (is : Bool) → is_full 8 name ≡ is → cond is (Some (digits_number name)) (number_up_to 7 name) ≡ Some number → IsNumbered name number
     in_full true h k =
         let parts : (nat_eq (length name) 8 ≡ true) × (are_bytes name && (nat_le (2 * 256 ^ 7) (digits_number name) && nat_lt (digits_number name) (128 * 256 ^ 7)) ≡ true) = both _ _ h in
         let more : (are_bytes name ≡ true) × (nat_le (2 * 256 ^ 7) (digits_number name) && nat_lt (digits_number name) (128 * 256 ^ 7) ≡ true) = both _ _ parts.1 in
@@ -131,6 +131,10 @@ numbered name number e = in_full (is_full 8 name) refl e
         let same : number ≡ digits_number name = cc in
         full (record { bytes = more.0; long = grind (arith, nat_tests); is = same; least = grind (arith, nat_tests); most = grind (arith, nat_tests) })
     in_full false h k = in_shorter (is_up_to 7 name) refl k
+
+    in_counted : (o : Option ℕ) → counted_number name ≡ o → option_or o (number_within 8 name) ≡ Some number → IsNumbered name number
+    in_counted (Some other) h k = counted (is_counted name number (h ∙ k))
+    in_counted None h k = in_full (is_full 8 name) refl k
 
 apart : (a b : Bytes) (m n : ℕ) → IsShorter a m → IsFull b n → m ≡ n → ⊥
 apart a b m n x y e =
@@ -146,7 +150,7 @@ shorter_apart a b m n x y e = let most = bounded 7 a x.bytes x.long in omega (ar
 full_apart : (a b : Bytes) (m n : ℕ) → IsFull a m → IsCounted b n → m ≡ n → ⊥
 full_apart a b m n x y e = omega (arith, x.most, y.is, e)
 
-digit_bounds : (b : ℕ) → is_ascii_digit b ≡ true → (48 ≤ b) × (b ≤ 57)
+pub digit_bounds : (b : ℕ) → is_ascii_digit b ≡ true → (48 ≤ b) × (b ≤ 57)
 digit_bounds b e = let parts : (nat_le 48 b ≡ true) × (nat_le b 57 ≡ true) = both _ _ e in (grind (arith, nat_tests), grind (arith, nat_tests))
 
 one_more : (s t a b : ℕ) → (48 ≤ a) × (a ≤ 57) → (48 ≤ b) × (b ≤ 57) → s * 10 + (a - 48) ≡ t * 10 + (b - 48) → (s ≡ t) × (a ≡ b)

@@ -4,30 +4,16 @@ use Rattle.ged_line.specs.Bytes.{Bytes}
 use Rattle.ged_tree.specs.Trees.{Trees}
 use Rattle.ged_tree.specs.Places.{structure_at}
 use Rattle.ged_tree.specs.declared.payload.Payload.TheVariants.{Pointer}
-use Rattle.ged_link.specs.declared.targets.Target.{Target}
 use Rattle.ged_link.specs.declared.names.Names.{Names}
 use Rattle.ged_link.specs.Links.{IsRecordNumber}
 use Rattle.ged_link.specs.Indexes.{AreRecords}
-use Rattle.ged_link.specs.Targets.{PointsAt, AreTargets}
+use Rattle.ged_link.specs.Targets.{PointsAt}
 
-last_or : {X : Type 0} (xs : List X) (y z : X) (i : ℕ) → slice_get (xs ++ y ∷ []) i ≡ Some z → (slice_get xs i ≡ Some z) ⊎ (y ≡ z)
+pub last_or : {X : Type 0} (xs : List X) (y z : X) (i : ℕ) → slice_get (xs ++ y ∷ []) i ≡ Some z → (slice_get xs i ≡ Some z) ⊎ (y ≡ z)
 last_or [] y z zero is = inr (cc)
 last_or [] y z (suc i) is = absurd (cc)
 last_or (x ∷ xs) y z zero is = inl is
 last_or (x ∷ xs) y z (suc i) is = last_or xs y z i is
-
-pub none_told : (d : Trees) (targets : List Target) → targets ≡ [] → AreTargets d targets
-none_told d targets empty index target is = absurd (none_in targets index target empty is)
-  where
-    none_in : (ts : List Target) (i : ℕ) (t : Target) → ts ≡ [] → slice_get ts i ≡ Some t → ⊥
-    none_in [] i t e h = cc
-    none_in (x ∷ ts) i t e h = cc
-
-pub told_more : (d : Trees) (targets : List Target) (new : Target) → PointsAt d new.place new.number → AreTargets d targets → AreTargets d (targets ++ new ∷ [])
-told_more d targets new points are index target is = elim (last_or targets new target index is) [
-  | inl old ↦ are index target old
-  | inr same ↦ rw (← same) points
-]
 
 -- a record that a pointer at the place names is the one with the name
 pub points_at_one : (d : Trees) (records : Names) (place number : ℕ) (name : Bytes) → AreRecords d records → PointsAt d place number → (structure_at d place).payload ≡ Pointer name

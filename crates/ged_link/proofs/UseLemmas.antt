@@ -1,17 +1,16 @@
 -- Marks of the records that pointers name.
-use Rattle.std.proofs.Common.{◌≡◌, ◌≢◌, ℕ, ◌+◌, ◌<◌, Bool, true, false, Option, Some, None, List, ◌∷◌, ◌⊎◌, inl, inr, length, refl, sym, subst, ◌∙◌, arith, get_or-set_other, slice_set, ap, option_map, Bor}
+use Rattle.std.proofs.Common.{◌≡◌, ◌≢◌, ℕ, ◌+◌, ◌<◌, ◌≤◌, Bool, true, false, Option, Some, None, List, ◌⊎◌, inl, inr, length, refl, sym, subst, ◌∙◌, arith, get_or-set_other, replicate, slice_index_or, slice_set, ap, option_map}
 use Rattle.std.proofs.Math.Nat.{eq-or-lt_of_le}
 use Rattle.std.proofs.lemmas.Bool.{cases_lt}
 use Rattle.std.proofs.lemmas.Grind.{get_or-set_at}
+use Rattle.std.proofs.lemmas.List.{get_or-replicate, get_or_past, length-replicate}
 use Rattle.std.proofs.lemmas.Option.{slice_get_within}
 use Rattle.ged_line.specs.Bytes.{Bytes}
 use Rattle.ged_tree.specs.Trees.{Trees, trees_count, records_of}
 use Rattle.ged_tree.specs.Places.{structure_at}
 use Rattle.ged_tree.specs.declared.payload.Payload.{Payload}
 use Rattle.ged_tree.specs.declared.payload.Payload.TheVariants.{Void, Pointer, Text}
-use Rattle.ged_tree.specs.declared.forest.payload.PayloadView.{PayloadView}
-use Rattle.ged_tree.specs.declared.forest.payload.PayloadView.TheVariants as views
-use Rattle.ged_tree.specs.Views.{payload_of, is_pointer}
+use Rattle.ged_tree.specs.Views.{is_pointer}
 use Rattle.ged_link.specs.declared.index.RecordPlace.{RecordPlace}
 use Rattle.ged_link.specs.Links.{identifiers}
 use Rattle.ged_link.specs.LinkFaults.{HasXref, HasPointer, IsDangling, IsLowest}
@@ -45,17 +44,7 @@ no_place : (o : Option RecordPlace) → option_map (λ r. r.number) o ≡ None �
 no_place None e = refl
 no_place (Some found) e = cc
 
-pub not_pointer : (v : PayloadView) (further : List Bytes) (p : Payload) → payload_of v further ≡ p → ((x : Bor Bytes) → v ≡ views.Pointer x → ⊥) → (name : Bytes) → p ≡ Pointer name → ⊥
-not_pointer views.Void further p e other name h = absurd (let f : Void ≡ Pointer name = e ∙ h in cc)
-not_pointer (views.Pointer x) further p e other name h = other x refl
-not_pointer (views.Text first) further p e other name h = absurd (let f : Text (first.now ∷ further) ≡ Pointer name = e ∙ h in cc)
-
-pub no_target : (find : Bytes → Option ℕ) (v : PayloadView) (further : List Bytes) (p : Payload) → payload_of v further ≡ p → ((x : Bor Bytes) → v ≡ views.Pointer x → ⊥) → target find p ≡ None
-no_target find views.Void further p e other = ap (target find) (sym e)
-no_target find (views.Pointer x) further p e other = absurd (other x refl)
-no_target find (views.Text first) further p e other = ap (target find) (sym e)
-
--- the same of a payload that is told to be no pointer
+-- a payload that is told to be no pointer
 pub told_not_pointer : (p : Payload) → is_pointer p ≡ false → (name : Bytes) → p ≡ Pointer name → ⊥
 told_not_pointer p denied name h = absurd (let f : true ≡ false = sym (ap is_pointer h) ∙ denied in cc)
 
@@ -118,6 +107,19 @@ module _ (d : Trees) (place : ℕ) (within : place < trees_count d) where
 
 pub number_inside : (d : Trees) (records : Names) (name : Bytes) (number : ℕ) → AreRecords d records → number_in records name ≡ Some number → number < length (identifiers (records_of d))
 number_inside d records name number are e = slice_get_within (identifiers (records_of d)) number (Some name) ((are.numbered name number).0 e)
+
+-- at first no record is marked
+pub used_none : (d : Trees) (used : List Bool) (count : ℕ) → used ≡ replicate count false → AreUsedBefore d 0 used
+used_none d used count are number = (
+  λ e. absurd (let f : false ≡ true = sym (ap (λ (marks : List Bool). slice_index_or marks number false) are ∙ unmarked) ∙ e in cc),
+  λ h. absurd (let f = h.2.1 in omega (arith, f)),
+)
+  where
+    unmarked : slice_index_or (replicate count false) number false ≡ false
+    unmarked = elim (cases_lt number count) [
+      | inl within ↦ get_or-replicate count number false false within
+      | inr past ↦ get_or_past (replicate count false) number false (subst (λ (n : ℕ). n ≤ number) (sym (length-replicate count false)) past)
+    ]
 
 -- all pointers are gone through
 pub used_all : (d : Trees) (place : ℕ) (used : List Bool) → place ≡ trees_count d → AreUsedBefore d place used → AreUsed d used

@@ -51,10 +51,6 @@ pub one_linked : (find : Bytes → Option ℕ) (role other : Role) (at : Bytes) 
 one_linked find role other at q r s here old new h t k =
     k ∙ (turned_pair here (role_eq role other) (nat_eq q r) old ∙ sym (ap (λ (x : Bool). (here && x) || old) (is_link find role other at q r s h t)))
 
--- the role by the tags that a structure and its record have
-pub role_here : (told : Option Role) (at tag from here : Bytes) (role : Option Role) → told ≡ role_under at tag → at ≡ from → tag ≡ here → told ≡ role → role ≡ role_under from here
-role_here told at tag from here role e h k is = sym is ∙ (e ∙ (ap (λ (x : Bytes). role_under x tag) h ∙ ap (λ (x : Bytes). role_under from x) k))
-
 pub below_none : (find : Bytes → Option ℕ) (d : Trees) (at : Bytes) (r p : ℕ) (t : Trees) → t ≡ none → one_way_below find d at r p t ≡ []
 below_none find d at r p t e = rw e refl
 

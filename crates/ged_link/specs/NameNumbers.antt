@@ -45,6 +45,6 @@ counted_number [] = None
 counted_number (b ∷ digits) =
     cond (nat_lt b 256 && nat_lt (length digits) 16) (option_map (λ count. 2 ^ 63 + (b + 256 * (16 * count + length digits))) (count_read 0 digits)) None
 
--- the number of a short name, which 64 bits hold: one of at most eight bytes, or a counted one
+-- the number of a short name, which 64 bits hold: a counted one, or one of at most eight bytes
 abbrev pub short_number : Bytes → Option ℕ
-short_number name = option_or (number_within 8 name) (counted_number name)
+short_number name = option_or (counted_number name) (number_within 8 name)

@@ -6,6 +6,8 @@ pub mod LinkWalks
 pub mod Listing
 pub mod PairSets
 pub mod Places
+pub mod PointerLists
+pub mod PointerTags
 pub mod RecordLines
 pub mod Resolving
 pub mod Slots

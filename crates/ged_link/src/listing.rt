@@ -9,7 +9,7 @@ ghost use Rattle.ged_link.specs.inner.Layout.{counted, no_names};
 ghost use Rattle.ged_link.specs.inner.Listing.{listed_name, listed_halves, listed_digits, unnamed_in, all_halves, all_digits, AreTypesOf, IsRecordList};
 
 use crate::layout::{Tally, count_name, no_tallies};
-use crate::names::number_of;
+use crate::names::{count_in, number_of};
 use crate::record_type::{RecordType, type_of};
 use crate::slots::read_number;
 use ged_tree::{Forest, next_in_run};
@@ -67,14 +67,17 @@ fn list_name(tallies: &mut Vec<Tally>, xref: Option<&str>) -> ListedName
     let Some(number) = number_of(name) else {
         return NO_NUMBER;
     };
-    let digits = read_number(digits);
+    let digits = match count_in(number) {
+        Some(count) => count,
+        None => read_number(digits),
+    };
     count_name(tallies, *first, digits);
     ListedName { number, digits }
 }
 
 /// The low and the high half of a number.
 #[inline(always)]
-fn halves(number: u64) -> (u32, u32)
+pub(crate) fn halves(number: u64) -> (u32, u32)
     ensures { result ≡ (number % 4294967296, number / 4294967296) }
 {
     (
@@ -85,7 +88,7 @@ fn halves(number: u64) -> (u32, u32)
 
 /// The number that has these halves.
 #[inline(always)]
-fn joined(halves: (u32, u32)) -> u64
+pub(crate) fn joined(halves: (u32, u32)) -> u64
     ensures { result ≡ halves.0 + halves.1 * 4294967296 }
 {
     let (low, high) = halves;

@@ -1,11 +1,11 @@
 // Records by the names of their cross-reference identifiers.
-ghost use Rattle.std.specs.Prelude.{◌≡◌, ◌<◌, ◌^◌, ◌↔◌, ℕ, IsTrue, IfOk, IfSome, OnOk, [], List, Option, Some, None, nat_eq};
+ghost use Rattle.std.specs.Prelude.{◌≡◌, ◌+◌, ◌∷◌, ◌<◌, ◌^◌, ◌↔◌, ℕ, IsTrue, IfOk, IfSome, OnOk, [], List, Option, Some, None, nat_eq};
 ghost use Rattle.std.specs.HashMap.{get, get_by_text};
 ghost use Rattle.ged_line.specs.Bytes.{Bytes};
 ghost use Rattle.ged_link.specs.Links.{IsAmong};
 ghost use Rattle.ged_link.specs.Indexes.{found_in};
 ghost use Rattle.ged_link.specs.inner.Indexes.{HasKey, HasNoOthers, HoldsOf};
-ghost use Rattle.ged_link.specs.Slots.{slot_in, kept_in};
+ghost use Rattle.ged_link.specs.Slots.{number_read, slot_in, kept_in};
 ghost use Rattle.ged_link.specs.NameNumbers.{count_read, counted_number, number_up_to, number_within, short_number};
 ghost use Rattle.ged_link.specs.inner.Listing.{listed_name};
 ghost use Rattle.ged_link.specs.inner.Resolving.{AddsRecord};
@@ -59,7 +59,7 @@ fn number_of_rest(bytes: &[u8]) -> Option<u64>
 ///
 /// Each byte is a digit to the base 256, the first byte the lowest, and above them stands a one, where there is room for it. Eight
 /// bytes spell a number only if the last is above one and below 128, as those of all identifiers are.
-#[inline(always)]
+#[inline(never)]
 fn number_of_bytes(name: &[u8]) -> Option<u64>
     ensures { result ≡ number_within 8 name.now }
 {
@@ -79,29 +79,35 @@ fn number_of_bytes(name: &[u8]) -> Option<u64>
 /// Counts below it stay below 2 to the 50th with a digit more.
 const COUNT_BOUND: u64 = 0x4000_0000_0000;
 
-/// The count that decimal digits spell after one read so far, or `None` where a byte is no digit, or the count before the last of them
-/// is not below [`COUNT_BOUND`].
-fn read_count(so_far: u64, digits: &[u8]) -> Option<u64>
-    requires { so_far < 2 ^ 50 }
-    ensures count { result ≡ count_read so_far digits.now }
+/// The count that decimal digits spell, or `None` where a byte is no digit, or the count before the last of them is not below
+/// [`COUNT_BOUND`].
+#[inline(always)]
+#[tactic(auto, using(crate::proofs::CountLemmas::digit_read))]
+fn read_count(digits: &[u8]) -> Option<u64>
+    ensures count { result ≡ count_read 0 digits.now }
     ensures small { IfSome result (λ count. count < 2 ^ 50) }
 {
-    match digits {
-        [digit, more @ ..] => {
-            if !digit.is_ascii_digit() || so_far >= COUNT_BOUND {
-                return None;
-            }
-            read_count(so_far * 10 + u64::from(*digit - b'0'), more)
+    let mut count: u64 = 0;
+    for digit in digits {
+        if !digit.is_ascii_digit() {
+            return None;
         }
-        [] => Some(so_far),
+        if count >= COUNT_BOUND {
+            return None;
+        }
+        count = count * 10 + u64::from(*digit - b'0');
     }
+    Some(count)
 }
+
+/// The highest of 64 bits, which the numbers of counted names have.
+const COUNTED: u64 = 0x8000_0000_0000_0000;
 
 /// The number of a counted name, or `None` for any other. A counted name is one byte and behind it at most 15 decimal digits, or none,
 /// all of which but the last spell less than [`COUNT_BOUND`], as they always do where there are at most 14. Its number has the highest
 /// of 64 bits, which no answer of [`number_of_bytes`] has, and under that bit what the digits spell, how many there are, and the byte.
-/// Programs that number their records from one list for all files spell such names.
-#[inline(never)]
+/// Most names are counted, as I1 and F0023 are.
+#[inline(always)]
 fn number_of_counted(name: &[u8]) -> Option<u64>
     ensures { result ≡ counted_number name.now }
 {
@@ -110,23 +116,51 @@ fn number_of_counted(name: &[u8]) -> Option<u64>
             if digits.len() > 15 {
                 return None;
             }
-            let count = read_count(0, digits)?;
+            let count = read_count(digits)?;
             let counted = 0x10 * count + digits.len() as u64;
-            Some(0x8000_0000_0000_0000 + u64::from(*first) + 0x100 * counted)
+            Some(COUNTED + u64::from(*first) + 0x100 * counted)
         }
         [] => None,
     }
 }
 
-/// The number that a short name spells, or `None` for a long one. A name is short if it has at most eight bytes, as most have, or is
-/// counted. No two names spell one number.
+/// The number that a short name spells, or `None` for a long one. A name is short if it is counted, as most are, or has at most eight
+/// bytes. No two names spell one number.
 #[inline(always)]
 pub(crate) fn number_of(name: &str) -> Option<u64>
     ensures { result ≡ short_number name.now }
 {
-    match number_of_bytes(name.as_bytes()) {
+    match number_of_counted(name.as_bytes()) {
         Some(number) => Some(number),
-        None => number_of_counted(name.as_bytes()),
+        None => number_of_bytes(name.as_bytes()),
+    }
+}
+
+/// Above all that varies of the number of a counted name, where 32 bits hold the count.
+pub(crate) const BITS_END: u64 = 0x1000_0000_0000;
+
+/// What varies of the number of a counted name, in 44 bits: the byte, how many digits there are, and their count; or `None` where 32
+/// bits do not hold that, or where the name is not counted.
+#[inline(always)]
+pub(crate) fn counted_bits(name: &str) -> Option<u64>
+    ensures number { IfSome result (λ bits. short_number name.now ≡ Some (2 ^ 63 + bits)) }
+    ensures small { IfSome result (λ bits. bits < 2 ^ 44) }
+    ensures found { (bits : ℕ) → counted_number name.now ≡ Some (2 ^ 63 + bits) → bits < 2 ^ 44 → result ≡ Some bits }
+{
+    let number = number_of_counted(name.as_bytes())?;
+    let bits = number.checked_sub(COUNTED)?;
+    if bits < BITS_END { Some(bits) } else { None }
+}
+
+/// What the digits of a counted name spell, by the name's number, where 32 bits hold it.
+#[inline(always)]
+pub(crate) fn count_in(number: u64) -> Option<u32>
+    ensures { (first : ℕ) (digits : Bytes) → short_number (first ∷ digits) ≡ Some number → IfSome result (λ count. count ≡ number_read 0 digits) }
+{
+    let bits = number.checked_sub(COUNTED)?;
+    match u32::try_from(bits / 0x1000) {
+        Ok(count) => Some(count),
+        Err(_) => None,
     }
 }
 
@@ -188,6 +222,23 @@ impl Names {
                 None => self.find_short(number),
             },
             None => self.find_long(name),
+        }
+    }
+
+    /// Where the record stands that has a counted name, by what varies of the name's number ([`counted_bits`]), without the name's text.
+    /// Takes no memory.
+    #[inline(always)]
+    pub(crate) fn find_counted(&self, bits: u64) -> Option<RecordPlace>
+        requires { bits < 2 ^ 44 }
+        ensures { (name : Bytes) → short_number name ≡ Some (2 ^ 63 + bits) → result ≡ found_in self.now name }
+    {
+        let first = (bits % 0x100) as u8;
+        let count = (bits / 0x1000) as u32;
+        let number = COUNTED + bits;
+        let slot = self.slots.slot_behind(first, count);
+        match self.slots.find_at(slot, number) {
+            Some(found) => Some(found),
+            None => self.find_short(number),
         }
     }
 

@@ -1,13 +1,19 @@
 // Where the pointers of a document lead: the records that they name, and the links between records.
 ghost use Rattle.std.specs.Prelude.{◌≡◌, ◌<◌, ◌≤◌, ◌+◌, ◌⊎◌, ℕ, false, IsTrue, ◌↔◌, IfOk, IfErr, IfSome, OnOk, length, nat_eq, ◌==◌, ◌&&◌, ◌||◌, option_map, alloc_error};
+ghost use Rattle.ged_line.specs.Bytes.{Bytes};
 ghost use Rattle.ged_tree.specs.Trees.{records_of, trees_count};
 ghost use Rattle.ged_tree.specs.Places.{structure_at, level_at};
 ghost use Rattle.ged_tree.specs.Runs.{trees_between, IsRunOfTrees};
+ghost use Rattle.ged_tree.specs.declared.payload.Payload.TheVariants.{Pointer};
 ghost use Rattle.ged_link.specs.Links.{identifiers};
 ghost use Rattle.ged_link.specs.LinkFaults.{HasLinkFault, IsRepeated, IsDangling};
-ghost use Rattle.ged_link.specs.Indexes.{place_in};
+ghost use Rattle.ged_link.specs.Indexes.{found_in, place_in};
+ghost use Rattle.ged_link.specs.RecordTypes.{IsTypeOf};
+ghost use Rattle.ged_link.specs.inner.Listing.{AreTypesOf};
 ghost use Rattle.ged_link.specs.inner.LinkWalks.{target, linked, is_place, has_link_to};
 ghost use Rattle.ged_link.specs.inner.PairSets.{lists_have, AreLinks};
+ghost use Rattle.ged_link.specs.inner.PointerLists.{pointers, IsListedPointer, AreListedFirst};
+ghost use Rattle.ged_link.specs.inner.PointerTags.{IsTold};
 ghost use Rattle.ged_link.specs.Targets.{AreTargets};
 ghost use Rattle.ged_link.specs.LedByTags.{AreLed};
 ghost use Rattle.ged_link.specs.inner.Resolving.{AreFollowed, AreKnown, AreUsed};
@@ -18,10 +24,12 @@ ghost use Rattle.ged_link.specs.declared.fault.LinkFault.TheVariants.{Memory};
 use crate::fault::LinkFault;
 use crate::index::RecordPlace;
 use crate::link_lists::LinkLists;
-use crate::links::role_of;
+use crate::listed_pointer::listed_in;
 use crate::names::Names;
-use crate::record_type::{RecordType, leads_as_tagged};
-use crate::targets::{Target, push_target};
+use crate::pointer_list::PointerList;
+use crate::pointer_tag::PointerTag;
+use crate::record_type::{RecordType, leads_as_tagged, type_behind_head};
+use crate::targets::Target;
 use ged_tree::{Forest, PayloadView};
 use std::alloc::{AllocError, Global};
 
@@ -36,6 +44,15 @@ pub(crate) struct Followed {
     pub(crate) led: bool,
 }
 
+/// The same while the pointers are followed: `used` and `led` tell of those so far.
+#[derive(Drop)]
+pub(crate) struct Following {
+    pub(crate) used: Vec<bool>,
+    /// What they name, and what is listed of those that are left.
+    pub(crate) list: PointerList,
+    pub(crate) led: bool,
+}
+
 /// The records of a document by their identifiers, and the type of each record by its number.
 #[derive(Clone, Copy)]
 pub(crate) struct Records<'r> {
@@ -43,47 +60,85 @@ pub(crate) struct Records<'r> {
     pub(crate) types: &'r [Option<RecordType>],
 }
 
-/// What a pointer tells: the tag of its structure, and where the record stands that it names.
+/// What a pointer tells: by its tag, and where the record stands that it names.
 #[derive(Clone, Copy)]
-struct Pointed<'f> {
-    tag: &'f str,
+struct Pointed {
+    told: PointerTag,
     to: RecordPlace,
 }
 
-/// Marks the record that the structure at a place points to, and answers where it stands, with the structure's tag, or `None` where no
-/// pointer stands; or the fault of a pointer that names no record.
+/// What the pointer at a place tells by its text, or `None` where it names no record.
+#[inline(never)]
+fn read_pointer<F: Forest>(forest: &F, records: &Records<'_>, place: usize) -> Option<Pointed>
+    requires { place < trees_count (F.trees forest.now) }
+    ensures { (name : Bytes) → (structure_at (F.trees forest.now) place).payload ≡ Pointer name
+        → (option_map (λ (pointed : Pointed). pointed.to) result ≡ found_in records.now.names.now name)
+        × IfSome result (λ pointed. IsTold pointed.told (structure_at (F.trees forest.now) place).tag) }
+{
+    let (tag, payload) = forest.tag_and_payload(place);
+    let PayloadView::Pointer(name) = payload else {
+        return None;
+    };
+    let to = records.names.find(name)?;
+    let told = PointerTag::of(tag);
+    Some(Pointed { told, to })
+}
+
+/// The same by what is listed of the pointer, or where nothing is, by its text.
 #[inline(always)]
-fn follow<'f, F: Forest>(
-    forest: &'f F,
+fn look_up<F: Forest>(
+    forest: &F,
     records: &Records<'_>,
     place: usize,
-    followed: &mut Followed,
-) -> Result<Option<Pointed<'f>>, LinkFault>
+    listed: Target,
+) -> Option<Pointed>
+    requires within { place < trees_count (F.trees forest.now) }
+    requires listed { (name : Bytes) → (structure_at (F.trees forest.now) place).payload ≡ Pointer name
+        → IsListedPointer listed (structure_at (F.trees forest.now) place).tag name }
+    ensures { (name : Bytes) → (structure_at (F.trees forest.now) place).payload ≡ Pointer name
+        → (option_map (λ (pointed : Pointed). pointed.to) result ≡ found_in records.now.names.now name)
+        × IfSome result (λ pointed. IsTold pointed.told (structure_at (F.trees forest.now) place).tag) }
+{
+    let Some(listed) = listed_in(listed) else {
+        return read_pointer(forest, records, place);
+    };
+    let to = records.names.find_counted(listed.bits)?;
+    let told = listed.told;
+    Some(Pointed { told, to })
+}
+
+/// Marks the record that the structure at a place points to, and answers where it stands, with what the structure's tag tells, or `None`
+/// where no pointer stands; or the fault of a pointer that names no record.
+#[inline(always)]
+fn follow<F: Forest>(
+    forest: &F,
+    records: &Records<'_>,
+    place: usize,
+    followed: &mut Following,
+) -> Result<Option<Pointed>, LinkFault>
     requires within { place < trees_count (F.trees forest.now) }
     requires records { AreKnown (F.trees forest.now) records.now }
     requires distinct { (place : ℕ) → IsRepeated (F.trees forest.now) place → ⊥ }
     requires used { AreFollowed (F.trees forest.now) place followed.old }
     ensures used { OnOk result (AreFollowed (F.trees forest.now) (place + 1) followed.new) }
-    ensures tag { IfOk result (λ found. IfSome found (λ pointed. pointed.tag.now ≡ (structure_at (F.trees forest.now) place).tag)) }
+    ensures tag { IfOk result (λ found. IfSome found (λ pointed. IsTold pointed.told (structure_at (F.trees forest.now) place).tag)) }
     ensures target { IfOk result (λ found. option_map (λ (pointed : Pointed). pointed.to.place) found ≡ target (place_in records.now.names.now) (structure_at (F.trees forest.now) place).payload) }
     ensures fault { IfErr result (λ fault. (fault ≡ Memory alloc_error) ⊎ HasLinkFault (F.trees forest.now) fault) }
 {
     if !forest.points(place) {
         return Ok(None);
     }
-    let (tag, payload) = forest.tag_and_payload(place);
-    let PayloadView::Pointer(name) = payload else {
-        return Ok(None);
-    };
-    let Some(found) = records.names.find(name) else {
+    let listed = followed.list.take_next();
+    let Some(pointed) = look_up(forest, records, place, listed) else {
         return Err(LinkFault::Dangling(forest.line(place)));
     };
+    let found = pointed.to;
     followed.used[found.number] = true;
-    let Ok(()) = push_target(&mut followed.targets, place, found.number) else {
+    let Ok(()) = followed.list.put_target(place, found.number) else {
         return Err(LinkFault::Memory(AllocError));
     };
-    followed.led &= leads_as_tagged(records.types, tag, found.number);
-    Ok(Some(Pointed { tag, to: found }))
+    followed.led &= leads_as_tagged(records.types, pointed.told, found.number);
+    Ok(Some(pointed))
 }
 
 /// Marks the record that a structure in another record points to, and adds the link of both where it is one: only structures directly
@@ -93,11 +148,12 @@ fn follow_link<F: Forest>(
     forest: &F,
     records: &Records<'_>,
     from: usize,
+    from_type: Option<RecordType>,
     place: usize,
-    followed: &mut Followed,
+    followed: &mut Following,
     lists: &mut LinkLists,
 ) -> Result<(), LinkFault>
-    requires from { from < trees_count (F.trees forest.now) }
+    requires from { IsTypeOf from_type (structure_at (F.trees forest.now) from).tag }
     requires within { place < trees_count (F.trees forest.now) }
     requires records { AreKnown (F.trees forest.now) records.now }
     requires distinct { (place : ℕ) → IsRepeated (F.trees forest.now) place → ⊥ }
@@ -114,7 +170,7 @@ fn follow_link<F: Forest>(
     if forest.level(place) != 1 {
         return Ok(());
     }
-    let Some(role) = role_of(forest.tag(from), pointed.tag) else {
+    let Some(role) = pointed.told.role_under(from_type) else {
         return Ok(());
     };
     lists.push(role, from, pointed.to)?;
@@ -122,15 +178,17 @@ fn follow_link<F: Forest>(
 }
 
 /// Which records some pointer names, and the links of all records, added to a list of none; or the fault of the first pointer that names
-/// no record.
+/// no record. Of the first of the pointers, or of all, it is listed what they tell.
 pub(crate) fn follow_pointers<F: Forest>(
     alloc: Global,
     forest: &F,
     records: &Records<'_>,
     none: LinkLists,
+    listed: Vec<Target>,
 ) -> Result<(Followed, LinkLists), LinkFault>
     requires records { AreKnown (F.trees forest.now) records.now }
-    requires count { length records.now.types.now ≡ length (identifiers (records_of (F.trees forest.now))) }
+    requires types { AreTypesOf records.now.types.now (records_of (F.trees forest.now)) }
+    requires listed { AreListedFirst listed.items (pointers (F.trees forest.now)) }
     requires none { (role : Role) (pair : ℕ × ℕ) → lists_have none role pair ≡ false }
     requires distinct { (place : ℕ) → IsRepeated (F.trees forest.now) place → ⊥ }
     ensures used { IfOk result (λ followed. AreUsed (F.trees forest.now) followed.0.used.items) }
@@ -141,20 +199,33 @@ pub(crate) fn follow_pointers<F: Forest>(
     ensures fault { IfErr result (λ fault. (fault ≡ Memory alloc_error) ⊎ HasLinkFault (F.trees forest.now) fault) }
 {
     let used = vec![in alloc; false; records.types.len()]?;
-    let targets = Vec::new(alloc);
-    let mut followed = Followed {
+    let mut followed = Following {
         used,
-        targets,
+        list: PointerList::new(listed),
         led: true,
     };
     let mut lists = none;
     let mut from = 0;
+    let mut from_type = None;
+    let mut begun: usize = 0;
     for place in 0..forest.size() {
         if forest.level(place) == 0 {
             from = place;
+            from_type = type_behind_head(records.types, begun);
+            begun += 1;
             lists.begin_record()?;
         }
-        follow_link(forest, records, from, place, &mut followed, &mut lists)?;
+        follow_link(
+            forest,
+            records,
+            from,
+            from_type,
+            place,
+            &mut followed,
+            &mut lists,
+        )?;
     }
-    Ok((followed, lists))
+    let Following { used, list, led } = followed;
+    let targets = list.into_targets();
+    Ok((Followed { used, targets, led }, lists))
 }

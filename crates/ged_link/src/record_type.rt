@@ -1,10 +1,13 @@
 // The types of the records that pointers lead to.
-ghost use Rattle.std.specs.Prelude.{◌≡◌, ◌↔◌, Some, None, IsTrue, slice_index_or, option_map};
+ghost use Rattle.std.specs.Prelude.{◌≡◌, ◌↔◌, ◌∷◌, Some, None, IsTrue, slice_index_or};
 ghost use Rattle.std.specs.Str.{bytes_eq};
 ghost use Rattle.ged_line.specs.Bytes.{Bytes};
 ghost use Rattle.ged_link.specs.RecordTypes.{IsTypeOf, record_tag};
 ghost use Rattle.ged_link.specs.LedByTags.{led_by};
+ghost use Rattle.ged_link.specs.inner.PointerTags.{IsTold};
 ghost use Rattle.ged_link.specs.inner.Resolving.{LeadsAsTagged};
+
+use crate::pointer_tag::PointerTag;
 
 /// A type of records that pointers of the structure tables lead to, by the tag of those records (FamilySearch GEDCOM 7.0,
 /// "Structure Organization").
@@ -55,37 +58,24 @@ pub(crate) fn has_tag_of(types: &[Option<RecordType>], number: usize, wanted: Re
     is_typed(types, number, wanted)
 }
 
-/// The type of the records that a pointer with a tag leads to, or `None` where its tag alone does not say it. The most frequent
-/// tags come first.
+/// The type of a record by how many structures at level 0 stand before it, where the types of records stand by their numbers. The first
+/// of those structures is HEAD, which is no record.
 #[inline(always)]
-pub(crate) fn type_led_by(tag: &str) -> Option<RecordType>
-    ensures { option_map record_tag result ≡ led_by tag.now }
+pub(crate) fn type_behind_head(types: &[Option<RecordType>], before: usize) -> Option<RecordType>
+    ensures { result ≡ slice_index_or (None ∷ types.now) before None }
 {
-    if tag == "FAMC" || tag == "FAMS" {
-        Some(RecordType::Fam)
-    } else if tag == "HUSB" || tag == "WIFE" || tag == "CHIL" {
-        Some(RecordType::Indi)
-    } else if tag == "SOUR" {
-        Some(RecordType::Sour)
-    } else if tag == "ASSO" || tag == "ALIA" {
-        Some(RecordType::Indi)
-    } else if tag == "SUBM" || tag == "ANCI" || tag == "DESI" {
-        Some(RecordType::Subm)
-    } else if tag == "SNOTE" {
-        Some(RecordType::Snote)
-    } else if tag == "OBJE" {
-        Some(RecordType::Obje)
-    } else {
-        None
+    match before.checked_sub(1) {
+        Some(number) => types.get(number).copied().unwrap_or(None),
+        None => None,
     }
 }
 
 /// Whether the record with a number is of the type that a pointer with a tag leads to, where its tag says it.
 #[inline(always)]
-pub(crate) fn leads_as_tagged(types: &[Option<RecordType>], tag: &str, number: usize) -> bool
-    ensures { LeadsAsTagged result (led_by tag.now) (slice_index_or types.now number None) }
+pub(crate) fn leads_as_tagged(types: &[Option<RecordType>], told: PointerTag, number: usize) -> bool
+    ensures { (tag : Bytes) → IsTold told tag → LeadsAsTagged result (led_by tag) (slice_index_or types.now number None) }
 {
-    match type_led_by(tag) {
+    match told.type_led() {
         Some(wanted) => is_typed(types, number, wanted),
         None => true,
     }

@@ -13,6 +13,7 @@ ghost use Rattle.ged_link.specs.inner.Indexes.{HasKey, HasNoOthers, IsKeyed, IsK
 ghost use Rattle.ged_link.specs.inner.Keys.{names_key as key_of_names};
 ghost use Rattle.ged_link.specs.inner.Listing.{listed_halves, listed_digits, all_halves, all_digits, IsListedFrom, AreTypesOf, IsRecordList};
 ghost use Rattle.ged_link.specs.inner.PairSets.{lists_have};
+ghost use Rattle.ged_link.specs.inner.PointerLists.{pointers as all_pointers, AreListedFirst};
 ghost use Rattle.ged_link.specs.inner.Resolving.{AddsRecord};
 ghost use Rattle.ged_link.specs.inner.Slots.{IsMissed};
 ghost use Rattle.ged_link.specs.declared.pairs.Role.{Role};
@@ -30,6 +31,7 @@ use crate::places::push_place;
 use crate::pointers::{Records, follow_pointers};
 use crate::record_reader::RecordReader;
 use crate::record_type::RecordType;
+use crate::targets::Target;
 use ged_tree::{Forest, LineReader, end_of_all, next_in_run};
 use std::alloc::{AllocError, Global};
 
@@ -42,11 +44,12 @@ pub fn resolve<F: Forest>(alloc: Global, forest: &F) -> Result<Index, LinkFault>
 {
     let end = end_of_all(forest);
     let list = list_records(alloc, forest, end)?;
-    resolve_listed(alloc, forest, end, list)
+    let pointers = Vec::new(alloc);
+    resolve_listed(alloc, forest, end, list, pointers)
 }
 
-/// The same index or fault as [`resolve`] answers, for a caller whose reader has listed the records while the document's lines were
-/// read. Grows (FamilySearch GEDCOM 7.0, "Lines").
+/// The same index or fault as [`resolve`] answers, for a caller whose reader has listed the records and the pointers while the document's
+/// lines were read. Grows (FamilySearch GEDCOM 7.0, "Lines").
 pub fn resolve_with<F: Forest>(
     alloc: Global,
     forest: &F,
@@ -58,19 +61,21 @@ pub fn resolve_with<F: Forest>(
     ensures fault { IfErr result (λ fault. (fault ≡ Memory alloc_error) ⊎ HasLinkFault (F.trees forest.now) fault) }
 {
     let end = end_of_all(forest);
-    resolve_listed(alloc, forest, end, records.list)
+    resolve_listed(alloc, forest, end, records.list, records.pointers)
 }
 
-/// The same, where the records are listed.
+/// The same, where the records are listed, and the first of the pointers, or all.
 fn resolve_listed<F: Forest>(
     alloc: Global,
     forest: &F,
     end: usize,
     list: RecordList,
+    pointers: Vec<Target>,
 ) -> Result<Index, LinkFault>
     requires end { end ≡ trees_count (F.trees forest.now) }
     requires document { is_document (F.trees forest.now) ≡ true }
     requires list { IsRecordList (F.trees forest.now) list }
+    requires pointers { AreListedFirst pointers.items (all_pointers (F.trees forest.now)) }
     ensures resolved { IfOk result (λ _. Resolved (F.trees forest.now)) }
     ensures index { IfOk result (λ index. IsIndexOf (F.trees forest.now) index) }
     ensures fault { IfErr result (λ fault. (fault ≡ Memory alloc_error) ⊎ HasLinkFault (F.trees forest.now) fault) }
@@ -85,7 +90,7 @@ fn resolve_listed<F: Forest>(
         names: &names,
         types: &types,
     };
-    let (followed, lists) = follow_pointers(alloc, forest, &known, none)?;
+    let (followed, lists) = follow_pointers(alloc, forest, &known, none, pointers)?;
     let one_way = find_one_way(alloc, forest, &known, lists)?;
     Ok(Index {
         records: names,
@@ -260,7 +265,7 @@ fn find_records<F: Forest>(
     ensures types { IfOk result (λ found. AreTyped (F.trees forest.now) found.names found.types.items) }
     ensures places { IfOk result (λ found. ArePlaces (F.trees forest.now) found.places.items) }
     ensures none { IfOk result (λ found. (role : Role) (pair : ℕ × ℕ) → lists_have found.none role pair ≡ false) }
-    ensures count { IfOk result (λ found. length found.types.items ≡ length (identifiers (records_of (F.trees forest.now)))) }
+    ensures listed { IfOk result (λ found. AreTypesOf found.types.items (records_of (F.trees forest.now))) }
     ensures distinct { IfOk result (λ _. (place : ℕ) → IsRepeated (F.trees forest.now) place → ⊥) }
     ensures fault { IfErr result (λ fault. (fault ≡ Memory alloc_error) ⊎ HasLinkFault (F.trees forest.now) fault) }
 {

@@ -111,7 +111,15 @@ impl Slots {
     pub(crate) fn find(&self, name: &str, number: u64) -> Option<RecordPlace>
         ensures { result ≡ kept_in self.now name.now number }
     {
-        let entry = self.entries.get(self.slot(name)).copied().unwrap_or(EMPTY);
+        self.find_at(self.slot(name), number)
+    }
+
+    /// The record that is kept in a slot for a name that spells this number.
+    #[inline(always)]
+    pub(crate) fn find_at(&self, slot: usize, number: u64) -> Option<RecordPlace>
+        ensures { result ≡ kept_at self.now slot number }
+    {
+        let entry = self.entries.get(slot).copied().unwrap_or(EMPTY);
         if entry.name == number {
             Some(RecordPlace {
                 number: entry.number as usize,

@@ -1,12 +1,12 @@
 // The records that the pointers of a document name, in the order of the pointers' places.
-ghost use Rattle.std.specs.Prelude.{◌≡◌, ◌<◌, ◌≤◌, ◌+◌, ◌++◌, ◌∷◌, ◌⊎◌, ℕ, [], Some, None, IsSome, IfSome, OnOk, length};
+ghost use Rattle.std.specs.Prelude.{◌≡◌, ◌<◌, ◌≤◌, ◌+◌, ◌⊎◌, ℕ, Some, None, IsSome, IfSome, length};
 ghost use Rattle.ged_tree.specs.Trees.{Trees};
 ghost use Rattle.ged_link.specs.Targets.{PointsAt, AreTargets};
 
-use std::alloc::AllocError;
 use std::mem::size_of;
 
-/// The record that a pointer names, in 8 bytes.
+/// The record that a pointer names, in 8 bytes. Before the pointer is followed, they have what is listed of it instead
+/// ([`crate::listed_pointer::list_pointer`]).
 #[derive(Clone, Copy)]
 pub(crate) struct Target {
     /// The place of the pointer among all structures.
@@ -32,25 +32,20 @@ impl PointerCursor {
     }
 }
 
-/// Adds that the pointer at a place names the record with a number, if 32 bits hold both. Grows.
+/// What tells that the pointer at a place names the record with a number, or `None` where 32 bits do not hold both.
 #[inline(always)]
-pub(crate) fn push_target(
-    targets: &mut Vec<Target>,
-    place: usize,
-    number: usize,
-) -> Result<(), AllocError>
-    ensures told { OnOk result ((document : Trees) → PointsAt document place number → AreTargets document targets.old.items → AreTargets document targets.new.items) }
-    ensures kept { OnOk result (place < 4294967296 → number < 4294967296 → targets.new.items ≡ targets.old.items ++ record { place = place; number = number } ∷ []) }
-    ensures left_out { (4294967296 ≤ place) ⊎ (4294967296 ≤ number) → targets.new.items ≡ targets.old.items }
+pub(crate) fn short_target(place: usize, number: usize) -> Option<Target>
+    ensures told { IfSome result (λ target. (target.place ≡ place) × (target.number ≡ number)) }
+    ensures kept { place < 4294967296 → number < 4294967296 → IsSome result }
+    ensures left_out { (4294967296 ≤ place) ⊎ (4294967296 ≤ number) → result ≡ None }
 {
     let Ok(place) = u32::try_from(place) else {
-        return Ok(());
+        return None;
     };
     let Ok(number) = u32::try_from(number) else {
-        return Ok(());
+        return None;
     };
-    targets.push(Target { place, number })?;
-    Ok(())
+    Some(Target { place, number })
 }
 
 /// The number that the target at an index tells, if it is that of the pointer at a place.

@@ -2,9 +2,12 @@ pub mod Afters
 pub mod Answers
 pub mod Apart
 pub mod Assembly
+pub mod BareTexts
+pub mod ClosedSizes
 pub mod Continuations
 pub mod Flattening
 pub mod FurtherTexts
+pub mod GrownSizes
 pub mod PackedStructures
 pub mod Pushing
 pub mod Searches

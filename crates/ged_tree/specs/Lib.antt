@@ -8,6 +8,7 @@ pub mod Entries
 pub mod Laws
 pub mod Spelled
 pub mod Rows
+pub mod BareLines
 pub mod TreeFaults
 pub mod Judging
 pub mod TreeLaws

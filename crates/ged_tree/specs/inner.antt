@@ -1,5 +1,5 @@
 pub mod DocumentParts
-pub mod Ends
+pub mod Growing
 pub mod Judging
 pub mod Rows
 pub mod Tables

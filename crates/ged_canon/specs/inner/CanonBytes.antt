@@ -1,6 +1,6 @@
 -- Nothing here need be believed: only private contracts and proofs cite it.
 -- The canonical spelling of HEAD and the records, as it is written; only private functions cite this.
-use Rattle.std.specs.Prelude.{◌≡◌, ◌↔◌, ℕ, ◌++◌, Bool, true, IsTrue, List, [], Option, Some, None, Result, OnOk}
+use Rattle.std.specs.Prelude.{◌≡◌, ◌↔◌, ℕ, Bool, true, IsTrue, List, [], Option, Some, None, Result, OnOk}
 use Rattle.std.specs.List.{AllByRecursion}
 use Rattle.ged_line.specs.Bytes.{Bytes}
 use Rattle.ged_line.specs.Spelling.{spelled_lines}
@@ -10,11 +10,13 @@ use Rattle.ged_tree.specs.DocumentLines.{lines_of}
 use Rattle.ged_link.specs.Links.{IsAmong}
 use Rattle.ged_schema.specs.declared.context.Context.TheVariants.{File}
 use Rattle.ged_canon.specs.declared.edition.Edition.{Edition}
+use Rattle.ged_canon.specs.declared.writer.answer.Answer.{Answer}
 use Rattle.ged_canon.specs.declared.writer.plan.Plan.{Plan}
 use Rattle.ged_canon.specs.declared.writer.rank.RankedSibling.{RankedSibling}
 use Rattle.ged_canon.specs.Steps.{renamed}
 use Rattle.ged_canon.specs.inner.Working.{is_named, each_used, number_among, number_of, IsNumberingOf}
 use Rattle.ged_canon.specs.inner.Siblings.{StandsRanked, sibling_trees}
+use Rattle.ged_canon.specs.inner.Written.{Appends}
 
 -- the names are those that some pointer of the document has
 abbrev pub AreNamed : Trees → List Bytes → Type 0
@@ -40,14 +42,14 @@ pub record CanWriteRecords (used : Bytes → Bool) (edition : Edition) (d : Tree
   pub stand : are_at 0 (sibling_trees used edition File d siblings) ≡ true
 
 -- their lines are appended to an answer, by the names to which the plan's numbers belong
-abbrev pub WritesRecords : {T E : Type 0} → Trees → Plan → Result T E → Bytes → Bytes → List RankedSibling → Type 0
+abbrev pub WritesRecords : {T E : Type 0} → Trees → Plan → Result T E → Answer → Answer → List RankedSibling → Type 0
 WritesRecords d plan result old new siblings =
-    (names : List Bytes) → IsNumberingOf d names plan.index.now plan.numbers.now → AreNamed d names → OnOk result (new ≡ old ++ spelled_siblings (is_named d) plan.edition names d siblings)
+    (names : List Bytes) → IsNumberingOf d names plan.index.now plan.numbers.now → AreNamed d names → OnOk result (Appends plan.file.now old new (spelled_siblings (is_named d) plan.edition names d siblings))
 
 -- where no record has a new number, their lines are appended with all identifiers as they are
-abbrev pub WritesKept : {T E : Type 0} → Trees → Plan → Result T E → Bytes → Bytes → List RankedSibling → Type 0
+abbrev pub WritesKept : {T E : Type 0} → Trees → Plan → Result T E → Answer → Answer → List RankedSibling → Type 0
 WritesKept d plan result old new siblings =
-    IsNumberingOf d [] plan.index.now plan.numbers.now → OnOk result (new ≡ old ++ spelled_siblings each_used plan.edition [] d siblings)
+    IsNumberingOf d [] plan.index.now plan.numbers.now → OnOk result (Appends plan.file.now old new (spelled_siblings each_used plan.edition [] d siblings))
 
 -- HEAD and records of two documents are told to be the same only where their lines are, and wherever they are, by the names to which the
 -- plans' numbers belong

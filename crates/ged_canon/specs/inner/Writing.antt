@@ -21,11 +21,13 @@ use Rattle.ged_schema.specs.declared.rule.Rule.{Rule}
 use Rattle.ged_schema.specs.Rows.{Row, as_row}
 use Rattle.ged_schema.specs.Tables.{below_row}
 use Rattle.ged_canon.specs.declared.edition.Edition.{Edition}
+use Rattle.ged_canon.specs.declared.writer.answer.Answer.{Answer}
 use Rattle.ged_canon.specs.declared.writer.plan.Plan.{Plan}
 use Rattle.ged_canon.specs.declared.writer.siblings.Sibling.{Sibling}
 use Rattle.ged_canon.specs.Steps.{renamed_payload, renamed}
 use Rattle.ged_canon.specs.inner.Siblings.{StandsIn}
 use Rattle.ged_canon.specs.inner.Working.{brief, sorted, number_of, IsNumberingOf}
+use Rattle.ged_canon.specs.inner.Written.{Appends}
 
 -- the row that a rule is, where there is one
 abbrev pub row_of : Option (Bor Rule) → Option Row
@@ -86,6 +88,6 @@ abbrev pub further_at : Trees → ℕ → ℕ → List LineParts
 further_at d place level = continued (level + 1) (further_lines (structure_at d place).payload)
 
 -- lines with new names are appended to an answer, whatever the names are to which the plan's numbers belong
-abbrev pub Writes : {T E : Type 0} → Trees → Plan → Result T E → Bytes → Bytes → ((Bytes → Bytes) → List LineParts) → Type 0
+abbrev pub Writes : {T E : Type 0} → Trees → Plan → Result T E → Answer → Answer → ((Bytes → Bytes) → List LineParts) → Type 0
 Writes d plan result old new lines =
-    (names : List Bytes) → IsNumberingOf d names plan.index.now plan.numbers.now → OnOk result (new ≡ old ++ spelled_lines (lines (number_of 1 names)))
+    (names : List Bytes) → IsNumberingOf d names plan.index.now plan.numbers.now → OnOk result (Appends plan.file.now old new (spelled_lines (lines (number_of 1 names))))

@@ -202,7 +202,7 @@ fn put_exactly(buffer: &mut [u8], text: &[u8], count: usize) -> bool
 }
 
 /// The first so many bytes, or as many as there are, and the others.
-fn front_of(bytes: &[u8], count: usize) -> (&[u8], &[u8])
+pub(crate) fn front_of(bytes: &[u8], count: usize) -> (&[u8], &[u8])
     ensures front { result.0.now ≡ take count bytes.now }
     ensures rest { result.1.now ≡ drop count bytes.now }
 {

@@ -6,13 +6,14 @@ ghost use Rattle.ged_link.specs.Indexes.{IsIndexOf};
 ghost use Rattle.ged_schema.specs.Checked.{Checked};
 ghost use Rattle.ged_canon.specs.Steps.{Equivalent};
 ghost use Rattle.ged_canon.specs.inner.Working.{is_named, IsNumberingOf};
+ghost use Rattle.ged_canon.specs.inner.Written.{written};
 ghost use Rattle.ged_canon.specs.inner.CanonBytes.{AreNamed, CanWriteRecords, TellsSame, spelled_siblings};
 
 use crate::edition::Edition;
 use crate::spelled::SpelledForm;
 use crate::writer::answer::Answer;
 use crate::writer::document::document_siblings;
-use crate::writer::plan::{Plan, Work, Writer};
+use crate::writer::plan::{Plan, Window, Work, Writer};
 use crate::writer::rank::RankedSibling;
 use crate::writer::siblings::numbers_in_order;
 use ged_link::Index;
@@ -31,23 +32,23 @@ pub struct IndexedDocument<'a, F> {
     pub file: &'a [u8],
 }
 
-impl<F: Forest> Writer<'_, '_, F> {
+impl<'f, F: Forest> Writer<'_, 'f, F> {
     /// The lines of HEAD or of a record, and of what stands below it, as a form of their own, where nothing else is written. The text takes
     /// the record's new identifier.
-    fn take_record<'f>(
+    fn take_record(
         &self,
         sibling: RankedSibling,
         name: &mut String,
-        work: &mut Work<'f>,
+        work: &mut Work,
     ) -> Result<SpelledForm<'f>, AllocError>
         requires stands { CanWriteRecords (is_named (F.trees self.now.forest.now)) self.now.plan.edition (F.trees self.now.forest.now) (sibling ∷ []) }
-        requires empty { work.old.answer ≡ [] }
-        ensures empty { OnOk result (work.new.answer ≡ []) }
+        requires empty { written self.now.plan.file.now work.old.answer ≡ [] }
+        ensures empty { OnOk result (written self.now.plan.file.now work.new.answer ≡ []) }
         ensures lines { (names : List Bytes) → IsNumberingOf (F.trees self.now.forest.now) names self.now.plan.index.now self.now.plan.numbers.now → AreNamed (F.trees self.now.forest.now) names
             → IfOk result (λ form. form ≡ spelled_siblings (is_named (F.trees self.now.forest.now)) self.now.plan.edition names (F.trees self.now.forest.now) (sibling ∷ [])) }
     {
         self.write_record(sibling, name, work)?;
-        work.answer.take_form(self.plan.alloc)
+        work.answer.take_form(self.plan.alloc, self.plan.file)
     }
 }
 
@@ -56,16 +57,16 @@ impl<F: Forest> Writer<'_, '_, F> {
 fn are_alike<F: Forest, G: Forest>(
     first: &Writer<'_, '_, F>,
     siblings: &[RankedSibling],
-    work: &mut Work<'_>,
+    work: &mut Work,
     second: &Writer<'_, '_, G>,
     others: &[RankedSibling],
-    other_work: &mut Work<'_>,
+    other_work: &mut Work,
 ) -> Result<bool, AllocError>
     requires first { CanWriteRecords (is_named (F.trees first.now.forest.now)) first.now.plan.edition (F.trees first.now.forest.now) siblings.now }
     requires second { CanWriteRecords (is_named (G.trees second.now.forest.now)) second.now.plan.edition (G.trees second.now.forest.now) others.now }
     requires count { length siblings.now ≡ length others.now }
-    requires empty { work.old.answer ≡ [] }
-    requires other_empty { other_work.old.answer ≡ [] }
+    requires empty { written first.now.plan.file.now work.old.answer ≡ [] }
+    requires other_empty { written second.now.plan.file.now other_work.old.answer ≡ [] }
     ensures { IfOk result (TellsSame (F.trees first.now.forest.now) first.now.plan siblings.now (G.trees second.now.forest.now) second.now.plan others.now) }
 {
     let mut name = String::new(first.plan.alloc);
@@ -114,7 +115,10 @@ pub fn have_same_form<F: Forest, G: Forest>(
             edition,
             index: first.index,
             numbers: numbers.as_slice(),
+            file: first.file,
         },
+        lines: first.forest.bare_lines(),
+        window: Window { start: 0, end: 0 },
     };
     let other_writer = Writer {
         forest: second.forest,
@@ -123,10 +127,13 @@ pub fn have_same_form<F: Forest, G: Forest>(
             edition,
             index: second.index,
             numbers: other_numbers.as_slice(),
+            file: second.file,
         },
+        lines: second.forest.bare_lines(),
+        window: Window { start: 0, end: 0 },
     };
-    let mut work = Work::new(alloc, Answer::none(alloc, first.file));
-    let mut other_work = Work::new(alloc, Answer::none(alloc, second.file));
+    let mut work = Work::new(alloc, Answer::none(alloc));
+    let mut other_work = Work::new(alloc, Answer::none(alloc));
     are_alike(
         &writer,
         siblings,

@@ -10,6 +10,7 @@ ghost use Rattle.ged_line.specs.Views.{viewed_value};
 ghost use Rattle.ged_tree.specs.DocumentLines.{line_value};
 ghost use Rattle.ged_tree.specs.inner.DocumentParts.{continued};
 ghost use Rattle.ged_canon.specs.Normal.{numbered as spells_number};
+ghost use Rattle.ged_canon.specs.inner.Runs.{ArePlaced};
 
 use crate::spelled::SpelledForm;
 use crate::writer::kept::{kept_cont, kept_line};
@@ -18,7 +19,6 @@ use crate::writer::pieced::Pieced;
 use ged_line::{ValueView, write_head, write_parts};
 use ged_tree::FurtherLines;
 use std::alloc::{AllocError, Global};
-use std::marker::Model;
 use std::mem;
 
 /// What stands in a line that shows one line of a text.
@@ -32,42 +32,33 @@ pub(crate) fn text_value(text: &str) -> ValueView<'_>
 }
 
 /// The bytes that are written so far. All that a writer writes is appended here, a line with each call. Lines that stand in the
-/// file as they are written are kept as slices of it. Contracts see the answer as all these bytes.
+/// file as they are written are kept as slices of it. The file is not held here, and each call is given it: contracts see the answer by
+/// the bytes that it stands for in that file.
 #[derive(Drop)]
-pub(crate) struct Answer<'f> {
-    file: &'f [u8],
+pub(crate) struct Answer {
     pieced: Pieced,
     /// Where the run of the file begins that stands last and may go on, in bytes.
     start: usize,
     /// Where it ends, or where the lines of a payload may go on in the file.
     end: usize,
+    ghost placed: { ArePlaced pieced.runs.items pieced.made.items pieced.placed },
+    ghost order: { start ≤ end },
 }
 
-impl<'f> Model for Answer<'f> {
-    ghost use Rattle.std.specs.Prelude.{◌++◌, ◌≤◌, length, slice_range};
+impl Answer {
     ghost use Rattle.ged_line.specs.Bytes.{Bytes};
-    ghost use Rattle.ged_canon.specs.SpelledForms.{joined_runs};
-    ghost use Rattle.ged_canon.specs.inner.Runs.{ArePlaced};
+    ghost use Rattle.ged_canon.specs.inner.Written.{written, Appends};
 
-    ghost Value = { Bytes };
-
-    ghost view = { λ a. joined_runs a.file.now a.pieced.runs.items a.pieced.made.items ++ slice_range a.file.now a.start a.end };
-
-    ghost invariant = { λ a. ArePlaced a.pieced.runs.items a.pieced.made.items a.pieced.placed × (a.start ≤ a.end) × (a.end ≤ length a.file.now) };
-}
-
-impl<'f> Answer<'f> {
-    /// The byte order mark, in memory for a document of so many structures.
+    /// The byte order mark, in memory for a document of so many structures, from a file of so many bytes.
     pub(crate) fn start(
         alloc: Global,
-        file: &'f [u8],
         structures: usize,
-    ) -> Result<Answer<'f>, AllocError>
-        ensures { IfOk result (λ answer. answer ≡ 0xEF ∷ 0xBB ∷ 0xBF ∷ []) }
+        bytes: usize,
+    ) -> Result<Answer, AllocError>
+        ensures { (file : Bytes) → IfOk result (λ answer. written file answer ≡ 0xEF ∷ 0xBB ∷ 0xBF ∷ []) }
     {
-        let pieced = Pieced::start(alloc, structures, file.len())?;
+        let pieced = Pieced::start(alloc, structures, bytes)?;
         Ok(Answer {
-            file,
             pieced,
             start: 0,
             end: 0,
@@ -75,11 +66,10 @@ impl<'f> Answer<'f> {
     }
 
     /// Nothing. Takes no memory.
-    pub(crate) fn none(alloc: Global, file: &'f [u8]) -> Answer<'f>
-        ensures { result ≡ [] }
+    pub(crate) fn none(alloc: Global) -> Answer
+        ensures { (file : Bytes) → written file result ≡ [] }
     {
         Answer {
-            file,
             pieced: Pieced::none(alloc),
             start: 0,
             end: 0,
@@ -87,27 +77,27 @@ impl<'f> Answer<'f> {
     }
 
     /// All that is written, as a form of its own; what is written afterwards is written behind nothing.
-    pub(crate) fn take_form(&mut self, alloc: Global) -> Result<SpelledForm<'f>, AllocError>
-        ensures form { IfOk result (λ form. form ≡ self.old) }
-        ensures rest { OnOk result (self.new ≡ []) }
+    pub(crate) fn take_form<'f>(
+        &mut self,
+        alloc: Global,
+        file: &'f [u8],
+    ) -> Result<SpelledForm<'f>, AllocError>
+        ensures form { IfOk result (λ form. form ≡ written file.now self.old) }
+        ensures rest { OnOk result (written file.now self.new ≡ []) }
     {
         let start = mem::replace(&mut self.start, self.end);
-        self.pieced.place(self.file, start, self.end)?;
+        self.pieced.place(file, start, self.end)?;
         let Pieced {
             runs,
             made,
             placed: _,
         } = mem::replace(&mut self.pieced, Pieced::none(alloc));
-        Ok(SpelledForm {
-            file: self.file,
-            runs,
-            made,
-        })
+        Ok(SpelledForm { file, runs, made })
     }
 
     /// Drops what is written, and writes in the memory of a form that is no longer wanted.
-    pub(crate) fn reuse(&mut self, form: SpelledForm<'f>)
-        ensures { self.new ≡ [] }
+    pub(crate) fn reuse(&mut self, form: SpelledForm<'_>)
+        ensures { (file : Bytes) → written file self.new ≡ [] }
     {
         let SpelledForm {
             file: _,
@@ -125,11 +115,10 @@ impl<'f> Answer<'f> {
     }
 
     /// All that is written.
-    pub(crate) fn into_form(self) -> Result<SpelledForm<'f>, AllocError>
-        ensures { IfOk result (λ form. form ≡ self.entry) }
+    pub(crate) fn into_form<'f>(self, file: &'f [u8]) -> Result<SpelledForm<'f>, AllocError>
+        ensures { IfOk result (λ form. form ≡ written file.now self) }
     {
         let Answer {
-            file,
             mut pieced,
             start,
             end,
@@ -143,63 +132,80 @@ impl<'f> Answer<'f> {
         Ok(SpelledForm { file, runs, made })
     }
 
+    /// Appends a run of the file.
+    #[inline(always)]
+    pub(crate) fn push_run(
+        &mut self,
+        file: &[u8],
+        start: usize,
+        end: usize,
+    ) -> Result<(), AllocError>
+        requires { start ≤ end }
+        ensures { OnOk result (Appends file.now self.old self.new (slice_range file.now start end)) }
+    {
+        if self.end == start {
+            self.end = end;
+            return Ok(());
+        }
+        let before = mem::replace(&mut self.start, self.end);
+        self.pieced.place(file, before, self.end)?;
+        self.start = start;
+        self.end = end;
+        Ok(())
+    }
+
     /// Appends a line.
     #[inline(always)]
     pub(crate) fn push_parts(
         &mut self,
+        file: &[u8],
         level: u8,
         xref: Option<&str>,
         tag: &str,
         value: ValueView<'_>,
     ) -> Result<(), AllocError>
         requires { is_line (line_parts level (option_copied xref) tag.now (viewed_value value)) ≡ true }
-        ensures { OnOk result (self.new ≡ self.old ++ (spelling (line_parts level (option_copied xref.entry) tag.now (viewed_value value.entry)) ++ line_feed ∷ [])) }
+        ensures { OnOk result (Appends file.now self.old self.new (spelling (line_parts level (option_copied xref.entry) tag.now (viewed_value value.entry)) ++ line_feed ∷ [])) }
     {
         let start = mem::replace(&mut self.start, self.end);
-        self.pieced.place(self.file, start, self.end)?;
+        self.pieced.place(file, start, self.end)?;
         write_parts(level, xref, tag, value, &mut self.pieced.made)
     }
 
     /// Appends a line that has this level and identifier, and this rest, which begins with its tag and may stand in the file at
-    /// this place, in bytes. Where the whole line does, it is kept.
-    #[inline(always)]
+    /// this place, in bytes. Where the whole line does, it is kept. A function of its own: most lines that are kept are told without it.
+    #[inline(never)]
     pub(crate) fn push_rest(
         &mut self,
+        file: &[u8],
         level: u8,
         xref: Option<&str>,
         rest: &str,
         place: Option<usize>,
     ) -> Result<(), AllocError>
         requires { level ≤ 99 }
-        ensures { OnOk result (self.new ≡ self.old ++ ((decimal level ++ space ∷ (xref_part (option_copied xref.entry) ++ rest.now)) ++ line_feed ∷ [])) }
+        ensures { OnOk result (Appends file.now self.old self.new ((decimal level ++ space ∷ (xref_part (option_copied xref.entry) ++ rest.now)) ++ line_feed ∷ [])) }
     {
-        if let Some((start, end)) = kept_line(self.file, level, xref, rest, place) {
-            if self.end == start {
-                self.end = end;
-                return Ok(());
-            }
-            let before = mem::replace(&mut self.start, self.end);
-            self.pieced.place(self.file, before, self.end)?;
-            self.start = start;
-            self.end = end;
-            return Ok(());
+        match kept_line(file, level, xref, rest, place) {
+            Some((start, end)) => self.push_run(file, start, end),
+            None => self.push_head_and_rest(file, level, xref, rest),
         }
-        self.push_head_and_rest(level, xref, rest)
     }
 
     /// Appends a line that is not kept.
     #[inline(never)]
     fn push_head_and_rest(
         &mut self,
+        file: &[u8],
         level: u8,
         xref: Option<&str>,
         rest: &str,
     ) -> Result<(), AllocError>
         requires { level ≤ 99 }
-        ensures { OnOk result (self.new ≡ self.old ++ ((decimal level ++ space ∷ (xref_part (option_copied xref.entry) ++ rest.now)) ++ line_feed ∷ [])) }
+        ensures { OnOk result (Appends file.now self.old self.new ((decimal level ++ space ∷ (xref_part (option_copied xref.entry) ++ rest.now)) ++ line_feed ∷ [])) }
     {
         let start = mem::replace(&mut self.start, self.end);
-        self.pieced.place(self.file, start, self.end)?;
+        self.pieced.place(file, start, self.end)?;
         let made = &mut self.pieced.made;
         write_head(level, xref, made)?;
         made.extend_from_slice(rest.as_bytes())?;
@@ -211,6 +217,7 @@ impl<'f> Answer<'f> {
     #[inline(always)]
     pub(crate) fn push_numbered(
         &mut self,
+        file: &[u8],
         level: u8,
         xref: Option<&str>,
         tag: &str,
@@ -218,21 +225,26 @@ impl<'f> Answer<'f> {
     ) -> Result<(), AllocError>
         requires level { level ≤ 99 }
         requires number { 0 < number }
-        ensures { OnOk result (self.new ≡ self.old ++ (spelling (line_parts level (option_copied xref.entry) tag.now (Pointer (spells_number number))) ++ line_feed ∷ [])) }
+        ensures { OnOk result (Appends file.now self.old self.new (spelling (line_parts level (option_copied xref.entry) tag.now (Pointer (spells_number number))) ++ line_feed ∷ [])) }
     {
         let start = mem::replace(&mut self.start, self.end);
-        self.pieced.place(self.file, start, self.end)?;
+        self.pieced.place(file, start, self.end)?;
         push_pointer(level, xref, tag, number, &mut self.pieced.made)
     }
 
     /// Appends the own line of a record with a new number, which has this rest, as that of [`Answer::push_rest`].
     #[inline(always)]
-    pub(crate) fn push_record(&mut self, number: usize, rest: &str) -> Result<(), AllocError>
+    pub(crate) fn push_record(
+        &mut self,
+        file: &[u8],
+        number: usize,
+        rest: &str,
+    ) -> Result<(), AllocError>
         requires { 0 < number }
-        ensures { OnOk result (self.new ≡ self.old ++ ((decimal 0 ++ space ∷ (xref_part (Some (spells_number number)) ++ rest.now)) ++ line_feed ∷ [])) }
+        ensures { OnOk result (Appends file.now self.old self.new ((decimal 0 ++ space ∷ (xref_part (Some (spells_number number)) ++ rest.now)) ++ line_feed ∷ [])) }
     {
         let start = mem::replace(&mut self.start, self.end);
-        self.pieced.place(self.file, start, self.end)?;
+        self.pieced.place(file, start, self.end)?;
         push_record(number, rest, &mut self.pieced.made)
     }
 
@@ -242,44 +254,46 @@ impl<'f> Answer<'f> {
     #[inline(never)]
     pub(crate) fn push_named(
         &mut self,
+        file: &[u8],
         level: u8,
         xref: Option<&str>,
         tag: &str,
         name: &str,
     ) -> Result<(), AllocError>
         requires { is_line (line_parts level (option_copied xref) tag.now (Pointer name.now)) ≡ true }
-        ensures { OnOk result (self.new ≡ self.old ++ (spelling (line_parts level (option_copied xref.entry) tag.now (Pointer name.now)) ++ line_feed ∷ [])) }
+        ensures { OnOk result (Appends file.now self.old self.new (spelling (line_parts level (option_copied xref.entry) tag.now (Pointer name.now)) ++ line_feed ∷ [])) }
     {
-        self.push_parts(level, xref, tag, ValueView::Pointer(name))
+        self.push_parts(file, level, xref, tag, ValueView::Pointer(name))
     }
 
     /// Appends a CONT line with this text. Where it stands in the file behind the last run, it is kept.
     #[inline(always)]
-    fn push_cont(&mut self, level: u8, text: &str) -> Result<(), AllocError>
+    fn push_cont(&mut self, file: &[u8], level: u8, text: &str) -> Result<(), AllocError>
         requires { is_line (line_parts level None (codes "CONT") (line_value text.now)) ≡ true }
-        ensures { OnOk result (self.new ≡ self.old ++ (spelling (line_parts level None (codes "CONT") (line_value text.now)) ++ line_feed ∷ [])) }
+        ensures { OnOk result (Appends file.now self.old self.new (spelling (line_parts level None (codes "CONT") (line_value text.now)) ++ line_feed ∷ [])) }
     {
-        if let Some(end) = kept_cont(self.file, level, text, self.end) {
+        if let Some(end) = kept_cont(file, level, text, self.end) {
             self.end = end;
             return Ok(());
         }
-        self.push_parts(level, None, "CONT", text_value(text))
+        self.push_parts(file, level, None, "CONT", text_value(text))
     }
 
     /// Appends a CONT line for each further line of the payload of a structure at a level.
     #[inline(never)]
     pub(crate) fn push_further(
         &mut self,
+        file: &[u8],
         level: u8,
         further: &FurtherLines<'_>,
     ) -> Result<(), AllocError>
         requires shallow { level ≤ 99 }
         requires room { 0 < length further.now → level < 99 }
         requires plain { list_all is_plain further.now ≡ true }
-        ensures { OnOk result (self.new ≡ self.old ++ spelled_lines (continued (level + 1) further.now)) }
+        ensures { OnOk result (Appends file.now self.old self.new (spelled_lines (continued (level + 1) further.now))) }
     {
         for number in 0..further.count() {
-            self.push_cont(level + 1, further.line(number))?;
+            self.push_cont(file, level + 1, further.line(number))?;
         }
         Ok(())
     }

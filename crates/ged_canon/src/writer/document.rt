@@ -23,7 +23,7 @@ use crate::spelled::SpelledForm;
 use crate::writer::answer::Answer;
 use crate::writer::lines::put_identifier;
 use crate::writer::numbers::new_number_of;
-use crate::writer::plan::{Plan, Work, Writer};
+use crate::writer::plan::{Plan, Window, Work, Writer};
 use crate::writer::rank::RankedSibling;
 use crate::writer::siblings::{Sibling, numbers_in_order, push_sorted, ranked_sibling};
 use ged_line::ValueView;
@@ -95,7 +95,7 @@ impl<F: Forest> Writer<'_, '_, F> {
         own: Sibling<'_>,
         end: usize,
         name: &mut String,
-        work: &mut Work<'_>,
+        work: &mut Work,
     ) -> Result<(), AllocError>
         requires number { 0 < number }
         requires stands { CanWriteTree self.now.plan.edition (row_of rule) 0 (Some (spells_number number)) (F.trees self.now.forest.now) own end }
@@ -119,7 +119,7 @@ impl<F: Forest> Writer<'_, '_, F> {
         &self,
         sibling: RankedSibling,
         name: &mut String,
-        work: &mut Work<'_>,
+        work: &mut Work,
     ) -> Result<(), AllocError>
         requires { CanWriteRecords (is_named (F.trees self.now.forest.now)) self.now.plan.edition (F.trees self.now.forest.now) (sibling ∷ []) }
         ensures { WritesRecords (F.trees self.now.forest.now) self.now.plan result work.old.answer work.new.answer (sibling ∷ []) }
@@ -131,18 +131,20 @@ impl<F: Forest> Writer<'_, '_, F> {
         let end = self.forest.after(place);
         let own = Sibling { tag, place };
         let number = self.own_number(place, &mut work.records);
+        let writer = Writer {
+            forest: self.forest,
+            plan: self.plan,
+            lines: self.lines,
+            window: self.window_of(place, end),
+        };
         if number == 0 {
-            return self.write_tree(rule, 0, None, own, end, work);
+            return writer.write_tree(rule, 0, None, own, end, work);
         }
-        self.write_named(rule, number, own, end, name, work)
+        writer.write_named(rule, number, own, end, name, work)
     }
 
     /// Appends the lines of HEAD and the records, and of what stands below them.
-    fn write_records(
-        &self,
-        siblings: &[RankedSibling],
-        work: &mut Work<'_>,
-    ) -> Result<(), AllocError>
+    fn write_records(&self, siblings: &[RankedSibling], work: &mut Work) -> Result<(), AllocError>
         requires { CanWriteRecords (is_named (F.trees self.now.forest.now)) self.now.plan.edition (F.trees self.now.forest.now) siblings.now }
         ensures { WritesRecords (F.trees self.now.forest.now) self.now.plan result work.old.answer work.new.answer siblings.now }
     {
@@ -182,13 +184,20 @@ pub fn spell_canonical_in<'f, F: Forest>(
         edition,
         index,
         numbers,
+        file,
     };
-    let writer = Writer { forest, plan };
-    let answer = Answer::start(alloc, file, forest.size())?;
+    let writer = Writer {
+        forest,
+        plan,
+        lines: forest.bare_lines(),
+        window: Window { start: 0, end: 0 },
+    };
+    let answer = Answer::start(alloc, forest.size(), file.len())?;
     let mut work = Work::new(alloc, answer);
     writer.write_records(records, &mut work)?;
-    work.answer.push_parts(0, None, "TRLR", ValueView::Empty)?;
-    let form = work.into_form()?;
+    work.answer
+        .push_parts(file, 0, None, "TRLR", ValueView::Empty)?;
+    let form = work.into_form(file)?;
     Ok(form)
 }
 

@@ -1,16 +1,16 @@
 // A structure's own line in its canonical spelling.
-ghost use Rattle.std.specs.Prelude.{◌≡◌, ◌<◌, ◌==◌, ◌++◌, ◌∷◌, ◌⊎◌, [], List, IfOk, OnOk, IsTrue, true, false, string_bytes, ◌↔◌, None, Some};
+ghost use Rattle.std.specs.Prelude.{◌≡◌, ◌<◌, ◌≤◌, ◌==◌, ◌++◌, ◌∷◌, ◌⊎◌, [], decimal, List, IfOk, OnOk, IsTrue, true, false, string_bytes, ◌↔◌, None, Some};
 ghost use Rattle.std.specs.List.{list_any};
 ghost use Rattle.std.specs.Option.{option_copied};
-ghost use Rattle.ged_line.specs.Bytes.{Bytes, line_feed};
-ghost use Rattle.ged_line.specs.Lines.{Pointer, is_line, line_parts};
+ghost use Rattle.ged_line.specs.Bytes.{Bytes, line_feed, space};
+ghost use Rattle.ged_line.specs.Lines.{Pointer, is_line, line_parts, xref_part};
 ghost use Rattle.ged_line.specs.Spelling.{spelling, spelled_lines, value_part};
 ghost use Rattle.ged_tree.specs.Trees.{trees_count};
 ghost use Rattle.ged_tree.specs.declared.payload.Payload.TheVariants.{Pointer as PointerPayload};
 ghost use Rattle.ged_tree.specs.DocumentLines.{line_value, first_value, structure_lines};
 ghost use Rattle.ged_tree.specs.Laws.{own_line};
 ghost use Rattle.ged_tree.specs.Places.{structure_at};
-ghost use Rattle.ged_tree.specs.Views.{is_pointer};
+ghost use Rattle.ged_tree.specs.Views.{is_pointer, IsOwnLine};
 ghost use Rattle.ged_tree.specs.inner.Walks.{HasLinesAt};
 ghost use Rattle.ged_schema.specs.Rows.{as_row};
 ghost use Rattle.ged_schema.specs.Tables.{row};
@@ -19,6 +19,7 @@ ghost use Rattle.ged_canon.specs.Steps.{renamed_payload};
 ghost use Rattle.ged_canon.specs.Normal.{IsBriefPayload, numbered as spells_number};
 ghost use Rattle.ged_canon.specs.inner.Siblings.{StandsIn};
 ghost use Rattle.ged_canon.specs.inner.Working.{brief, brief_line as spells_brief, number_of, IsNumberingOf};
+ghost use Rattle.ged_canon.specs.inner.Written.{Appends};
 ghost use Rattle.ged_canon.specs.inner.Writing.{may_be_dated as tests_dated, row_of, brief_sibling, renamed_sibling, sibling_at, Writes};
 
 use crate::edition::Edition;
@@ -29,7 +30,7 @@ use crate::writer::plan::{Plan, Work, Writer};
 use crate::writer::siblings::Sibling;
 use ged_line::ValueView;
 use ged_schema::{ContextRows, Rule};
-use ged_tree::{Forest, PayloadView};
+use ged_tree::{Forest, OwnLine, PayloadView};
 use itoa::Buffer;
 use std::alloc::AllocError;
 
@@ -111,23 +112,46 @@ impl Plan<'_> {
         xref: Option<&str>,
         tag: &str,
         line: &str,
-        answer: &mut Answer<'_>,
+        answer: &mut Answer,
     ) -> Result<(), AllocError>
         requires { is_line (line_parts level (option_copied xref) tag.now (line_value (spells_brief self.now.edition (row_of rule) line.now))) ≡ true }
-        ensures { OnOk result (answer.new ≡ answer.old ++ (spelling (line_parts level (option_copied xref.entry) tag.now (line_value (spells_brief self.now.edition (row_of rule.entry) line.now))) ++ line_feed ∷ [])) }
+        ensures { OnOk result (Appends self.now.file.now answer.old answer.new (spelling (line_parts level (option_copied xref.entry) tag.now (line_value (spells_brief self.now.edition (row_of rule.entry) line.now))) ++ line_feed ∷ [])) }
     {
         let Some(rule) = rule else {
-            return answer.push_parts(level, xref, tag, text_value(line));
+            return answer.push_parts(self.file, level, xref, tag, text_value(line));
         };
         if !may_be_shortened(self.edition, rule) {
-            return answer.push_parts(level, xref, tag, text_value(line));
+            return answer.push_parts(self.file, level, xref, tag, text_value(line));
         }
         let brief = brief_line(self.alloc, self.edition, rule, line)?;
-        answer.push_parts(level, xref, tag, text_value(brief.as_str()))
+        answer.push_parts(self.file, level, xref, tag, text_value(brief.as_str()))
     }
 }
 
 impl<F: Forest> Writer<'_, '_, F> {
+    /// Appends the own line of the structure at a place with this level and identifier, and with its tag and payload as the forest has them.
+    /// Where the line stands in the file as it is written, it is kept; most that do have no identifier, and are not compared one by one.
+    #[inline(always)]
+    fn push_own_line(
+        &self,
+        level: u8,
+        xref: Option<&str>,
+        place: usize,
+        line: OwnLine<'_>,
+        answer: &mut Answer,
+    ) -> Result<(), AllocError>
+        requires level { level ≤ 99 }
+        requires own { IsOwnLine (structure_at (F.trees self.now.forest.now) place) line }
+        ensures { OnOk result (Appends self.now.plan.file.now answer.old answer.new ((decimal level ++ space ∷ (xref_part (option_copied xref.entry) ++ line.entry.rest.now)) ++ line_feed ∷ [])) }
+    {
+        if xref.is_none() {
+            if let Some((start, end)) = self.kept_run(level, place) {
+                return answer.push_run(self.plan.file, start, end);
+            }
+        }
+        answer.push_rest(self.plan.file, level, xref, line.rest, Some(line.start))
+    }
+
     /// Appends the own line of a structure whose pointer keeps this name: as it stands, where the forest has it in one text. Cold, so that
     /// the path of pointers that are renamed stays the short one.
     #[cold]
@@ -138,16 +162,16 @@ impl<F: Forest> Writer<'_, '_, F> {
         xref: Option<&str>,
         sibling: Sibling<'_>,
         name: &str,
-        answer: &mut Answer<'_>,
+        answer: &mut Answer,
     ) -> Result<(), AllocError>
         requires within { StandsIn (F.trees self.now.forest.now) sibling }
         requires names { (structure_at (F.trees self.now.forest.now) sibling.place).payload ≡ PointerPayload name.now }
         requires stands { is_line (line_parts level (option_copied xref) sibling.tag.now (Pointer name.now)) ≡ true }
-        ensures { OnOk result (answer.new ≡ answer.old ++ (spelling (line_parts level (option_copied xref.entry) sibling.entry.tag.now (Pointer name.now)) ++ line_feed ∷ [])) }
+        ensures { OnOk result (Appends self.now.plan.file.now answer.old answer.new (spelling (line_parts level (option_copied xref.entry) sibling.entry.tag.now (Pointer name.now)) ++ line_feed ∷ [])) }
     {
         match self.forest.own_line(sibling.place) {
-            Some(line) => answer.push_rest(level, xref, line.rest, Some(line.start)),
-            None => answer.push_named(level, xref, sibling.tag, name),
+            Some(line) => self.push_own_line(level, xref, sibling.place, line, answer),
+            None => answer.push_named(self.plan.file, level, xref, sibling.tag, name),
         }
     }
 
@@ -172,7 +196,7 @@ impl<F: Forest> Writer<'_, '_, F> {
         xref: Option<&str>,
         sibling: Sibling<'_>,
         name: &str,
-        work: &mut Work<'_>,
+        work: &mut Work,
     ) -> Result<(), AllocError>
         requires within { StandsIn (F.trees self.now.forest.now) sibling }
         requires names { (structure_at (F.trees self.now.forest.now) sibling.place).payload ≡ PointerPayload name.now }
@@ -191,7 +215,8 @@ impl<F: Forest> Writer<'_, '_, F> {
         if is_kept_name(name, number) {
             return self.write_kept_reference(level, xref, sibling, name, &mut work.answer);
         }
-        work.answer.push_numbered(level, xref, sibling.tag, number)
+        work.answer
+            .push_numbered(self.plan.file, level, xref, sibling.tag, number)
     }
 
     /// Appends the own line of a structure at a place with this rule, whose payload is no pointer.
@@ -203,20 +228,32 @@ impl<F: Forest> Writer<'_, '_, F> {
         level: u8,
         xref: Option<&str>,
         sibling: Sibling<'_>,
-        answer: &mut Answer<'_>,
+        answer: &mut Answer,
     ) -> Result<(), AllocError>
         requires within { sibling.place < trees_count (F.trees self.now.forest.now) }
         requires value { is_pointer (structure_at (F.trees self.now.forest.now) sibling.place).payload ≡ false }
         requires stands { HasLinesAt level (brief_sibling self.now.plan.edition (row_of rule) (option_copied xref) (F.trees self.now.forest.now) sibling) }
         ensures { (new : Bytes → Bytes) →
-            OnOk result (answer.new ≡ answer.old ++ spelled_lines (own_line level (renamed_sibling new self.now.plan.edition (row_of rule.entry) (option_copied xref.entry) (F.trees self.now.forest.now) sibling.entry) ∷ [])) }
+            OnOk result (Appends self.now.plan.file.now answer.old answer.new (spelled_lines (own_line level (renamed_sibling new self.now.plan.edition (row_of rule.entry) (option_copied xref.entry) (F.trees self.now.forest.now) sibling.entry) ∷ []))) }
     {
         match self.forest.payload(sibling.place) {
-            PayloadView::Void => answer.push_parts(level, xref, sibling.tag, ValueView::Void),
+            PayloadView::Void => answer.push_parts(
+                self.plan.file,
+                level,
+                xref,
+                sibling.tag,
+                ValueView::Void,
+            ),
             PayloadView::Pointer(_) => unreachable!(),
             PayloadView::Text(line) => {
                 if self.forest.further(sibling.place) > 0 {
-                    return answer.push_parts(level, xref, sibling.tag, text_value(line));
+                    return answer.push_parts(
+                        self.plan.file,
+                        level,
+                        xref,
+                        sibling.tag,
+                        text_value(line),
+                    );
                 }
                 self.plan
                     .write_text(rule, level, xref, sibling.tag, line, answer)
@@ -233,13 +270,13 @@ impl<F: Forest> Writer<'_, '_, F> {
         rows: &ContextRows,
         level: u8,
         place: usize,
-        work: &mut Work<'_>,
+        work: &mut Work,
     ) -> Result<bool, AllocError>
         requires within { place < trees_count (F.trees self.now.forest.now) }
         requires stands { HasLinesAt level (brief_sibling self.now.plan.edition (row rows.now (structure_at (F.trees self.now.forest.now) place).tag) None (F.trees self.now.forest.now) (sibling_at (F.trees self.now.forest.now) place)) }
         ensures kept { IfOk result (λ _. work.new.siblings.items ≡ work.old.siblings.items) }
-        ensures lines { (names : List Bytes) → IsNumberingOf (F.trees self.now.forest.now) names self.now.plan.index.now self.now.plan.numbers.now → IfOk result (λ all. IsTrue all → work.new.answer ≡ work.old.answer
-            ++ spelled_lines (structure_lines level (renamed_sibling (number_of 1 names) self.now.plan.edition (row rows.now (structure_at (F.trees self.now.forest.now) place).tag) None (F.trees self.now.forest.now) (sibling_at (F.trees self.now.forest.now) place)))) }
+        ensures lines { (names : List Bytes) → IsNumberingOf (F.trees self.now.forest.now) names self.now.plan.index.now self.now.plan.numbers.now → IfOk result (λ all. IsTrue all → Appends self.now.plan.file.now work.old.answer work.new.answer
+            (spelled_lines (structure_lines level (renamed_sibling (number_of 1 names) self.now.plan.edition (row rows.now (structure_at (F.trees self.now.forest.now) place).tag) None (F.trees self.now.forest.now) (sibling_at (F.trees self.now.forest.now) place))))) }
         ensures left { IfOk result (λ all. all ≡ false → work.new.answer ≡ work.old.answer) }
     {
         let Some(line) = self.forest.own_line(place) else {
@@ -255,8 +292,7 @@ impl<F: Forest> Writer<'_, '_, F> {
         if !stays || self.forest.has_further(place) {
             return Ok(false);
         }
-        let start = Some(line.start);
-        work.answer.push_rest(level, None, line.rest, start)?;
+        self.push_own_line(level, None, place, line, &mut work.answer)?;
         Ok(true)
     }
 
@@ -281,12 +317,12 @@ impl<F: Forest> Writer<'_, '_, F> {
         rule: Option<&Rule>,
         number: usize,
         sibling: Sibling<'_>,
-        answer: &mut Answer<'_>,
+        answer: &mut Answer,
     ) -> Result<bool, AllocError>
         requires within { StandsIn (F.trees self.now.forest.now) sibling }
         requires number { 0 < number }
-        ensures lines { (new : Bytes → Bytes) → IfOk result (λ all. IsTrue all → answer.new ≡ answer.old
-            ++ spelled_lines (structure_lines 0 (renamed_sibling new self.now.plan.edition (row_of rule.entry) (Some (spells_number number)) (F.trees self.now.forest.now) sibling.entry))) }
+        ensures lines { (new : Bytes → Bytes) → IfOk result (λ all. IsTrue all → Appends self.now.plan.file.now answer.old answer.new
+            (spelled_lines (structure_lines 0 (renamed_sibling new self.now.plan.edition (row_of rule.entry) (Some (spells_number number)) (F.trees self.now.forest.now) sibling.entry)))) }
         ensures left { IfOk result (λ all. all ≡ false → answer.new ≡ answer.old) }
     {
         let place = sibling.place;
@@ -299,7 +335,7 @@ impl<F: Forest> Writer<'_, '_, F> {
         if !is_kept(self.forest, self.plan.edition, rule, place) {
             return Ok(false);
         }
-        answer.push_record(number, line.rest)?;
+        answer.push_record(self.plan.file, number, line.rest)?;
         Ok(true)
     }
 
@@ -312,7 +348,7 @@ impl<F: Forest> Writer<'_, '_, F> {
         level: u8,
         xref: Option<&str>,
         sibling: Sibling<'_>,
-        work: &mut Work<'_>,
+        work: &mut Work,
     ) -> Result<(), AllocError>
         requires within { StandsIn (F.trees self.now.forest.now) sibling }
         requires stands { HasLinesAt level (brief_sibling self.now.plan.edition (row_of rule) (option_copied xref) (F.trees self.now.forest.now) sibling) }
@@ -322,9 +358,7 @@ impl<F: Forest> Writer<'_, '_, F> {
     {
         if let Some(line) = self.forest.own_line(sibling.place) {
             if !line.points && is_kept(self.forest, self.plan.edition, rule, sibling.place) {
-                return work
-                    .answer
-                    .push_rest(level, xref, line.rest, Some(line.start));
+                return self.push_own_line(level, xref, sibling.place, line, &mut work.answer);
             }
         }
         if self.forest.points(sibling.place) {

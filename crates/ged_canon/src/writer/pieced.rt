@@ -4,6 +4,7 @@ ghost use Rattle.ged_canon.specs.SpelledForms.{joined_runs};
 ghost use Rattle.ged_canon.specs.inner.Runs.{ArePlaced};
 
 use crate::spelled::KeptRun;
+use crate::spelled::reader::front_of;
 use std::alloc::{AllocError, Global};
 
 /// How many bytes are taken for each structure of a document before it is written, a little more than most need.
@@ -58,11 +59,10 @@ impl Pieced {
         }
     }
 
-    /// Appends the bytes of a file from one place up to another.
+    /// Appends the bytes of a file from one place up to another, as far as it has them.
     #[inline(always)]
     pub(crate) fn place(&mut self, file: &[u8], start: usize, end: usize) -> Result<(), AllocError>
         requires order { start ≤ end }
-        requires within { end ≤ length file.now }
         requires placed { ArePlaced self.old.runs.items self.old.made.items self.old.placed }
         ensures placed { ArePlaced self.new.runs.items self.new.made.items self.new.placed }
         ensures joined { OnOk result (joined_runs file.now self.new.runs.items self.new.made.items
@@ -78,14 +78,15 @@ impl Pieced {
     #[inline(never)]
     fn place_some(&mut self, file: &[u8], start: usize, end: usize) -> Result<(), AllocError>
         requires order { start ≤ end }
-        requires within { end ≤ length file.now }
         requires placed { ArePlaced self.old.runs.items self.old.made.items self.old.placed }
         ensures placed { ArePlaced self.new.runs.items self.new.made.items self.new.placed }
         ensures joined { OnOk result (joined_runs file.now self.new.runs.items self.new.made.items
             ≡ joined_runs file.now self.old.runs.items self.old.made.items ++ slice_range file.now start end) }
     {
         let Some(run) = run_of(self.made.len() - self.placed, start, end) else {
-            return self.made.extend_from_slice(&file[start..end]);
+            let (_, from) = front_of(file, start);
+            let (kept, _) = front_of(from, end - start);
+            return self.made.extend_from_slice(kept);
         };
         self.runs.push(run)?;
         self.placed = self.made.len();

@@ -1,43 +1,62 @@
 // What a document is written by, and what changes while it is written.
-ghost use Rattle.std.specs.Prelude.{◌≡◌, IfOk};
+ghost use Rattle.std.specs.Prelude.{◌≡◌, IfOk, slice_range};
+ghost use Rattle.ged_tree.specs.BareLines.{AreBareLines, lines_text};
 
 use crate::edition::Edition;
 use crate::spelled::SpelledForm;
 use crate::writer::answer::Answer;
 use crate::writer::rank::RankedSibling;
 use ged_link::{Index, PointerCursor, RecordCursor};
+use ged_tree::{BareLines, Forest};
 use std::alloc::{AllocError, Global};
 
-/// By what a document is written: the edition, and the new numbers of its records, as the index counts them.
+/// By what a document is written: the edition, the new numbers of its records, as the index counts them, and the file of which lines are
+/// kept.
 #[derive(Clone, Copy)]
 pub(crate) struct Plan<'a> {
     pub(crate) alloc: Global,
     pub(crate) edition: Edition,
     pub(crate) index: &'a Index,
     pub(crate) numbers: &'a [usize],
+    pub(crate) file: &'a [u8],
 }
 
-/// Writes the structures of a forest by a plan. It stays the same all the time; what changes is its work.
+/// From where up to where two texts have the same bytes.
+#[derive(Clone, Copy)]
+pub(crate) struct Window {
+    pub(crate) start: usize,
+    pub(crate) end: usize,
+}
+
+/// Writes the structures of a record, or of a document record by record, by a plan. It stays the same meanwhile; what changes is its work.
 #[derive(Drop)]
-pub(crate) struct Writer<'a, 'p, F> {
+pub(crate) struct Writer<'a, 'p, F: Forest> {
     pub(crate) forest: &'a F,
     pub(crate) plan: Plan<'p>,
+    /// The lines of the forest that may stand in the file as they are written.
+    pub(crate) lines: BareLines<'a>,
+    /// Where the file and the text of these lines are known to be the same.
+    pub(crate) window: Window,
+    ghost told: { AreBareLines (F.trees forest.now) lines },
+    ghost same: { slice_range plan.file.now window.start window.end ≡ slice_range (lines_text lines) window.start window.end },
 }
 
 /// What a writer has done: its answer; where the index looks for the next pointer and for the next record; and the siblings of
 /// each run in another order that is being written, those of a deeper run behind those of the runs above it.
 #[derive(Drop)]
-pub(crate) struct Work<'f> {
-    pub(crate) answer: Answer<'f>,
+pub(crate) struct Work {
+    pub(crate) answer: Answer,
     pub(crate) pointers: PointerCursor,
     pub(crate) records: RecordCursor,
     pub(crate) siblings: Vec<RankedSibling>,
 }
 
-impl<'f> Work<'f> {
+impl Work {
+    ghost use Rattle.ged_canon.specs.inner.Written.{written};
+
     /// Work of which only the beginning of the answer is done. Takes no memory.
-    pub(crate) fn new(alloc: Global, answer: Answer<'f>) -> Self
-        ensures { result.answer ≡ answer.entry }
+    pub(crate) fn new(alloc: Global, answer: Answer) -> Self
+        ensures { result.answer ≡ answer }
     {
         Work {
             answer,
@@ -47,9 +66,9 @@ impl<'f> Work<'f> {
         }
     }
 
-    /// The answer, when all is written.
-    pub(crate) fn into_form(self) -> Result<SpelledForm<'f>, AllocError>
-        ensures { IfOk result (λ form. form ≡ self.entry.answer) }
+    /// The answer, when all is written, of which lines stand in this file.
+    pub(crate) fn into_form<'f>(self, file: &'f [u8]) -> Result<SpelledForm<'f>, AllocError>
+        ensures { IfOk result (λ form. form ≡ written file.now self.answer) }
     {
         let Work {
             answer,
@@ -57,6 +76,6 @@ impl<'f> Work<'f> {
             records: _,
             siblings: _,
         } = self;
-        answer.into_form()
+        answer.into_form(file)
     }
 }

@@ -7,6 +7,7 @@ ghost use Rattle.ged_tree.specs.Places.{structure_at};
 ghost use Rattle.ged_tree.specs.inner.Walks.{HasLinesAt};
 ghost use Rattle.ged_schema.specs.Tables.{row};
 ghost use Rattle.ged_canon.specs.inner.Siblings.{StandsIn};
+ghost use Rattle.ged_canon.specs.inner.Written.{Appends};
 ghost use Rattle.ged_canon.specs.inner.Writing.{row_of, brief_sibling, renamed_sibling, sibling_at, sibling_lines, run_lines, further_at, CanWriteFurther, CanWriteTree, CanWriteRun, Writes};
 
 use crate::writer::answer::{Answer, text_value};
@@ -25,14 +26,14 @@ impl<F: Forest> Writer<'_, '_, F> {
         &self,
         place: usize,
         level: u8,
-        answer: &mut Answer<'_>,
+        answer: &mut Answer,
     ) -> Result<(), AllocError>
         requires { CanWriteFurther (F.trees self.now.forest.now) place level }
-        ensures { OnOk result (answer.new ≡ answer.old ++ spelled_lines (further_at (F.trees self.now.forest.now) place level)) }
+        ensures { OnOk result (Appends self.now.plan.file.now answer.old answer.new (spelled_lines (further_at (F.trees self.now.forest.now) place level))) }
     {
         for number in 0..self.forest.further(place) {
             let value = text_value(self.forest.further_line(place, number));
-            answer.push_parts(level + 1, None, "CONT", value)?;
+            answer.push_parts(self.plan.file, level + 1, None, "CONT", value)?;
         }
         Ok(())
     }
@@ -40,17 +41,12 @@ impl<F: Forest> Writer<'_, '_, F> {
     /// The same, where the forest has them all at once or one by one. A function of its own, so that the common path, on which
     /// there are none, need not clear the stack's room for them.
     #[inline(never)]
-    fn write_further(
-        &self,
-        place: usize,
-        level: u8,
-        answer: &mut Answer<'_>,
-    ) -> Result<(), AllocError>
+    fn write_further(&self, place: usize, level: u8, answer: &mut Answer) -> Result<(), AllocError>
         requires { CanWriteFurther (F.trees self.now.forest.now) place level }
-        ensures { OnOk result (answer.new ≡ answer.old ++ spelled_lines (further_at (F.trees self.now.forest.now) place level)) }
+        ensures { OnOk result (Appends self.now.plan.file.now answer.old answer.new (spelled_lines (further_at (F.trees self.now.forest.now) place level))) }
     {
         match self.forest.further_lines(place) {
-            Some(further) => answer.push_further(level, &further),
+            Some(further) => answer.push_further(self.plan.file, level, &further),
             None => self.write_each_further(place, level, answer),
         }
     }
@@ -64,7 +60,7 @@ impl<F: Forest> Writer<'_, '_, F> {
         level: u8,
         xref: Option<&str>,
         sibling: Sibling<'_>,
-        work: &mut Work<'_>,
+        work: &mut Work,
     ) -> Result<(), AllocError>
         requires within { StandsIn (F.trees self.now.forest.now) sibling }
         requires stands { HasLinesAt level (brief_sibling self.now.plan.edition (row_of rule) (option_copied xref) (F.trees self.now.forest.now) sibling) }
@@ -90,7 +86,7 @@ impl<F: Forest> Writer<'_, '_, F> {
         xref: Option<&str>,
         sibling: Sibling<'_>,
         end: usize,
-        work: &mut Work<'_>,
+        work: &mut Work,
     ) -> Result<(), AllocError>
         requires { CanWriteTree self.now.plan.edition (row_of rule) level (option_copied xref) (F.trees self.now.forest.now) sibling end }
         ensures kept { OnOk result (work.new.siblings.items ≡ work.old.siblings.items) }
@@ -114,7 +110,7 @@ impl<F: Forest> Writer<'_, '_, F> {
         level: u8,
         place: usize,
         end: usize,
-        work: &mut Work<'_>,
+        work: &mut Work,
     ) -> Result<(), AllocError>
         requires { CanWriteTree self.now.plan.edition (row rows.now (structure_at (F.trees self.now.forest.now) place).tag) level None (F.trees self.now.forest.now) (sibling_at (F.trees self.now.forest.now) place) end }
         ensures kept { OnOk result (work.new.siblings.items ≡ work.old.siblings.items) }
@@ -135,7 +131,7 @@ impl<F: Forest> Writer<'_, '_, F> {
         level: u8,
         place: usize,
         end: usize,
-        work: &mut Work<'_>,
+        work: &mut Work,
     ) -> Result<(), AllocError>
         requires { CanWriteTree self.now.plan.edition (row rows.now (structure_at (F.trees self.now.forest.now) place).tag) level None (F.trees self.now.forest.now) (sibling_at (F.trees self.now.forest.now) place) end }
         ensures kept { OnOk result (work.new.siblings.items ≡ work.old.siblings.items) }
@@ -162,7 +158,7 @@ impl<F: Forest> Writer<'_, '_, F> {
         level: u8,
         start: usize,
         end: usize,
-        work: &mut Work<'_>,
+        work: &mut Work,
     ) -> Result<(), AllocError>
         requires { CanWriteRun self.now.plan.edition context level (F.trees self.now.forest.now) start end }
         ensures kept { OnOk result (work.new.siblings.items ≡ work.old.siblings.items) }
@@ -191,7 +187,7 @@ impl<F: Forest> Writer<'_, '_, F> {
         level: u8,
         start: usize,
         end: usize,
-        work: &mut Work<'_>,
+        work: &mut Work,
     ) -> Result<(), AllocError>
         requires { CanWriteRun self.now.plan.edition context level (F.trees self.now.forest.now) start end }
         ensures kept { OnOk result (work.new.siblings.items ≡ work.old.siblings.items) }

@@ -12,7 +12,7 @@ use crate::edition::Edition;
 use crate::spelled::SpelledForm;
 use crate::writer::answer::Answer;
 use crate::writer::document::document_siblings;
-use crate::writer::plan::{Plan, Work, Writer};
+use crate::writer::plan::{Plan, Window, Work, Writer};
 use crate::writer::rank::RankedSibling;
 use crate::writer::siblings::Sibling;
 use ged_line::ValueView;
@@ -23,11 +23,7 @@ use std::alloc::{AllocError, Global};
 
 impl<F: Forest> Writer<'_, '_, F> {
     /// Appends the lines of HEAD or of a record with its own identifier, and of what stands below it.
-    fn write_kept_record(
-        &self,
-        sibling: RankedSibling,
-        work: &mut Work<'_>,
-    ) -> Result<(), AllocError>
+    fn write_kept_record(&self, sibling: RankedSibling, work: &mut Work) -> Result<(), AllocError>
         requires { CanWriteRecords each_used self.now.plan.edition (F.trees self.now.forest.now) (sibling ∷ []) }
         ensures { WritesKept (F.trees self.now.forest.now) self.now.plan result work.old.answer work.new.answer (sibling ∷ []) }
     {
@@ -38,14 +34,20 @@ impl<F: Forest> Writer<'_, '_, F> {
         let end = self.forest.after(place);
         let xref = self.forest.xref(place);
         let own = Sibling { tag, place };
-        self.write_tree(rule, 0, xref, own, end, work)
+        let writer = Writer {
+            forest: self.forest,
+            plan: self.plan,
+            lines: self.lines,
+            window: self.window_of(place, end),
+        };
+        writer.write_tree(rule, 0, xref, own, end, work)
     }
 
     /// Appends the lines of HEAD and the records with their own identifiers, and of what stands below them.
     fn write_kept_records(
         &self,
         siblings: &[RankedSibling],
-        work: &mut Work<'_>,
+        work: &mut Work,
     ) -> Result<(), AllocError>
         requires { CanWriteRecords each_used self.now.plan.edition (F.trees self.now.forest.now) siblings.now }
         ensures { WritesKept (F.trees self.now.forest.now) self.now.plan result work.old.answer work.new.answer siblings.now }
@@ -81,13 +83,20 @@ pub fn spell_tidy_in<'f, F: Forest>(
         edition,
         index,
         numbers: &[],
+        file,
     };
-    let writer = Writer { forest, plan };
-    let answer = Answer::start(alloc, file, forest.size())?;
+    let writer = Writer {
+        forest,
+        plan,
+        lines: forest.bare_lines(),
+        window: Window { start: 0, end: 0 },
+    };
+    let answer = Answer::start(alloc, forest.size(), file.len())?;
     let mut work = Work::new(alloc, answer);
     writer.write_kept_records(records, &mut work)?;
-    work.answer.push_parts(0, None, "TRLR", ValueView::Empty)?;
-    let form = work.into_form()?;
+    work.answer
+        .push_parts(file, 0, None, "TRLR", ValueView::Empty)?;
+    let form = work.into_form(file)?;
     Ok(form)
 }
 

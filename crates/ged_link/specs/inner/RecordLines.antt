@@ -8,6 +8,7 @@ use Rattle.ged_line.specs.Lines.{LineParts}
 use Rattle.ged_link.specs.RecordTypes.{IsTypeOf}
 use Rattle.ged_link.specs.inner.Layout.{counted, no_names}
 use Rattle.ged_link.specs.inner.Listing.{listed_halves, listed_digits, all_halves, all_digits}
+use Rattle.ged_link.specs.inner.PointerLists.{line_pointers, AreListedPointers}
 use Rattle.ged_link.specs.declared.listing.RecordList.{RecordList}
 use Rattle.ged_link.specs.declared.record_reader.RecordReader.{RecordReader}
 use Rattle.ged_link.specs.declared.record_type.RecordType.{RecordType}
@@ -34,6 +35,6 @@ pub record AreListed (list : RecordList) (lines : List LineParts) : Type 0 where
   pub digits : all_digits list ≡ map listed_digits (map (λ line. line.xref) lines)
   pub types : AreTypesByTags list.types.items lines
 
--- the lines were read
+-- the lines were read, and their pointers are listed
 abbrev pub HasListed : RecordReader → List LineParts → Type 0
-HasListed reader lines = AreListed reader.list (record_lines lines)
+HasListed reader lines = AreListed reader.list (record_lines lines) × AreListedPointers reader.pointers.items (line_pointers lines)

@@ -10,12 +10,12 @@ use Rattle.ged_link.specs.declared.index.RecordPlace.{RecordPlace}
 use Rattle.ged_link.specs.Links.{identifiers, IsRecordNumber, IsUsed}
 use Rattle.ged_link.specs.LinkFaults.{HasXref, HasPointer, IsDangling}
 use Rattle.ged_link.specs.declared.names.Names.{Names}
-use Rattle.ged_link.specs.declared.pointers.Followed.{Followed}
+use Rattle.ged_link.specs.declared.pointers.Following.{Following}
 use Rattle.ged_link.specs.declared.pointers.Records.{Records}
 use Rattle.ged_link.specs.declared.record_type.RecordType.{RecordType}
 use Rattle.ged_link.specs.RecordTypes.{record_tag}
-use Rattle.ged_link.specs.Targets.{AreTargets}
 use Rattle.ged_link.specs.LedByTags.{IsLed}
+use Rattle.ged_link.specs.inner.PointerLists.{pointers_from, IsPointerList}
 use Rattle.ged_link.specs.Indexes.{AreRecords, AreTyped, found_in, place_in, number_in}
 
 -- the records gain a name, and keep all others
@@ -56,11 +56,11 @@ pub record AreKnown (d : Trees) (records : Records) : Type 0 where
   pub named : AreRecords d records.names.now
   pub typed : AreTyped d records.names.now records.types.now
 
--- all pointers before a place name records, those are marked, and what is kept of the pointers is true
-pub record AreFollowed (d : Trees) (place : ℕ) (followed : Followed) : Type 0 where
+-- all pointers before a place name records, those are marked, and what is kept of the pointers is true, as is what is listed of the others
+pub record AreFollowed (d : Trees) (place : ℕ) (followed : Following) : Type 0 where
   pub long : length followed.used.items ≡ length (identifiers (records_of d))
   pub marked : AreUsedBefore d place followed.used.items
-  pub told : AreTargets d followed.targets.items
+  pub list : IsPointerList d (pointers_from d place) followed.list
   pub found : NoneDanglesBefore d place
   pub led : IsTrue followed.led ↔ AreLedBefore d place
 

@@ -2,7 +2,7 @@
 use Rattle.std.proofs.Common.{◌≡◌, ℕ, suc, ◌+◌, ◌-◌, ◌<◌, ◌≤◌, true, false, List, [], ◌∷◌, ◌++◌, length, take, drop, map, inl, inr, refl, sym, subst, ◌∙◌, ap, arith, append_assoc, append-nil, length-append}
 use Rattle.std.specs.Prelude.{nat_lt}
 use Rattle.std.specs.List.{AllByRecursion}
-use Rattle.std.proofs.lemmas.List.{length-map, take_at, drop_at, drop-drop}
+use Rattle.std.proofs.lemmas.List.{length-map, map-append, take_at, drop_at, drop-drop}
 use Rattle.std.proofs.lemmas.Bool.{cases_lt, lt-ltb}
 use Rattle.ged_line.specs.Bytes.{Bytes}
 use Rattle.ged_line.specs.Lines.{LineParts, line_parts}
@@ -12,6 +12,7 @@ use Rattle.ged_tree.specs.DocumentLines.{line_value, first_value, lines_of}
 use Rattle.ged_tree.specs.inner.DocumentParts.{continued}
 use Rattle.ged_tree.specs.Rows.{TableRow, rows_of, rows_from, further_before, places_of, texts_of, trees_of_rows, flat_rows, flat_trees, IsListed, IsSpelled, Further, Shown, deeper, levels_of}
 use Rattle.ged_tree.specs.inner.Tables.{OwnLine, own_line, own_lines, begins_cont, further_places, further_texts, line_text}
+use Rattle.ged_tree.specs.inner.Growing.{RiseByOne}
 use Rattle.ged_tree.specs.Spelled.{payload_from}
 use Rattle.ged_tree.proofs.theory.LinesAgain.{tree_is, payload_again, laid, document_placed}
 use Rattle.ged_tree.proofs.theory.RowsAtPlaces.{trees_of_rows_of}
@@ -224,3 +225,27 @@ lists w items further a r p t spelled =
     let e : flat_rows items further ≡ rows_of 0 0 1 w = listed w items further a r p t in
     let seen : flat_trees items further ≡ w = ap (trees_of_rows 0) e ∙ trees_of_rows_of 0 0 1 w in
     record { flat = record { listed = e ∙ ap (rows_of 0 0 1) (sym seen); document = ap is_document seen ∙ a; spelled = spelled }; seen = seen }
+
+-- the levels of a document's structures rise by one at most
+row_levels : (texts : List Bytes) (afters : List ℕ) (place : ℕ) (items : List Shown) → map (λ (r : TableRow). r.level) (rows_from texts afters place items) ≡ levels_of items
+row_levels texts afters place [] = refl
+row_levels texts afters place (s ∷ rest) = ap (λ (ls : List ℕ). s.level ∷ ls) (row_levels texts afters (place + 1) rest)
+
+rows_rise : (most k place number : ℕ) (w : Trees) (more : List ℕ) → k ≤ most → ((l : ℕ) → k ≤ l → RiseByOne l more)
+    → RiseByOne most (map (λ (r : TableRow). r.level) (rows_of k place number w) ++ more)
+rows_rise most k place number none more low h = h most low
+rows_rise most k place number (tree s b n) more low h =
+    let below = rows_of (k + 1) (place + 1) (number + line_count s.payload) b in
+    let next = rows_of k (place + (1 + trees_count b)) (number + (line_count s.payload + lines_count b)) n in
+    let level : TableRow → ℕ = λ r. r.level in
+    let split : map level (below ++ next) ++ more ≡ map level below ++ (map level next ++ more) = ap (λ (ls : List ℕ). ls ++ more) (map-append level below next) ∙ append_assoc (map level below) (map level next) more in
+    let rest = rows_rise (k + 1) (k + 1) (place + 1) (number + line_count s.payload) b (map level next ++ more) (omega arith)
+    (λ l above. rows_rise l k (place + (1 + trees_count b)) (number + (line_count s.payload + lines_count b)) n more (omega (arith, above)) h) in
+    (low, subst (RiseByOne (k + 1)) (sym split) rest)
+
+pub rise : (items : List Shown) (further : List Further) → IsListed items further → RiseByOne 0 (levels_of items)
+rise items further flat =
+    let level : TableRow → ℕ = λ r. r.level in
+    let w = flat_trees items further in
+    let same : map level (rows_of 0 0 1 w) ++ [] ≡ levels_of items = append-nil (map level (rows_of 0 0 1 w)) ∙ ap (map level) (sym flat.listed) ∙ row_levels (texts_of further) (places_of further) 0 items in
+    subst (RiseByOne 0) same (rows_rise 0 0 0 1 w [] (omega arith) (λ l above. tt))

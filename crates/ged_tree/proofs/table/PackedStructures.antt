@@ -3,6 +3,7 @@ use Rattle.std.proofs.Common.{◌≡◌, ℕ, suc, zero, ◌+◌, ◌%◌, ◌<�
 use Rattle.std.specs.List.{AllByRecursion}
 use Rattle.std.specs.Prelude.{nat_lt}
 use Rattle.std.proofs.Common.{mod-eq_of_lt}
+use Rattle.std.proofs.Math.Seq.{map-set_same}
 use Rattle.std.proofs.lemmas.Bool.{le-ltb}
 use Rattle.std.proofs.lemmas.Bool.Decides.{nat_tests}
 use Rattle.std.proofs.lemmas.List.{drop-map}
@@ -158,4 +159,5 @@ module _ (items : List KeptStructure) (i : ℕ) (s : KeptStructure) (mark : ℕ)
     structures = told;
     spelled = spelled_told;
     slices = λ file a. slices_set file items i (remarked s mark) (slice_at file items i s (omega (arith, last)) is a) a;
+    levels = map-set_same kept_level items i (remarked s mark) s (level ∙ ap kept_level is);
   }

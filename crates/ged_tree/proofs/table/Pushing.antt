@@ -6,9 +6,10 @@ use Rattle.std.proofs.lemmas.List.{map-append}
 use Rattle.std.proofs.lemmas.List.Sorted.{IsNonDecreasingBy-push}
 use Rattle.ged_line.specs.Bytes.{Bytes}
 use Rattle.ged_line.specs.Lines.{LineParts}
-use Rattle.ged_tree.specs.Rows.{Shown, shown_with, shown_from, text_at, IsSpelled, HasSlice}
+use Rattle.ged_tree.specs.Rows.{Shown, shown_with, shown_from, text_at, IsSpelled, HasSlice, kept_level, kept_levels}
 use Rattle.ged_tree.specs.Rows.{Further, texts_of, places_of}
 use Rattle.ged_tree.specs.TreeFaults.{is_cont, is_trailer}
+use Rattle.ged_tree.specs.inner.Growing.{HasSizes}
 use Rattle.ged_tree.specs.inner.Tables.{OwnLine, own_line, line_text, table_shown, IsKept, IsSliceAt, Shows, HasStructure, IsFurtherPut, IsPut, TellsFurther, table_further}
 use Rattle.ged_tree.specs.declared.table.packed.KeptStructure.{KeptStructure}
 use Rattle.ged_tree.specs.declared.table.packed.TextApart.{TextApart}
@@ -18,7 +19,8 @@ use Rattle.ged_tree.proofs.table.PackedStructures.{text_of_apart, text_of_slice,
 
 module _ (old new : TableBuilder) (line : LineParts) (text : Bytes) (s : KeptStructure) (shows : Shows line text s)
     (judge : new.judge ≡ old.judge) (count : new.count ≡ old.count) (file : new.file ≡ old.file) (further : new.further ≡ old.further)
-    (items : new.structures.items ≡ old.structures.items ++ s ∷ []) where
+    (items : new.structures.items ≡ old.structures.items ++ s ∷ [])
+    (sizes : HasSizes (kept_levels old.structures.items) old.sizes → HasSizes (kept_levels old.structures.items ++ kept_level s ∷ []) new.sizes) where
   size : length new.structures.items ≡ length old.structures.items + 1
   size = ap (λ (xs : List KeptStructure). length xs) items ∙ length-append old.structures.items (s ∷ [])
 
@@ -47,6 +49,9 @@ module _ (old new : TableBuilder) (line : LineParts) (text : Bytes) (s : KeptStr
   slices_more : HasSlice new.file.now s → AllByRecursion (HasSlice old.file.now) old.structures.items → AllByRecursion (HasSlice new.file.now) new.structures.items
   slices_more h a = rw items (slices_push new.file.now old.structures.items s (rw file a) h)
 
+  sized_more : HasSizes (kept_levels old.structures.items) old.sizes → HasSizes (kept_levels new.structures.items) new.sizes
+  sized_more h = rw (items, map-append kept_level old.structures.items (s ∷ [])) (sizes h)
+
   -- a slice of the file
   module _ (apart : new.apart ≡ old.apart) (slice : IsSliceAt old.file.now s.start text) (long : s.length ≡ length text) (short : s.length < 255) where
     slice_same : shown_from new.file.now new.apart.items 0 old.structures.items ≡ table_shown old
@@ -71,6 +76,7 @@ module _ (old new : TableBuilder) (line : LineParts) (text : Bytes) (s : KeptStr
         apart_within = rw apart (low_later (length old.structures.items) (length new.structures.items) old.apart.items (omega (arith, size)) k.apart_within);
         apart_in_order = rw apart k.apart_in_order;
         further_slices = rw (file, further) k.further_slices;
+        sized = sized_more k.sized;
       };
     }
 
@@ -101,6 +107,7 @@ module _ (old new : TableBuilder) (line : LineParts) (text : Bytes) (s : KeptStr
         apart_within = rw apart (low_push (length new.structures.items) old.apart.items t (low_later (length old.structures.items) (length new.structures.items) old.apart.items (omega (arith, size)) k.apart_within) (omega (arith, size, place)));
         apart_in_order = rw apart (IsNonDecreasingBy-push (λ (x : TextApart). x.place) old.apart.items t k.apart_in_order (λ d some. (let low = low_at (length old.structures.items) old.apart.items (length old.apart.items - 1) d k.apart_within (omega arith) in omega (arith, low, place))));
         further_slices = rw (file, further) k.further_slices;
+        sized = sized_more k.sized;
       };
     }
 
@@ -114,9 +121,9 @@ above_is_no_trailer line above = at (line.level == 0) refl
 
 -- one more further line
 pub put_further : (old new : TableBuilder) (line : LineParts) (after : ℕ) (text : Bytes) → is_trailer line ≡ false → is_cont line ≡ true → new.judge ≡ old.judge → new.count ≡ old.count
-    → new.file ≡ old.file → new.apart ≡ old.apart → TellsFurther old.structures.items new.structures.items → IsFurtherPut old.file.now old.further new.further after text
+    → new.file ≡ old.file → new.sizes ≡ old.sizes → new.apart ≡ old.apart → TellsFurther old.structures.items new.structures.items → IsFurtherPut old.file.now old.further new.further after text
     → after ≡ length old.structures.items → text ≡ line_text line.value → IsPut line old new
-put_further old new line after text trailer cont judge count file apart tells put after_is text_is = record {
+put_further old new line after text trailer cont judge count file sizes apart tells put after_is text_is = record {
   judge = judge;
   count = count;
   file = file;
@@ -129,5 +136,6 @@ put_further old new line after text trailer cont judge count file apart tells pu
     apart_within = rw apart (low_later (length old.structures.items) (length new.structures.items) old.apart.items (omega (arith, tells.count)) k.apart_within);
     apart_in_order = rw apart k.apart_in_order;
     further_slices = rw file (put.slices k.further_slices);
+    sized = rw (sizes, tells.levels) k.sized;
   };
 }

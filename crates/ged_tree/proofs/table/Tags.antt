@@ -80,6 +80,11 @@ no_name : (xref : Option Bytes) → length (xref_part xref) ≡ 0 → xref ≡ N
 no_name None h = refl
 no_name (Some name) h = absurd (omega arith)
 
+-- behind one digit and a space there is no room for an identifier
+no_part : (xref : Option Bytes) (digits : ℕ) → 2 ≡ digits + 1 + length (xref_part xref) → xref_part xref ≡ []
+no_part None digits h = refl
+no_part (Some name) digits h = absurd (omega (arith, h, length-append name (64 ∷ 32 ∷ [])))
+
 -- an identifier's bytes, with its signs and the space behind it
 pub record HasName (xref : Option Bytes) : Type 0 where
   pub name : Bytes
@@ -162,6 +167,14 @@ module _ (line : LineParts) (text : Bytes) (spelled : LineText line text) (start
   pub rest_whole : ¬ (length text ≡ start + size + 1) → drop start text ≡ line.tag ++ value_part line.value
   rest_whole other =
       rest_is ∙ ap (λ (bs : Bytes). line.tag ++ bs) (part_spelled line.value t.value_part t.value (λ (z : length t.value_part ≡ 1). other (omega (arith, z, whole_length))))
+
+  -- behind a level of one digit, and with no space alone behind the tag, the text is the canonical spelling
+  pub bare_line : start ≡ 2 → ¬ (length text ≡ start + size + 1) → text ≡ decimal line.level ++ (32 ∷ (line.tag ++ value_part line.value))
+  bare_line first other =
+      whole_line
+      ∙ ap (λ (bs : Bytes). (decimal line.level ++ (32 ∷ bs)) ++ (line.tag ++ t.value_part)) (no_part line.xref (length (decimal line.level)) (sym first ∙ at))
+      ∙ append_assoc (decimal line.level) (32 ∷ []) (line.tag ++ t.value_part)
+      ∙ ap (λ (bs : Bytes). decimal line.level ++ (32 ∷ (line.tag ++ bs))) (part_spelled line.value t.value_part t.value (λ (z : length t.value_part ≡ 1). other (omega (arith, z, whole_length))))
 
   pub part_shown : shown_value t.value_part ≡ line.value
   part_shown = value_shown line.value t.value_part (line_is line t.is_line).value t.value

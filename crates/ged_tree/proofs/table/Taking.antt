@@ -13,15 +13,16 @@ use Rattle.ged_tree.specs.Documents.{HasLines}
 use Rattle.ged_tree.specs.inner.Trailers.{trailer_line}
 use Rattle.ged_tree.specs.TreeFaults.{is_cont, is_trailer, is_empty, has_trailer, fault_after, Pass, more, FirstTreeFault, no_lines, past_last}
 use Rattle.ged_tree.specs.Judging.{StandsFor}
-use Rattle.ged_tree.specs.Rows.{AreSizes, IsFlat}
+use Rattle.ged_tree.specs.Rows.{AreSizes, IsFlat, kept_levels}
+use Rattle.ged_tree.specs.inner.Growing.{HasSizes, RiseByOne}
 use Rattle.ged_tree.specs.inner.Tables.{OwnLine, own_line, own_lines, begins_cont, go_on, with_line, further_places, further_texts, but_trailer, table_shown, table_further, IsKept, HoldsLines, IsPut}
 use Rattle.ged_tree.specs.declared.table.closing.Sizes.{Sizes}
 use Rattle.ged_tree.specs.declared.table.builder.TableBuilder.{TableBuilder}
 use Rattle.ged_tree.specs.declared.fault.TreeFault.TheVariants.{NoHeader, NoTrailer}
 use Rattle.ged_tree.proofs.theory.OneDocument.{made, free_after, ended}
-use Rattle.ged_tree.proofs.table.Assembly.{Lists, lists}
+use Rattle.ged_tree.proofs.table.Assembly.{Lists, lists, rise}
 use Rattle.ged_tree.proofs.table.Continuations.{further_in_order}
-use Rattle.ged_tree.proofs.table.PackedStructures.{length-shown}
+use Rattle.ged_tree.proofs.table.PackedStructures.{length-shown, levels_shown}
 
 -- no line follows TRLR without a fault
 ongoing : (lines : List LineParts) (line : LineParts) → fault_after lines line ≡ None → has_trailer lines ≡ false
@@ -113,36 +114,55 @@ all_more [] line h e = rw e refl
 all_more (x ∷ xs) line h e = let p = and_parts (is_line x) (list_all is_line xs) h in and_from (is_line x) _ p.0 (all_more xs line p.1 e)
 
 -- a table without structures
-pub none_kept : (builder : TableBuilder) → builder.structures.items ≡ [] → builder.apart.items ≡ [] → builder.further.slices.items ≡ [] → IsKept builder
-none_kept builder s a f = record {
+pub none_kept : (builder : TableBuilder) → builder.structures.items ≡ [] → builder.apart.items ≡ [] → builder.further.slices.items ≡ [] → HasSizes [] builder.sizes
+    → IsKept builder
+none_kept builder s a f sized = record {
   spelled = rw s tt;
   slices = rw s tt;
   apart_within = rw a tt;
   apart_in_order = rw a (λ i j d le lt. absurd (omega (arith, lt)));
   further_slices = rw f tt;
+  sized = rw s sized;
 }
 
 -- what is kept does not change with the judge and the count
-same_kept : (old mid : TableBuilder) → mid.file ≡ old.file → mid.apart ≡ old.apart → mid.structures ≡ old.structures → mid.further ≡ old.further → IsKept old → IsKept mid
-same_kept old mid f a s t k = record {
+same_kept : (old mid : TableBuilder) → mid.file ≡ old.file → mid.apart ≡ old.apart → mid.structures.items ≡ old.structures.items
+    → ((levels : List ℕ) → HasSizes levels old.sizes → HasSizes levels mid.sizes) → mid.further ≡ old.further → IsKept old → IsKept mid
+same_kept old mid f a s sizes t k = record {
   spelled = rw (f, a, s) k.spelled;
   slices = rw (f, s) k.slices;
   apart_within = rw (a, s) k.apart_within;
   apart_in_order = rw a k.apart_in_order;
   further_slices = rw (f, t) k.further_slices;
+  sized = rw s (sizes (kept_levels old.structures.items) k.sized);
+}
+
+-- room for more structures
+pub roomier : (old new : TableBuilder) (lines : List LineParts) → new.judge ≡ old.judge → new.count ≡ old.count → new.file ≡ old.file → new.apart ≡ old.apart
+    → new.further ≡ old.further → new.structures.items ≡ old.structures.items → ((levels : List ℕ) → HasSizes levels old.sizes → HasSizes levels new.sizes)
+    → HoldsLines old lines → HoldsLines new lines
+roomier old new lines judge count file apart further same sizes h = record {
+  judged = rw judge h.judged;
+  pass = h.pass;
+  are_lines = h.are_lines;
+  counted = rw count h.counted;
+  structures = rw (file, apart, same) h.structures;
+  places = rw (file, further) h.places;
+  further = rw (file, further) h.further;
+  kept = same_kept old new file apart same sizes further h.kept;
 }
 
 -- a line more
 pub taken : (old mid new : TableBuilder) (lines : List LineParts) (line : LineParts) → HoldsLines old lines → fault_after lines line ≡ None → is_line line ≡ true
-    → StandsFor mid.judge (lines ++ line ∷ []) → mid.count ≡ old.count + 1 → mid.file ≡ old.file → mid.apart ≡ old.apart → mid.structures ≡ old.structures → mid.further ≡ old.further
-    → IsPut line mid new → HoldsLines new (lines ++ line ∷ [])
-taken old mid new lines line h none is stands counted file apart same also put =
+    → StandsFor mid.judge (lines ++ line ∷ []) → mid.count ≡ old.count + 1 → mid.file ≡ old.file → mid.apart ≡ old.apart → mid.structures ≡ old.structures → mid.sizes ≡ old.sizes
+    → mid.further ≡ old.further → IsPut line mid new → HoldsLines new (lines ++ line ∷ [])
+taken old mid new lines line h none is stands counted file apart same sizes also put =
     let body = but_trailer lines in
     let last = but_trailer (line ∷ []) in
     let split : but_trailer (lines ++ line ∷ []) ≡ body ++ last = filter-append (λ (l : LineParts). not (is_trailer l)) lines (line ∷ []) in
     let size = length-shown old.file.now old.apart.items 0 old.structures.items in
     let count : length old.structures.items ≡ 0 + length (own_lines body) = (let q = ap (λ (rs : List OwnLine). length rs) h.structures in omega (arith, length-map (table_shown old) own_line, q, size)) in
-    let kept : IsKept mid = same_kept old mid file apart same also h.kept in
+    let kept : IsKept mid = same_kept old mid file apart (rw same refl) (λ levels sized. rw sizes sized) also h.kept in
     record {
       judged = rw put.judge stands;
       pass = more lines line h.pass none;
@@ -170,7 +190,7 @@ pub record Finished (lines : List LineParts) (builder : TableBuilder) (sizes : S
   pub flat : IsFlat builder.file.now builder.apart.items builder.structures.items sizes builder.further
 
 pub finished : (builder : TableBuilder) (lines : List LineParts) (sizes : Sizes) → HoldsLines builder lines → has_trailer lines ≡ true → length lines < 2 ^ 63
-    → AreSizes builder.structures.items sizes 0 → Finished lines builder sizes
+    → (RiseByOne 0 (kept_levels builder.structures.items) → AreSizes builder.structures.items sizes 0) → Finished lines builder sizes
 finished builder lines sizes h t few sized =
     let m = made lines h.pass t h.are_lines few in
     let told : lines ≡ lines_of 0 m.0 ++ trailer_line ∷ [] = m.1.told in
@@ -180,9 +200,10 @@ finished builder lines sizes h t few sized =
     let body : but_trailer lines ≡ lines_of 0 m.0 = ap but_trailer told ∙ filter-append (λ (l : LineParts). not (is_trailer l)) (lines_of 0 m.0) (trailer_line ∷ []) ∙ append-nil (but_trailer (lines_of 0 m.0)) ∙ kept (lines_of 0 m.0) ongoing_body in
     let rows : map own_line (table_shown builder) ≡ own_lines (lines_of 0 m.0) = h.structures ∙ ap own_lines body in
     let listed = lists m.0 (table_shown builder) (table_further builder) m.1.allowed rows (h.places ∙ ap (further_places 0) body) (h.further ∙ ap further_texts body) h.kept.spelled in
+    let climb = rw (levels_shown builder.file.now builder.apart.items 0 builder.structures.items) at (rise (table_shown builder) (table_further builder) listed.flat) in
     record {
       shown = m.0;
       has = m.1;
       lists = listed;
-      flat = record { lists = listed.flat; sized = sized; slices = h.kept.slices; apart_in_order = h.kept.apart_in_order; further_slices = h.kept.further_slices; further_in_order = further_in_order builder.file.now builder.further (lines_of 0 m.0) (h.places ∙ ap (further_places 0) body) };
+      flat = record { lists = listed.flat; sized = sized climb; slices = h.kept.slices; apart_in_order = h.kept.apart_in_order; further_slices = h.kept.further_slices; further_in_order = further_in_order builder.file.now builder.further (lines_of 0 m.0) (h.places ∙ ap (further_places 0) body) };
     }

@@ -12,6 +12,7 @@ use Rattle.ged_line.specs.declared.file.spelled_line.SpelledLine.{SpelledLine}
 use Rattle.ged_tree.specs.DocumentLines.{line_value}
 use Rattle.ged_tree.specs.TreeFaults.{is_cont, is_trailer, Pass, FirstTreeFault, fault_after}
 use Rattle.ged_tree.specs.Judging.{StandsFor}
+use Rattle.ged_tree.specs.inner.Growing.{HasSizes}
 use Rattle.ged_tree.specs.Rows.{Shown, shown_with, shown_from, kept_further, line_shown, IsSpelled, HasSlice, deeper, kept_levels, size_of_first, texts_of, places_of, Further, further_of, HasFurther}
 use Rattle.ged_tree.specs.declared.fault.BuildFault.{BuildFault}
 use Rattle.ged_tree.specs.declared.fault.BuildFault.TheVariants.{At, Memory}
@@ -88,6 +89,7 @@ pub record TellsFurther (old new : List KeptStructure) : Type 0 where
   pub structures : (file : Bytes) (apart : List TextApart) → map own_line (shown_from file apart 0 new) ≡ go_on (map own_line (shown_from file apart 0 old))
   pub spelled : (file : Bytes) (apart : List TextApart) → AllByRecursion IsSpelled (shown_from file apart 0 old) → AllByRecursion IsSpelled (shown_from file apart 0 new)
   pub slices : (file : Bytes) → AllByRecursion (HasSlice file) old → AllByRecursion (HasSlice file) new
+  pub levels : kept_levels new ≡ kept_levels old
 
 -- the text is the slice of the file from this place on
 pub record IsSliceAt (file : Bytes) (start : ℕ) (text : Bytes) : Type 0 where
@@ -117,13 +119,14 @@ table_shown builder = shown_from builder.file.now builder.apart.items 0 builder.
 abbrev pub table_further : TableBuilder → List Further
 table_further builder = further_of builder.file.now builder.further
 
--- the texts of a table's structures are lines, and stand where they are kept
+-- the texts of a table's structures are lines, and stand where they are kept; and their sizes are kept
 pub record IsKept (builder : TableBuilder) : Type 0 where
   pub spelled : AllByRecursion IsSpelled (table_shown builder)
   pub slices : AllByRecursion (HasSlice builder.file.now) builder.structures.items
   pub apart_within : AllByRecursion (λ text. text.place < length builder.structures.items) builder.apart.items
   pub apart_in_order : IsNonDecreasingBy (λ text. text.place) builder.apart.items
   pub further_slices : HasFurther builder.file.now builder.further
+  pub sized : HasSizes (kept_levels builder.structures.items) builder.sizes
 
 -- the structures and further lines of a table are those of lines without a fault
 pub record HoldsLines (builder : TableBuilder) (lines : List LineParts) : Type 0 where

@@ -13,8 +13,8 @@ ghost use Rattle.ged_tree.specs.inner.Tables.{IsTaken, Shows, TellsEnd, TellsFur
 use crate::fault::{BuildFault, TreeAt, TreeFault};
 use crate::forest::continuations::FurtherTable;
 use crate::judge::{Judge, LineRole, is_trailer};
-use crate::table::closing::sizes_of;
 use crate::table::flat::Flat;
+use crate::table::growing::GrowingSizes;
 use crate::table::packed::{
     APART, KeptStructure, TextApart, kept_slice, mark_with_further, start_if_kept,
 };
@@ -123,6 +123,7 @@ pub(crate) struct TableBuilder<'a> {
     /// The text in which lines are told by where they begin.
     pub(crate) file: &'a str,
     structures: Vec<KeptStructure>,
+    sizes: GrowingSizes,
     apart: Vec<TextApart<'a>>,
     further: FurtherTable<'a>,
 }
@@ -137,19 +138,22 @@ impl<'a> TableBuilder<'a> {
             count: 0,
             file,
             structures: Vec::new(alloc),
+            sizes: GrowingSizes::new(alloc),
             apart: Vec::new(alloc),
             further: FurtherTable::new(alloc),
         }
     }
 
-    /// The same, with room for the structures of a file whose lines have [`USUAL_LINE`] bytes: a vector that grows to its size moves with each
-    /// growth, and most of the pages that it then gets are small ones. Grows.
+    /// The same, with room for the structures of a file whose lines have [`USUAL_LINE`] bytes, and for their sizes: a vector that grows to
+    /// its size moves with each growth, and most of the pages that it then gets are small ones. Grows.
     pub(crate) fn with_room(alloc: Global, file: &'a str) -> Result<TableBuilder<'a>, AllocError>
         ensures lines { IfOk result (λ table. HoldsLines table []) }
         ensures file { IfOk result (λ table. table.file.now ≡ file.now) }
     {
         let mut table = TableBuilder::new(alloc, file);
-        table.structures.reserve(file.len() / USUAL_LINE)?;
+        let count = file.len() / USUAL_LINE;
+        table.structures.reserve(count)?;
+        table.sizes.reserve(count)?;
         Ok(table)
     }
 
@@ -293,8 +297,10 @@ impl<'a> TableBuilder<'a> {
             let start = start_if_kept(start);
             return self.push_apart(spelled.text, structure_of_line(spelled, start, APART));
         };
+        let place = self.structures.len();
         self.structures
             .push(structure_of_line(spelled, start, length))?;
+        self.sizes.push(spelled.line.level(), place)?;
         Ok(())
     }
 
@@ -308,11 +314,12 @@ impl<'a> TableBuilder<'a> {
         let place = self.structures.len();
         self.apart.push(TextApart { place, text })?;
         self.structures.push(structure)?;
+        self.sizes.push(structure.level(), place)?;
         Ok(())
     }
 
     /// The document of the lines that were taken, or what stands past the last of them.
-    pub(crate) fn finish(self, alloc: Global) -> Result<Flat<'a>, BuildFault>
+    pub(crate) fn finish(self) -> Result<Flat<'a>, BuildFault>
         requires few { self.count < 2 ^ 63 }
         requires lines { (lines : List LineParts) × HoldsLines self lines × (length lines < 2 ^ 63) }
         ensures { (lines : List LineParts) → HoldsLines self.entry lines → length lines < 2 ^ 63 → MatchResult result
@@ -328,7 +335,7 @@ impl<'a> TableBuilder<'a> {
             let line = self.count + 1;
             return Err(BuildFault::At(TreeAt { line, fault }));
         }
-        match sizes_of(alloc, self.structures.as_slice()) {
+        match self.sizes.finish(self.structures.len()) {
             Ok(sizes) => Ok(Flat::of_table(
                 self.file,
                 self.structures,

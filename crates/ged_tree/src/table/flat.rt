@@ -5,6 +5,7 @@ ghost use Rattle.ged_tree.specs.Documents.{is_document};
 ghost use Rattle.ged_tree.specs.DocumentLines.{rest_of_line};
 ghost use Rattle.ged_tree.specs.Places.{structure_at, place_after, level_at, line_at};
 ghost use Rattle.ged_tree.specs.Views.{payload_of, is_pointer, IsOwnLine};
+ghost use Rattle.ged_tree.specs.BareLines.{AreBareLines};
 ghost use Rattle.ged_tree.specs.Rows.{flat_trees, further_of, kept_points, kept_tag_length, IsFlat, IsSpelled, line_shown, shown_from};
 ghost use Rattle.ged_tree.specs.inner.Rows.{rest_of, shown_of};
 ghost use Rattle.ged_tree.specs.inner.Tables.{own_value};
@@ -14,6 +15,7 @@ use crate::forest::Forest;
 use crate::forest::continuations::{FurtherLines, FurtherTable};
 use crate::forest::own_line::OwnLine;
 use crate::forest::payload::PayloadView;
+use crate::table::bare_lines::BareLines;
 use crate::table::closing::Sizes;
 use crate::table::packed::{KeptStructure, TextApart, text_of};
 use crate::table::structure::FlatStructure;
@@ -122,6 +124,16 @@ impl<'a> Flat<'a> {
             start,
             points,
         })
+    }
+
+    /// The own lines of structures that stand in the file as they are written.
+    fn lines_in_file(&self) -> BareLines<'_>
+        ensures { AreBareLines self.now result }
+    {
+        BareLines {
+            text: self.file.as_bytes(),
+            structures: self.structures.as_slice(),
+        }
     }
 
     #[inline(always)]
@@ -256,6 +268,10 @@ impl<'a> Forest for Flat<'a> {
     #[inline(always)]
     fn own_line(&self, place: usize) -> Option<OwnLine<'_>> {
         self.own_line_at(place)
+    }
+
+    fn bare_lines(&self) -> BareLines<'_> {
+        self.lines_in_file()
     }
 
     fn further(&self, place: usize) -> usize {

@@ -110,14 +110,13 @@ fn flatten_text<'a, R: LineReader>(
     ensures read { IfOk result (λ flat. R.has_read reader.old [] → R.has_read reader.new (document_lines flat)) }
 {
     match TableBuilder::with_room(alloc, text) {
-        Ok(table) => flatten_into(alloc, table, text, reader),
+        Ok(table) => flatten_into(table, text, reader),
         Err(error) => Err(BuildFault::Memory(error)),
     }
 }
 
 /// The same, into a table that holds no lines yet.
 fn flatten_into<'a, R: LineReader>(
-    alloc: Global,
     mut table: TableBuilder<'a>,
     text: &'a str,
     reader: &mut R,
@@ -149,7 +148,7 @@ fn flatten_into<'a, R: LineReader>(
             }
         }
     }
-    match table.finish(alloc) {
+    match table.finish() {
         Ok(flat) => Ok(flat),
         Err(fault) => Err(fault),
     }
@@ -186,7 +185,7 @@ fn flatten_lines<'a, R: LineReader>(
             }
         }
     }
-    match table.finish(alloc) {
+    match table.finish() {
         Ok(flat) => Ok(flat),
         Err(fault) => Err(fault),
     }

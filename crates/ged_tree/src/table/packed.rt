@@ -1,5 +1,5 @@
 // The structures of a table as they are kept, in few bytes.
-ghost use Rattle.std.specs.Prelude.{◌≡◌, ◌<◌, ◌%◌, ℕ, [], Some, IfSome, nat_lt};
+ghost use Rattle.std.specs.Prelude.{◌≡◌, ◌<◌, ◌+◌, ◌%◌, ℕ, [], Some, IfSome, IsTrue, nat_lt};
 ghost use Rattle.std.specs.List.Sorted.{IsNonDecreasingBy};
 ghost use Rattle.ged_tree.specs.Rows.{HasSlice, kept_level, kept_further, kept_tag_length, kept_points, text_at};
 ghost use Rattle.ged_tree.specs.Rows.{text_apart as finds_apart};
@@ -50,6 +50,26 @@ impl KeptStructure {
         ensures { result ≡ kept_tag_length self.now }
     {
         self.tag_mark % 128
+    }
+
+    /// Whether its line is kept as a slice, has this level, which has one digit, and no identifier, and does not end in a space that stands
+    /// alone behind the tag.
+    #[inline(always)]
+    pub(crate) fn is_bare(&self, level: u8) -> bool
+        ensures level { IsTrue result → kept_level self.now ≡ level }
+        ensures sliced { IsTrue result → self.now.length < 255 }
+        ensures tagged { IsTrue result → 0 < kept_tag_length self.now }
+        ensures front { IsTrue result → self.now.tag_start ≡ 2 }
+        ensures ends { IsTrue result → ¬ (self.now.length ≡ kept_tag_length self.now + 3) }
+    {
+        let tag_length = self.tag_length();
+        if tag_length == 0 || self.tag_start != 2 {
+            return false;
+        }
+        if self.length == APART || self.length == tag_length + 3 {
+            return false;
+        }
+        self.level() == level
     }
 
     /// Whether its payload is a pointer that names a record, or `None` where that is not kept.

@@ -1,29 +1,28 @@
-use Rattle.std.proofs.Common.{◌≡◌, ◌<◌, Some, inr, None, sym, ap, ◌∙◌, arith, option_map, length, true, subst, slice_index_or}
+use Rattle.std.proofs.Common.{◌≡◌, ◌<◌, ◌+◌, Some, inr, None, sym, ap, ◌∙◌, arith, option_map, length, true, false, subst}
 use Rattle.std.proofs.Math.ListN.{length-set}
-use Rattle.ged_line.specs.Bytes.{Bytes}
-use Rattle.ged_tree.specs.Trees.{further_lines}
 use Rattle.ged_tree.specs.Places.{structure_at}
-use Rattle.ged_tree.specs.Views.{payload_of}
-use Rattle.ged_tree.specs.declared.payload.Payload.TheVariants.{Pointer}
+use Rattle.ged_tree.specs.Views.{is_pointer}
 use Rattle.ged_link.specs.declared.index.RecordPlace.{RecordPlace}
-use Rattle.ged_link.specs.LedByTags.{led_by}
-use Rattle.ged_link.specs.Indexes.{number_in, place_in}
-use Rattle.ged_link.specs.inner.Resolving.{LeadsAsTagged}
-use Rattle.ged_link.proofs.UseLemmas.{not_pointer, no_target, told_not_pointer, told_no_target, used_kept, dangles_kept, used_more, dangles_more, first_dangling, number_inside}
+use Rattle.ged_link.specs.declared.pointers.Pointed.{Pointed}
+use Rattle.ged_link.specs.Indexes.{found_in, number_in, place_in}
+use Rattle.ged_link.specs.inner.LinkWalks.{target}
+use Rattle.ged_link.specs.inner.PointerLists.{pointers_from, IsPointerList}
+use Rattle.ged_link.proofs.UseLemmas.{told_not_pointer, told_no_target, used_kept, dangles_kept, used_more, dangles_more, first_dangling, number_inside}
 use Rattle.ged_link.proofs.LedLemmas.{led_here, tells_more, tells_on}
+use Rattle.ged_link.proofs.PointerLemmas.{from_pointer, from_other, name_of}
 use Rattle.ged_link.proofs.pointers.follow.Goals as goal
 
 pub returns-then-not-points : goal.returns-then-not-points
 returns-then-not-points g c =
     let w = g.F.Forest.trees c.args.forest.now in
     let s = structure_at w c.args.place in
-    let denied = sym c.points.ensures ∙ c.if-not-points.true in
+    let denied : is_pointer s.payload ≡ false = sym c.points.ensures ∙ c.if-not-points.true in
     let other = told_not_pointer s.payload denied in
     record {
       used = record {
         long = c.requires.used.long;
         marked = used_kept w c.args.place c.requires.within c.args.followed.now.used.items other c.requires.used.marked;
-        told = c.requires.used.told;
+        list = subst (λ left. IsPointerList w left c.args.followed.now.list) (from_other w c.args.place c.requires.within denied) c.requires.used.list;
         found = dangles_kept w c.args.place c.requires.within other c.requires.used.found;
         led = tells_on w c.args.place c.args.followed.now.led other c.requires.used.led;
       };
@@ -32,55 +31,74 @@ returns-then-not-points g c =
       fault = tt;
     }
 
-pub returns-in_default : goal.returns-in_default
-returns-in_default g c =
+pub look_up-requires-clause-listed : goal.look_up-requires-clause-listed
+look_up-requires-clause-listed g c name here =
     let w = g.F.Forest.trees c.args.forest.now in
-    let s = structure_at w c.args.place in
-    let other = not_pointer c.tag_and_payload.result.1 (further_lines s.payload) s.payload c.tag_and_payload.ensures.payload c.in_default.not-Pointer in
-    record {
-      used = record {
-        long = c.requires.used.long;
-        marked = used_kept w c.args.place c.requires.within c.args.followed.now.used.items other c.requires.used.marked;
-        told = c.requires.used.told;
-        found = dangles_kept w c.args.place c.requires.within other c.requires.used.found;
-        led = tells_on w c.args.place c.args.followed.now.led other c.requires.used.led;
-      };
-      tag = tt;
-      target = sym (no_target (place_in c.args.records.now.names.now) c.tag_and_payload.result.1 (further_lines s.payload) s.payload c.tag_and_payload.ensures.payload c.in_default.not-Pointer);
-      fault = tt;
-    }
+    let p = c.args.place in
+    (c.take_next-listed.ensures w (structure_at w p).tag name (pointers_from w (p + 1))
+    (subst (λ left. IsPointerList w left c.args.followed.now.list) (from_pointer w p name c.requires.within here) c.requires.used.list)).0
 
-pub returns-in_default-find-clause-fault : goal.returns-in_default-find-clause-fault
-returns-in_default-find-clause-fault g c =
+pub returns-in_default-clause-fault : goal.returns-in_default-clause-fault
+returns-in_default-clause-fault g c =
     let w = g.F.Forest.trees c.args.forest.now in
-    let here : (structure_at w c.args.place).payload ≡ Pointer c.in-Pointer.name.now = sym c.tag_and_payload.ensures.payload ∙ ap (λ v. payload_of v (further_lines (structure_at w c.args.place).payload)) c.in-Pointer.is in
-    let missing : number_in c.args.records.now.names.now c.in-Pointer.name.now ≡ None = ap (option_map (λ (r : RecordPlace). r.number)) (sym c.find.ensures ∙ c.in_default-find.is) in
-    inr (c.requires.distinct, (c.args.place, first_dangling w c.args.place c.requires.within c.args.records.now.names.now c.in-Pointer.name.now c.requires.records.named here missing c.requires.used.found, c.line.ensures))
+    let records = c.args.records.now.names.now in
+    let (name, here) = name_of (structure_at w c.args.place).payload (sym c.points.ensures ∙ c.if-not-points.false) in
+    let found : None ≡ found_in records name = sym (ap (option_map (λ (pointed : Pointed). pointed.to)) c.in_default.is) ∙ (c.look_up.ensures name here).0 in
+    let missing : number_in records name ≡ None = ap (option_map (λ (r : RecordPlace). r.number)) (sym found) in
+    inr (c.requires.distinct, (c.args.place, first_dangling w c.args.place c.requires.within records name c.requires.records.named here missing c.requires.used.found, c.line.ensures))
 
 pub index_mut-requires : goal.index_mut-requires
 index_mut-requires g c =
     let w = g.F.Forest.trees c.args.forest.now in
-    let named : number_in c.args.records.now.names.now c.in-Pointer.name.now ≡ Some c.in-Some.found.number = ap (option_map (λ (r : RecordPlace). r.number)) (sym c.find.ensures ∙ c.in-Some.is) in
-    omega (arith, number_inside w c.args.records.now.names.now c.in-Pointer.name.now c.in-Some.found.number c.requires.records.named named, c.requires.used.long)
+    let records = c.args.records.now.names.now in
+    let (name, here) = name_of (structure_at w c.args.place).payload (sym c.points.ensures ∙ c.if-not-points.false) in
+    let found : Some c.in-Some.pointed.to ≡ found_in records name = sym (ap (option_map (λ (pointed : Pointed). pointed.to)) c.in-Some.is) ∙ (c.look_up.ensures name here).0 in
+    let named : number_in records name ≡ Some c.in-Some.pointed.to.number = ap (option_map (λ (r : RecordPlace). r.number)) (sym found) in
+    omega (arith, number_inside w records name c.in-Some.pointed.to.number c.requires.records.named named, c.requires.used.long)
+
+pub put_target-requires : goal.put_target-requires
+put_target-requires g c =
+    let w = g.F.Forest.trees c.args.forest.now in
+    let p = c.args.place in
+    let (name, here) = name_of (structure_at w p).payload (sym c.points.ensures ∙ c.if-not-points.false) in
+    (c.take_next-listed.ensures w (structure_at w p).tag name (pointers_from w (p + 1))
+    (subst (λ left. IsPointerList w left c.args.followed.now.list) (from_pointer w p name c.requires.within here) c.requires.used.list)).1.0
 
 pub returns-clause-used : goal.returns-clause-used
 returns-clause-used g c =
     let w = g.F.Forest.trees c.args.forest.now in
+    let p = c.args.place in
     let records = c.args.records.now.names.now in
-    let name = c.in-Pointer.name.now in
     let used = c.args.followed.now.used.items in
-    let number = c.in-Some.found.number in
-    let here : (structure_at w c.args.place).payload ≡ Pointer name = sym c.tag_and_payload.ensures.payload ∙ ap (λ v. payload_of v (further_lines (structure_at w c.args.place).payload)) c.in-Pointer.is in
-    let named : number_in records name ≡ Some number = ap (option_map (λ (r : RecordPlace). r.number)) (sym c.find.ensures ∙ c.in-Some.is) in
+    let number = c.in-Some.pointed.to.number in
+    let s = structure_at w p in
+    let (name, here) = name_of s.payload (sym c.points.ensures ∙ c.if-not-points.false) in
+    let looked = c.look_up.ensures name here in
+    let found : found_in records name ≡ Some c.in-Some.pointed.to = sym looked.0 ∙ ap (option_map (λ (pointed : Pointed). pointed.to)) c.in-Some.is in
+    let named : number_in records name ≡ Some number = ap (option_map (λ (r : RecordPlace). r.number)) found in
     let inside : number < length used = omega (arith, number_inside w records name number c.requires.records.named named, c.requires.used.long) in
+    let taken = (c.take_next-listed.ensures w s.tag name (pointers_from w (p + 1))
+    (subst (λ left. IsPointerList w left c.args.followed.now.list) (from_pointer w p name c.requires.within here) c.requires.used.list)).1.1 in
+    let told = rw c.in-Some.is at looked.1 in
     record {
       long = length-set used number true ∙ c.requires.used.long;
-      marked = used_more w c.args.place c.requires.within records name c.requires.records.named here used number named inside c.requires.used.marked;
-      told = c.in-Ok.ensures.told w (name, here, (c.requires.records.named.numbered name number).0 named) c.requires.used.told;
-      found = dangles_more w c.args.place c.requires.within records name c.requires.records.named here number named c.requires.used.found;
-      led =
-          let tagged : Bytes → Type 0 = λ tag. LeadsAsTagged c.leads_as_tagged.result (led_by tag) (slice_index_or c.args.records.now.types.now number None) in
-          let leads = subst tagged c.tag_and_payload.ensures.tag c.leads_as_tagged.ensures in
-          tells_more w c.args.place c.args.followed.now.led c.leads_as_tagged.result c.requires.used.led
-          (led_here w c.args.records.now (structure_at w c.args.place).tag name c.in-Some.found c.requires.records (sym c.find.ensures ∙ c.in-Some.is) c.leads_as_tagged.result _ here leads);
+      marked = used_more w p c.requires.within records name c.requires.records.named here used number named inside c.requires.used.marked;
+      list = c.in-Ok.ensures.told w (pointers_from w (p + 1)) (name, here, (c.requires.records.named.numbered name number).0 named) taken;
+      found = dangles_more w p c.requires.within records name c.requires.records.named here number named c.requires.used.found;
+      led = tells_more w p c.args.followed.now.led c.leads_as_tagged.result c.requires.used.led
+          (led_here w c.args.records.now s.tag name c.in-Some.pointed.to c.requires.records found c.leads_as_tagged.result _ here (c.leads_as_tagged.ensures s.tag told));
     }
+
+pub returns-clause-tag : goal.returns-clause-tag
+returns-clause-tag g c =
+    let w = g.F.Forest.trees c.args.forest.now in
+    let (name, here) = name_of (structure_at w c.args.place).payload (sym c.points.ensures ∙ c.if-not-points.false) in
+    rw c.in-Some.is at (c.look_up.ensures name here).1
+
+pub returns-clause-target : goal.returns-clause-target
+returns-clause-target g c =
+    let w = g.F.Forest.trees c.args.forest.now in
+    let find = place_in c.args.records.now.names.now in
+    let (name, here) = name_of (structure_at w c.args.place).payload (sym c.points.ensures ∙ c.if-not-points.false) in
+    let found : Some c.in-Some.pointed.to ≡ found_in c.args.records.now.names.now name = sym (ap (option_map (λ (pointed : Pointed). pointed.to)) c.in-Some.is) ∙ (c.look_up.ensures name here).0 in
+    ap (option_map (λ (r : RecordPlace). r.place)) found ∙ sym (ap (target find) here)

@@ -1,7 +1,5 @@
 use Rattle.std.proofs.Common.{ℕ, subst}
-use Rattle.ged_tree.specs.Trees.{records_of}
 use Rattle.ged_link.specs.inner.Indexes.{IsKeyed}
-use Rattle.ged_link.proofs.ListingLemmas.{types_long}
 use Rattle.ged_link.proofs.resolving.find_records.Goals as goal
 
 pub returns-clause-keyed : goal.returns-clause-keyed
@@ -11,5 +9,5 @@ returns-clause-keyed g c =
 pub returns-clause-types : goal.returns-clause-types
 returns-clause-types g c = c.in_ok-places.ensures.types c.args.list.types.items c.requires.list.types
 
-pub returns-clause-count : goal.returns-clause-count
-returns-clause-count g c = types_long c.args.list.types.items (records_of (g.F.Forest.trees c.args.forest.now)) c.requires.list.types
+pub returns-clause-listed : goal.returns-clause-listed
+returns-clause-listed g c = c.requires.list.types

@@ -37,3 +37,6 @@ find_one_way-requires-clause-records g c = record {
   named = c.in_ok-names.ensures.records;
   typed = rw c.deref.ensures.value c.in_ok-names.ensures.types;
 }
+
+pub follow_pointers-requires-clause-types : goal.follow_pointers-requires-clause-types
+follow_pointers-requires-clause-types g c = rw c.deref.ensures.value c.in_ok-names.ensures.listed

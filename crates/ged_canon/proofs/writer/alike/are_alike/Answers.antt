@@ -9,9 +9,44 @@ use Rattle.ged_canon.specs.inner.Working.{is_named}
 use Rattle.ged_canon.specs.inner.Siblings.{StandsRanked, sibling_trees}
 use Rattle.ged_canon.specs.inner.CanonBytes.{numbered_siblings, spelled_siblings}
 use Rattle.ged_canon.proofs.writer.AlikeRecords.{same_first, same_others, all_spelled}
-use Rattle.ged_canon.proofs.writer.Records.{others_stand}
+use Rattle.ged_canon.proofs.writer.Records.{first_stands, others_stand}
 use Rattle.ged_canon.proofs.writer.RunsWritten.{next_left}
 use Rattle.ged_canon.proofs.writer.alike.are_alike.Goals as goal
+
+pub take_record-requires-clause-stands : goal.take_record-requires-clause-stands
+take_record-requires-clause-stands g c =
+    let d = g.F.Forest.trees c.args.first.now.forest.now in
+    let edition = c.args.first.now.plan.edition in
+    let xs = c.args.siblings.now in
+    let at = c.loop-number.number in
+    let x : RankedSibling = get_or xs at (record { rank = 0; place = 0 }) in
+    let split = next_left xs at x c.loop-number-test.true (get_or_default xs at (record { rank = 0; place = 0 }) x c.loop-number-test.true) in
+    let all : AllByRecursion (StandsRanked d) (x ∷ drop (at + 1) xs) =
+    subst (λ (zs : List RankedSibling). AllByRecursion (StandsRanked d) zs) split c.loop-number.invariant.within in
+    record {
+      document = c.requires.first.document;
+      within = (all.0, tt);
+      stand = first_stands (is_named d) edition d x (drop (at + 1) xs)
+          (ap (λ (zs : List RankedSibling). are_at 0 (sibling_trees (is_named d) edition File d zs)) (sym split) ∙ c.loop-number.invariant.stand);
+    }
+
+pub take_record-requires-in-loop-number-clause-stands : goal.take_record-requires-in-loop-number-clause-stands
+take_record-requires-in-loop-number-clause-stands g c =
+    let e = g.G.Forest.trees c.args.second.now.forest.now in
+    let edition = c.args.second.now.plan.edition in
+    let ys = c.args.others.now in
+    let at = c.loop-number.number in
+    let y : RankedSibling = get_or ys at (record { rank = 0; place = 0 }) in
+    let within : at < length ys = omega (arith, c.loop-number-test.true, c.requires.count) in
+    let split = next_left ys at y within (get_or_default ys at (record { rank = 0; place = 0 }) y within) in
+    let all : AllByRecursion (StandsRanked e) (y ∷ drop (at + 1) ys) =
+    subst (λ (zs : List RankedSibling). AllByRecursion (StandsRanked e) zs) split c.loop-number.invariant.others_within in
+    record {
+      document = c.requires.second.document;
+      within = (all.0, tt);
+      stand = first_stands (is_named e) edition e y (drop (at + 1) ys)
+          (ap (λ (zs : List RankedSibling). are_at 0 (sibling_trees (is_named e) edition File e zs)) (sym split) ∙ c.loop-number.invariant.others_stand);
+    }
 
 pub returns-then-not-has_bytes_of : goal.returns-then-not-has_bytes_of
 returns-then-not-has_bytes_of g c = λ names other_names numbering named other_numbering other_named.
@@ -56,8 +91,8 @@ loop-number-preserved g c =
     let others_all : AllByRecursion (StandsRanked e) (y ∷ drop (at + 1) ys) =
     subst (λ (zs : List RankedSibling). AllByRecursion (StandsRanked e) zs) other_split c.loop-number.invariant.others_within in
     record {
-      empty = c.reuse.ensures;
-      other_empty = c.reuse-in-loop-number.ensures;
+      empty = c.reuse.ensures c.args.first.now.plan.file.now;
+      other_empty = c.reuse-in-loop-number.ensures c.args.second.now.plan.file.now;
       within = all.1;
       stand = others_stand (is_named d) edition d x (drop (at + 1) xs)
           (ap (λ (zs : List RankedSibling). are_at 0 (sibling_trees (is_named d) edition File d zs)) (sym split) ∙ c.loop-number.invariant.stand);

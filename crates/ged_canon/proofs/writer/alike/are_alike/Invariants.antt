@@ -6,6 +6,7 @@ use Rattle.ged_schema.specs.declared.context.Context.TheVariants.{File}
 use Rattle.ged_canon.specs.inner.Working.{is_named, IsNumberingOf}
 use Rattle.ged_canon.specs.inner.Siblings.{StandsRanked, sibling_trees}
 use Rattle.ged_canon.specs.inner.CanonBytes.{AreNamed, spelled_siblings, numbered_siblings}
+use Rattle.ged_canon.specs.inner.Written.{written}
 use Rattle.ged_canon.proofs.writer.alike.are_alike.Given as goal
 
 -- nothing but the siblings that are left tells whether all are the same
@@ -16,8 +17,8 @@ invariant-loop-number g l =
     let left = drop l.number l.siblings in
     let others = drop l.number l.others in
     record {
-      empty : l.work.answer ≡ [];
-      other_empty : l.other_work.answer ≡ [];
+      empty : written l.first.plan.file.now l.work.answer ≡ [];
+      other_empty : written l.second.plan.file.now l.other_work.answer ≡ [];
       within : AllByRecursion (StandsRanked d) left;
       stand : are_at 0 (sibling_trees (is_named d) l.first.plan.edition File d left) ≡ true;
       others_within : AllByRecursion (StandsRanked e) others;

@@ -4,6 +4,7 @@ use Rattle.ged_schema.specs.declared.context.Context.TheVariants.{File}
 use Rattle.ged_canon.specs.declared.writer.rank.RankedSibling.{RankedSibling}
 use Rattle.ged_canon.specs.inner.Working.{is_named, used_document, sorted_document, canon, AreNumbersOf, IsNumberingOf}
 use Rattle.ged_canon.specs.inner.Siblings.{StandsRanked, sibling_trees, sibling_names}
+use Rattle.ged_canon.specs.inner.Written.{written}
 use Rattle.ged_canon.proofs.theory.Normality.{canon_is_normal_form}
 use Rattle.ged_canon.proofs.writer.Parts.{sorted_known, sorted_distinct}
 use Rattle.ged_canon.proofs.writer.Records.{names_listed, sorted_named, sorted_is_document, siblings_stand, numbered_document_of, file_spelled, only_form}
@@ -55,7 +56,7 @@ returns-clause-normal_form g c =
     let numbering : IsNumberingOf d names c.args.index.now c.as_slice-numbers.result.now =
     (c.requires.index, subst (λ (ns : List ℕ). AreNumbersOf d names ns) (sym c.as_slice-numbers.ensures.value) c.in_ok-counted.ensures) in
     let named = sorted_named edition d names c.requires.index.resolved (names_listed edition d xs listed) in
-    let told = file_spelled (is_named d) edition names d (canon edition d) xs c.new-work.result.answer c.write_records.new.work.answer c.in_ok-form.form (numbered_document_of edition d xs listed) (c.new-work.ensures ∙ c.in_ok-answer.ensures) (c.in_ok-write_records.ensures names numbering named) (c.in_ok-form.ensures ∙ c.in_ok-push_parts.ensures) in
+    let told = file_spelled (is_named d) edition names d (canon edition d) xs (written c.args.file.now c.new-work.result.answer) (written c.args.file.now c.write_records.new.work.answer) c.in_ok-form.form (numbered_document_of edition d xs listed) (ap (written c.args.file.now) c.new-work.ensures ∙ c.in_ok-answer.ensures c.args.file.now) (c.in_ok-write_records.ensures names numbering named) (c.in_ok-form.ensures ∙ c.in_ok-push_parts.ensures) in
     (canon edition d, canon_is_normal_form edition d c.document_siblings.ensures.document c.requires.index.resolved c.requires.checked, told)
 
 pub returns-clause-only : goal.returns-clause-only
@@ -68,5 +69,5 @@ returns-clause-only g c = λ e form.
     let numbering : IsNumberingOf d names c.args.index.now c.as_slice-numbers.result.now =
     (c.requires.index, subst (λ (ns : List ℕ). AreNumbersOf d names ns) (sym c.as_slice-numbers.ensures.value) c.in_ok-counted.ensures) in
     let named = sorted_named edition d names c.requires.index.resolved (names_listed edition d xs listed) in
-    let told = file_spelled (is_named d) edition names d (canon edition d) xs c.new-work.result.answer c.write_records.new.work.answer c.in_ok-form.form (numbered_document_of edition d xs listed) (c.new-work.ensures ∙ c.in_ok-answer.ensures) (c.in_ok-write_records.ensures names numbering named) (c.in_ok-form.ensures ∙ c.in_ok-push_parts.ensures) in
+    let told = file_spelled (is_named d) edition names d (canon edition d) xs (written c.args.file.now c.new-work.result.answer) (written c.args.file.now c.write_records.new.work.answer) c.in_ok-form.form (numbered_document_of edition d xs listed) (ap (written c.args.file.now) c.new-work.ensures ∙ c.in_ok-answer.ensures c.args.file.now) (c.in_ok-write_records.ensures names numbering named) (c.in_ok-form.ensures ∙ c.in_ok-push_parts.ensures) in
     only_form edition d e c.in_ok-form.form told form

@@ -5,8 +5,8 @@ use Rattle.ged_link.specs.inner.Listing.{listed_halves, listed_digits, all_halve
 use Rattle.ged_link.proofs.RecordLineLemmas.{listed_more}
 use Rattle.ged_link.proofs.record_reader.RecordReader.list_record.Goals as goal
 
-pub returns : goal.returns
-returns c lines line xref tag listed =
+pub returns-clause-records : goal.returns-clause-records
+returns-clause-records c lines line xref tag listed =
     let old = c.args.self.now.list in
     let pushed = c.in_ok-push.ensures in
     listed_more old c.push.new.self c.type_of.result lines line (rw tag c.type_of.ensures)

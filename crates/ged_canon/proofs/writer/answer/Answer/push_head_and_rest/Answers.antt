@@ -1,6 +1,7 @@
-use Rattle.std.proofs.Common.{◌≡◌, ◌++◌, ◌∷◌, [], ◌∙◌, ap, decimal}
+use Rattle.std.proofs.Common.{refl, ◌≡◌, ◌++◌, ◌∷◌, [], ◌∙◌, ap, decimal}
 use Rattle.std.specs.Option.{option_copied}
 use Rattle.ged_line.specs.Lines.{xref_part}
+use Rattle.ged_canon.specs.inner.Written.{written}
 use Rattle.ged_canon.proofs.writer.RunsKept.{settled, head_and_rest}
 use Rattle.ged_canon.proofs.writer.answer.Answer.push_head_and_rest.Goals as goal
 
@@ -12,5 +13,5 @@ returns c =
     let made : c.push.new.self.items ≡ c.place.new.self.made.items ++ line =
     c.in_ok-push.ensures.items ∙ head_and_rest c.place.new.self.made.items (decimal c.args.level) name rest _ _
     c.in_ok-write_head.ensures.ok (c.in_ok-extend_from_slice.ensures.items ∙ ap (λ xs. c.write_head.new.out.items ++ xs) c.as_bytes.ensures.value) in
-    settled c.self.inside.file.now c.self.inside.pieced.runs.items c.place.new.self.runs.items c.self.inside.pieced.made.items c.place.new.self.made.items line c.args.self.now c.push.new.self.items c.self.inside.start c.self.inside.end c.replace-start.result c.replace-start.new.dest c.place.new.self.placed
-    c.replace-start.ensures.value c.replace-start.ensures.after c.self.view_is c.in_ok-place.ensures.joined c.place.ensures.placed made
+    settled c.args.file.now c.args.self.now.pieced.runs.items c.place.new.self.runs.items c.args.self.now.pieced.made.items c.place.new.self.made.items line (written c.args.file.now c.args.self.now) c.push.new.self.items c.args.self.now.start c.args.self.now.end c.replace-start.result c.replace-start.new.dest c.place.new.self.placed
+    c.replace-start.ensures.value c.replace-start.ensures.after refl c.in_ok-place.ensures.joined c.place.ensures.placed made

@@ -17,6 +17,7 @@ use Rattle.ged_canon.specs.Steps.{renamed}
 use Rattle.ged_canon.specs.inner.Working.{used_xref, number_of, sorted, each_sorted}
 use Rattle.ged_canon.specs.inner.Siblings.{sibling_trees, StandsRanked}
 use Rattle.ged_canon.specs.inner.Writing.{brief_sibling, renamed_sibling, sibling_at, CanWriteTree}
+use Rattle.ged_canon.specs.inner.Written.{written}
 use Rattle.ged_canon.proofs.writer.SiblingTrees.{below_step}
 use Rattle.ged_canon.proofs.writer.RunsWritten.{tree_lines, lines_alike, can_write_alike, written_below, written_all, first_stands, below_stands, rest_stands, next_told, next_left, all_listed, in_order_sorted, run_first}
 use Rattle.ged_canon.proofs.writer.plan.Writer.+trees.Goals as goal
@@ -48,9 +49,9 @@ write_tree-returns-clause-lines g t c = λ names h.
     let new = number_of 1 names in
     let r = option_map as_row (option_copied c.args.rule) in
     let own = structure_lines c.args.level (renamed_sibling new edition r (option_copied c.args.xref) d c.args.sibling) in
-    subst (λ text. OnOk c.write_run.result (c.write_run.new.work.answer ≡ text))
-    ((λ i. c.write_structure.new.work.answer ++ spelled_lines (lines_of (c.args.level + 1) (renamed new (sorted edition (c.context_below.ensures i) (c.requires.deeper i)))))
-    ∙ written_below c.args.work.now.answer c.write_structure.new.work.answer own (lines_of (c.args.level + 1) (renamed new (sorted edition (below_row r) (below_at d c.args.sibling.place)))) (c.in_ok-write_structure.ensures.lines names h))
+    subst (λ text. OnOk c.write_run.result (written c.args.self.now.plan.file.now c.write_run.new.work.answer ≡ text))
+    ((λ i. written c.args.self.now.plan.file.now c.write_structure.new.work.answer ++ spelled_lines (lines_of (c.args.level + 1) (renamed new (sorted edition (c.context_below.ensures i) (c.requires.deeper i)))))
+    ∙ written_below (written c.args.self.now.plan.file.now c.args.work.now.answer) (written c.args.self.now.plan.file.now c.write_structure.new.work.answer) own (lines_of (c.args.level + 1) (renamed new (sorted edition (below_row r) (below_at d c.args.sibling.place)))) (c.in_ok-write_structure.ensures.lines names h))
     (c.write_run.ensures.lines names h)
 
 -- nothing stands below a leaf
@@ -64,8 +65,8 @@ write_tree-returns-then-start-end-clause-lines g t c = λ names h.
     let leaf : below_at d place ≡ none = sym c.requires.deeper ∙ run_ends d (place + 1) c.args.end (omega arith) in
     let own = structure_lines c.args.level (renamed_sibling new edition r (option_copied c.args.xref) d c.args.sibling) in
     c.in_ok-write_structure.ensures.lines names h
-    ∙ ap (λ ls. c.args.work.now.answer ++ spelled_lines ls) (sym (append-nil own))
-    ∙ ap (λ t. c.args.work.now.answer ++ spelled_lines (own ++ lines_of (c.args.level + 1) (renamed new (sorted edition (below_row r) t)))) (sym leaf)
+    ∙ ap (λ ls. written c.args.self.now.plan.file.now c.args.work.now.answer ++ spelled_lines ls) (sym (append-nil own))
+    ∙ ap (λ t. written c.args.self.now.plan.file.now c.args.work.now.answer ++ spelled_lines (own ++ lines_of (c.args.level + 1) (renamed new (sorted edition (below_row r) t)))) (sym leaf)
 
 -- The same, with the row that it has in a context.
 
@@ -89,7 +90,7 @@ write_by_row-returns-clause-lines g t c = λ names h.
     let d = g.F.Forest.trees c.args.self.now.forest.now in
     let tag = c.tag-tag.result in
     let rule = c.row-rule.ensures ∙ ap (row c.args.rows.now) c.tag-tag.ensures in
-    subst (λ text. OnOk c.write_tree.result (c.write_tree.new.work.answer ≡ c.args.work.now.answer ++ text))
+    subst (λ text. OnOk c.write_tree.result (written c.args.self.now.plan.file.now c.write_tree.new.work.answer ≡ written c.args.self.now.plan.file.now c.args.work.now.answer ++ text))
     (lines_alike (number_of 1 names) c.args.self.now.plan.edition None d tag c.args.place c.args.level _ _ c.tag-tag.ensures rule)
     (c.write_tree.ensures.lines names h)
 
@@ -122,9 +123,9 @@ write_sibling-returns-clause-lines g t c = λ names h.
     let r = row c.args.rows.now (structure_at d c.args.place).tag in
     let rule = c.row.ensures ∙ ap (row c.args.rows.now) c.tag.ensures in
     let own = structure_lines c.args.level (renamed_sibling new edition r None d (sibling_at d c.args.place)) in
-    subst (λ text. OnOk c.write_run.result (c.write_run.new.work.answer ≡ text))
-    ((λ i. c.write_at_once.new.work.answer ++ spelled_lines (lines_of (c.args.level + 1) (renamed new (sorted edition ((c.context_below-below.ensures ∙ ap below_row rule) i) (c.requires.deeper i)))))
-    ∙ written_below c.args.work.now.answer c.write_at_once.new.work.answer own (lines_of (c.args.level + 1) (renamed new (sorted edition (below_row r) (below_at d c.args.place)))) (c.in_ok-write_at_once.ensures.lines names h c.if-not-branch.false))
+    subst (λ text. OnOk c.write_run.result (written c.args.self.now.plan.file.now c.write_run.new.work.answer ≡ text))
+    ((λ i. written c.args.self.now.plan.file.now c.write_at_once.new.work.answer ++ spelled_lines (lines_of (c.args.level + 1) (renamed new (sorted edition ((c.context_below-below.ensures ∙ ap below_row rule) i) (c.requires.deeper i)))))
+    ∙ written_below (written c.args.self.now.plan.file.now c.args.work.now.answer) (written c.args.self.now.plan.file.now c.write_at_once.new.work.answer) own (lines_of (c.args.level + 1) (renamed new (sorted edition (below_row r) (below_at d c.args.place)))) (c.in_ok-write_at_once.ensures.lines names h c.if-not-branch.false))
     (c.write_run.ensures.lines names h)
 
 pub write_sibling-returns-then-start-end-clause-lines : goal.write_sibling-returns-then-start-end-clause-lines
@@ -137,8 +138,8 @@ write_sibling-returns-then-start-end-clause-lines g t c = λ names h.
     let leaf : below_at d place ≡ none = sym c.requires.deeper ∙ run_ends d (place + 1) c.args.end (omega arith) in
     let own = structure_lines c.args.level (renamed_sibling new edition r None d (sibling_at d place)) in
     c.in_ok-write_at_once.ensures.lines names h c.if-not-branch.false
-    ∙ ap (λ ls. c.args.work.now.answer ++ spelled_lines ls) (sym (append-nil own))
-    ∙ ap (λ t. c.args.work.now.answer ++ spelled_lines (own ++ lines_of (c.args.level + 1) (renamed new (sorted edition (below_row r) t)))) (sym leaf)
+    ∙ ap (λ ls. written c.args.self.now.plan.file.now c.args.work.now.answer ++ spelled_lines ls) (sym (append-nil own))
+    ∙ ap (λ t. written c.args.self.now.plan.file.now c.args.work.now.answer ++ spelled_lines (own ++ lines_of (c.args.level + 1) (renamed new (sorted edition (below_row r) t)))) (sym leaf)
 
 -- A run that is in order.
 
@@ -152,7 +153,7 @@ write_run-loop-after-init g t c =
       run = c.requires.run;
       kept = refl;
       stand = ap (are_at c.args.level) same ∙ c.requires.stand;
-      told = λ names h. ap (λ left. c.args.work.now.answer ++ spelled_lines (lines_of c.args.level (renamed (number_of 1 names) left))) same;
+      told = λ names h. ap (λ left. written c.args.self.now.plan.file.now c.args.work.now.answer ++ spelled_lines (lines_of c.args.level (renamed (number_of 1 names) left))) same;
     }
 
 pub write_run-write_sibling-requires : goal.write_run-write_sibling-requires
@@ -198,16 +199,16 @@ write_run-loop-after-preserved g t c =
       kept = c.in_ok-write_sibling.ensures.kept ∙ c.loop-after.invariant.kept;
       stand = rest_stands edition c.args.context d c.args.level sibling x all rest is c.requires.deep c.loop-after.invariant.stand;
       told = λ names h. next_told edition c.args.context d c.args.level sibling x all rest is c.requires.deep c.loop-after.invariant.stand (number_of 1 names)
-          (c.args.work.now.answer ++ spelled_lines (lines_of c.args.level (renamed (number_of 1 names) (sorted edition c.args.context (trees_between d c.args.start c.args.end)))))
-          c.loop-after.work.answer c.write_sibling.new.work.answer (c.in_ok-write_sibling.ensures.lines names h ∙ ap (λ bytes. c.loop-after.work.answer ++ bytes) (tree_lines (number_of 1 names) edition None d sibling c.args.level _ (row c.args.context sibling.tag.now) rule)) (c.loop-after.invariant.told names h);
+          (written c.args.self.now.plan.file.now c.args.work.now.answer ++ spelled_lines (lines_of c.args.level (renamed (number_of 1 names) (sorted edition c.args.context (trees_between d c.args.start c.args.end)))))
+          (written c.args.self.now.plan.file.now c.loop-after.work.answer) (written c.args.self.now.plan.file.now c.write_sibling.new.work.answer) (c.in_ok-write_sibling.ensures.lines names h ∙ ap (λ bytes. written c.args.self.now.plan.file.now c.loop-after.work.answer ++ bytes) (tree_lines (number_of 1 names) edition None d sibling c.args.level _ (row c.args.context sibling.tag.now) rule)) (c.loop-after.invariant.told names h);
     }
 
 pub write_run-returns-clause-lines : goal.write_run-returns-clause-lines
 write_run-returns-clause-lines g t c = λ names h.
     let d = g.F.Forest.trees c.args.self.now.forest.now in
     let edition = c.args.self.now.plan.edition in
-    written_all (c.args.work.now.answer ++ spelled_lines (lines_of c.args.level (renamed (number_of 1 names) (sorted edition c.args.context (trees_between d c.args.start c.args.end)))))
-    c.loop-after.work.answer (lines_of c.args.level (renamed (number_of 1 names) (each_sorted edition c.args.context (trees_between d c.loop-after.place c.args.end))))
+    written_all (written c.args.self.now.plan.file.now c.args.work.now.answer ++ spelled_lines (lines_of c.args.level (renamed (number_of 1 names) (sorted edition c.args.context (trees_between d c.args.start c.args.end)))))
+    (written c.args.self.now.plan.file.now c.loop-after.work.answer) (lines_of c.args.level (renamed (number_of 1 names) (each_sorted edition c.args.context (trees_between d c.loop-after.place c.args.end))))
     (ap (λ left. lines_of c.args.level (renamed (number_of 1 names) (each_sorted edition c.args.context left))) c.in_default.ensures)
     (c.loop-after.invariant.told names h)
 
@@ -227,7 +228,7 @@ write_sorted-loop-number-init g t c =
       kept = ap (λ base. take base items) (sym from) ∙ c.in_ok-push_sorted.ensures.kept;
       within = subst (λ base. AllByRecursion (StandsRanked d) (drop base items)) from c.in_ok-push_sorted.ensures.within;
       stand = ap (are_at c.args.level) whole ∙ c.requires.stand;
-      told = λ names h. ap (λ left. c.args.work.now.answer ++ spelled_lines (lines_of c.args.level (renamed (number_of 1 names) left))) whole;
+      told = λ names h. ap (λ left. written c.args.self.now.plan.file.now c.args.work.now.answer ++ spelled_lines (lines_of c.args.level (renamed (number_of 1 names) left))) whole;
     }
 
 pub write_sorted-write_sibling-requires : goal.write_sorted-write_sibling-requires
@@ -286,10 +287,10 @@ write_sorted-loop-number-preserved g t c =
       stand = ap (λ (xs : List RankedSibling). are_at c.args.level (sibling_trees (λ name. true) edition c.args.context d (drop (at + 1) xs))) same
           ∙ rest_stands edition c.args.context d c.args.level sibling x all rest is c.requires.deep c.loop-number.invariant.stand;
       told = λ names h.
-          ap (λ (xs : List RankedSibling). c.write_sibling.new.work.answer ++ spelled_lines (lines_of c.args.level (renamed (number_of 1 names) (sibling_trees (λ name. true) edition c.args.context d (drop (at + 1) xs))))) same
+          ap (λ (xs : List RankedSibling). written c.args.self.now.plan.file.now c.write_sibling.new.work.answer ++ spelled_lines (lines_of c.args.level (renamed (number_of 1 names) (sibling_trees (λ name. true) edition c.args.context d (drop (at + 1) xs))))) same
           ∙ next_told edition c.args.context d c.args.level sibling x all rest is c.requires.deep c.loop-number.invariant.stand (number_of 1 names)
-          (c.args.work.now.answer ++ spelled_lines (lines_of c.args.level (renamed (number_of 1 names) (sorted edition c.args.context (trees_between d c.args.start c.args.end)))))
-          c.loop-number.work.answer c.write_sibling.new.work.answer (c.in_ok-write_sibling.ensures.lines names h ∙ ap (λ bytes. c.loop-number.work.answer ++ bytes) (tree_lines (number_of 1 names) edition None d sibling c.args.level _ (row c.args.context tag) rule)) (c.loop-number.invariant.told names h);
+          (written c.args.self.now.plan.file.now c.args.work.now.answer ++ spelled_lines (lines_of c.args.level (renamed (number_of 1 names) (sorted edition c.args.context (trees_between d c.args.start c.args.end)))))
+          (written c.args.self.now.plan.file.now c.loop-number.work.answer) (written c.args.self.now.plan.file.now c.write_sibling.new.work.answer) (c.in_ok-write_sibling.ensures.lines names h ∙ ap (λ bytes. written c.args.self.now.plan.file.now c.loop-number.work.answer ++ bytes) (tree_lines (number_of 1 names) edition None d sibling c.args.level _ (row c.args.context tag) rule)) (c.loop-number.invariant.told names h);
     }
 
 pub write_sorted-returns-clause-lines : goal.write_sorted-returns-clause-lines
@@ -299,7 +300,7 @@ write_sorted-returns-clause-lines g t c = λ names h.
     let items = c.loop-number.work.siblings.items in
     let at = c.loop-number.number in
     let nothing : drop at items ≡ [] = drop_all at items (omega arith) in
-    written_all (c.args.work.now.answer ++ spelled_lines (lines_of c.args.level (renamed (number_of 1 names) (sorted edition c.args.context (trees_between d c.args.start c.args.end)))))
-    c.loop-number.work.answer (lines_of c.args.level (renamed (number_of 1 names) (sibling_trees (λ name. true) edition c.args.context d (drop at items))))
+    written_all (written c.args.self.now.plan.file.now c.args.work.now.answer ++ spelled_lines (lines_of c.args.level (renamed (number_of 1 names) (sorted edition c.args.context (trees_between d c.args.start c.args.end)))))
+    (written c.args.self.now.plan.file.now c.loop-number.work.answer) (lines_of c.args.level (renamed (number_of 1 names) (sibling_trees (λ name. true) edition c.args.context d (drop at items))))
     (ap (λ (xs : List RankedSibling). lines_of c.args.level (renamed (number_of 1 names) (sibling_trees (λ name. true) edition c.args.context d xs))) nothing)
     (c.loop-number.invariant.told names h)

@@ -8,6 +8,7 @@ use Rattle.ged_tree.specs.Runs.{IsRunOfTrees, trees_between}
 use Rattle.ged_canon.specs.Steps.{renamed}
 use Rattle.ged_canon.specs.inner.Working.{number_of, sorted, each_sorted, IsNumberingOf}
 use Rattle.ged_canon.specs.inner.Siblings.{StandsRanked, sibling_trees}
+use Rattle.ged_canon.specs.inner.Written.{written}
 use Rattle.ged_canon.proofs.writer.plan.Writer.+trees.Given as goal
 
 -- each call below a structure is one level deeper, down to level 100
@@ -36,8 +37,8 @@ invariant-write_run-loop-after g l =
       kept : l.work.siblings.items ≡ l.fn.work.siblings.items;
       stand : are_at l.level left ≡ true;
       told : (names : List Bytes) → IsNumberingOf d names l.self.plan.index.now l.self.plan.numbers.now →
-          l.work.answer ++ spelled_lines (lines_of l.level (renamed (number_of 1 names) left))
-          ≡ l.fn.work.answer ++ spelled_lines (lines_of l.level (renamed (number_of 1 names) (sorted l.self.plan.edition l.fn.context (trees_between d l.start l.end))));
+          written l.self.plan.file.now l.work.answer ++ spelled_lines (lines_of l.level (renamed (number_of 1 names) left))
+          ≡ written l.self.plan.file.now l.fn.work.answer ++ spelled_lines (lines_of l.level (renamed (number_of 1 names) (sorted l.self.plan.edition l.fn.context (trees_between d l.start l.end))));
     }
 
 abbrev pub decreases-write_run-loop-after : goal.decreases-write_run-loop-after
@@ -54,8 +55,8 @@ invariant-write_sorted-loop-number g l =
       within : AllByRecursion (StandsRanked d) listed;
       stand : are_at l.level left ≡ true;
       told : (names : List Bytes) → IsNumberingOf d names l.self.plan.index.now l.self.plan.numbers.now →
-          l.work.answer ++ spelled_lines (lines_of l.level (renamed (number_of 1 names) left))
-          ≡ l.fn.work.answer ++ spelled_lines (lines_of l.level (renamed (number_of 1 names) (sorted l.self.plan.edition l.fn.context (trees_between d l.start l.end))));
+          written l.self.plan.file.now l.work.answer ++ spelled_lines (lines_of l.level (renamed (number_of 1 names) left))
+          ≡ written l.self.plan.file.now l.fn.work.answer ++ spelled_lines (lines_of l.level (renamed (number_of 1 names) (sorted l.self.plan.edition l.fn.context (trees_between d l.start l.end))));
     }
 
 abbrev pub decreases-write_sorted-loop-number : goal.decreases-write_sorted-loop-number

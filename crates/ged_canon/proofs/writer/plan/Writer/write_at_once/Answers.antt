@@ -6,6 +6,7 @@ use Rattle.ged_tree.specs.Places.{structure_at}
 use Rattle.ged_tree.specs.Views.{is_pointer}
 use Rattle.ged_schema.specs.Tables.{row}
 use Rattle.ged_canon.specs.inner.Working.{number_of}
+use Rattle.ged_canon.specs.inner.Written.{written}
 use Rattle.ged_canon.proofs.writer.PlainLines.{TellsPlain, plain_brief, plain_line, none_further}
 use Rattle.ged_canon.proofs.writer.plan.Writer.write_at_once.Goals as goal
 
@@ -21,6 +22,6 @@ returns-clause-lines g c = λ names h t.
     let value : is_pointer p ≡ false = sym c.in-Some.ensures.points ∙ c.if-line.false in
     let alone : length (further_lines p) ≡ 0 = none_further (length (further_lines p)) c.has_further.result c.has_further.ensures c.if-has_further.false in
     let tells : TellsPlain tag rest = subst (λ front. TellsPlain front rest) c.in-Some.ensures.tag (c.if-not-stays.ensures.plain refl) in
-    c.in_ok-push_rest.ensures
-    ∙ ap (λ text. c.args.work.now.answer ++ text)
+    c.in_ok-push_own_line.ensures
+    ∙ ap (λ text. written c.args.self.now.plan.file.now c.args.work.now.answer ++ text)
     (plain_line edition (row context tag) (number_of 1 names) c.args.level None tag p rest value alone (plain_brief edition context tag rest p (c.if-not-stays.ensures.first refl) is tells) is)

@@ -6,11 +6,12 @@ use Rattle.ged_tree.specs.Trees.{further_lines}
 use Rattle.ged_tree.specs.Places.{structure_at}
 use Rattle.ged_tree.specs.inner.DocumentParts.{continued}
 use Rattle.std.specs.Prelude.{None}
+use Rattle.ged_canon.specs.inner.Written.{written}
 use Rattle.ged_canon.proofs.writer.OwnLines.{cont_line, plain_at, further_more}
 use Rattle.ged_canon.proofs.writer.plan.Writer.write_each_further.Goals as goal
 
 pub loop-number-init : goal.loop-number-init
-loop-number-init g c = sym (append-nil c.args.answer.now)
+loop-number-init g c = sym (append-nil (written c.args.self.now.plan.file.now c.args.answer.now))
 
 pub further_line-requires-clause-further : goal.further_line-requires-clause-further
 further_line-requires-clause-further g c = omega (arith, c.loop-number-test.true, c.further-number-end.ensures)
@@ -27,10 +28,10 @@ pub loop-number-preserved : goal.loop-number-preserved
 loop-number-preserved g c =
     let further = further_lines (structure_at (g.F.Forest.trees c.args.self.now.forest.now) c.args.place).payload in
     let within : c.loop-number.number < length further = omega (arith, c.loop-number-test.true, c.further-number-end.ensures) in
-    further_more c.args.answer.now c.loop-number.answer c.push_parts.new.self (c.args.level + 1) further c.loop-number.number c.further_line.result.now _ within c.further_line.ensures c.text_value-value.ensures c.loop-number.invariant c.in_ok-push_parts.ensures
+    further_more (written c.args.self.now.plan.file.now c.args.answer.now) (written c.args.self.now.plan.file.now c.loop-number.answer) (written c.args.self.now.plan.file.now c.push_parts.new.self) (c.args.level + 1) further c.loop-number.number c.further_line.result.now _ within c.further_line.ensures c.text_value-value.ensures c.loop-number.invariant c.in_ok-push_parts.ensures
 
 pub returns : goal.returns
 returns g c =
     let further = further_lines (structure_at (g.F.Forest.trees c.args.self.now.forest.now) c.args.place).payload in
     let most : length further ≤ c.loop-number.number = omega (arith, c.loop-number-test.false, c.further-number-end.ensures) in
-    c.loop-number.invariant ∙ ap (λ xs. c.args.answer.now ++ spelled_lines (continued (c.args.level + 1) xs)) (take_all c.loop-number.number further most)
+    c.loop-number.invariant ∙ ap (λ xs. written c.args.self.now.plan.file.now c.args.answer.now ++ spelled_lines (continued (c.args.level + 1) xs)) (take_all c.loop-number.number further most)

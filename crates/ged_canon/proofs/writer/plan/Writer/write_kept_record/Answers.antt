@@ -11,6 +11,7 @@ use Rattle.ged_schema.specs.Tables.{row}
 use Rattle.ged_canon.specs.inner.Working.{each_used, number_of}
 use Rattle.ged_canon.specs.inner.Siblings.{own_tag}
 use Rattle.ged_canon.specs.inner.Writing.{CanWriteTree}
+use Rattle.ged_canon.specs.inner.Written.{written}
 use Rattle.ged_canon.proofs.writer.KeptNames.{used_itself, named_itself}
 use Rattle.ged_canon.proofs.writer.RunsWritten.{can_write_alike, lines_alike}
 use Rattle.ged_canon.proofs.writer.Records.{own_named, own_stands, below_stands, record_spelled}
@@ -47,5 +48,5 @@ returns g c = λ h.
     let rule : option_map as_row (option_copied c.row-rule.result) ≡ row File (own_tag d x) = c.row-rule.ensures ∙ ap (λ k. row k tag.now) c.of-rows.ensures ∙ ap (row File) c.tag-tag.ensures in
     let xref = option_copied c.xref-xref.result in
     let kept = named_itself (structure_at d x.place).xref ∙ sym c.xref-xref.ensures in
-    subst (λ (bytes : Bytes). OnOk c.write_tree.result (c.write_tree.new.work.answer ≡ c.args.work.now.answer ++ bytes))
+    subst (λ (bytes : Bytes). OnOk c.write_tree.result (written c.args.self.now.plan.file.now c.write_tree.new.work.answer ≡ written c.args.self.now.plan.file.now c.args.work.now.answer ++ bytes))
     (lines_alike (number_of 1 []) edition xref d tag x.place 0 _ (row File (own_tag d x)) c.tag-tag.ensures rule ∙ record_spelled each_used edition [] d x xref kept) (c.write_tree.ensures.lines [] h)

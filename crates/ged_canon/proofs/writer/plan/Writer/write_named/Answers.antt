@@ -11,6 +11,7 @@ use Rattle.ged_canon.specs.Normal.{numbered}
 use Rattle.ged_canon.specs.Steps.{renamed}
 use Rattle.ged_canon.specs.inner.Working.{number_of, sorted}
 use Rattle.ged_canon.specs.inner.Writing.{renamed_sibling}
+use Rattle.ged_canon.specs.inner.Written.{written}
 use Rattle.ged_canon.proofs.writer.RunsWritten.{written_below}
 use Rattle.ged_canon.proofs.writer.plan.Writer.write_named.Goals as goal
 
@@ -25,8 +26,8 @@ returns-then-start-end g c = λ names h.
     let leaf : below_at d c.args.own.place ≡ none = sym can.deeper ∙ run_ends d (c.args.own.place + 1) c.args.end (omega arith) in
     let own = structure_lines 0 (renamed_sibling new edition r (Some (numbered c.args.number)) d c.args.own) in
     c.in_ok-write_numbered.ensures.lines new c.if-branch.true
-    ∙ ap (λ ls. c.args.work.now.answer ++ spelled_lines ls) (sym (append-nil own))
-    ∙ ap (λ t. c.args.work.now.answer ++ spelled_lines (own ++ lines_of 1 (renamed new (sorted edition (below_row r) t)))) (sym leaf)
+    ∙ ap (λ ls. written c.args.self.now.plan.file.now c.args.work.now.answer ++ spelled_lines ls) (sym (append-nil own))
+    ∙ ap (λ t. written c.args.self.now.plan.file.now c.args.work.now.answer ++ spelled_lines (own ++ lines_of 1 (renamed new (sorted edition (below_row r) t)))) (sym leaf)
 
 pub returns-then-branch : goal.returns-then-branch
 returns-then-branch g c = λ names h.
@@ -36,7 +37,7 @@ returns-then-branch g c = λ names h.
     let r = option_map as_row (option_copied c.args.rule) in
     let can = c.requires.stands in
     let own = structure_lines 0 (renamed_sibling new edition r (Some (numbered c.args.number)) d c.args.own) in
-    subst (λ text. OnOk c.write_run.result (c.write_run.new.work.answer ≡ text))
-    ((λ i. c.write_numbered.new.answer ++ spelled_lines (lines_of 1 (renamed new (sorted edition (c.context_below.ensures i) (can.deeper i)))))
-    ∙ written_below c.args.work.now.answer c.write_numbered.new.answer own (lines_of 1 (renamed new (sorted edition (below_row r) (below_at d c.args.own.place)))) (c.in_ok-write_numbered.ensures.lines new c.if-branch.true))
+    subst (λ text. OnOk c.write_run.result (written c.args.self.now.plan.file.now c.write_run.new.work.answer ≡ text))
+    ((λ i. written c.args.self.now.plan.file.now c.write_numbered.new.answer ++ spelled_lines (lines_of 1 (renamed new (sorted edition (c.context_below.ensures i) (can.deeper i)))))
+    ∙ written_below (written c.args.self.now.plan.file.now c.args.work.now.answer) (written c.args.self.now.plan.file.now c.write_numbered.new.answer) own (lines_of 1 (renamed new (sorted edition (below_row r) (below_at d c.args.own.place)))) (c.in_ok-write_numbered.ensures.lines new c.if-branch.true))
     (c.write_run.ensures.lines names h)

@@ -11,6 +11,7 @@ use Rattle.ged_canon.specs.Normal.{numbered}
 use Rattle.ged_canon.specs.inner.Working.{is_named, number_of}
 use Rattle.ged_canon.specs.inner.Siblings.{own_tag}
 use Rattle.ged_canon.specs.inner.Writing.{CanWriteTree}
+use Rattle.ged_canon.specs.inner.Written.{written}
 use Rattle.ged_canon.proofs.writer.RunsWritten.{can_write_alike, lines_alike}
 use Rattle.ged_canon.proofs.theory.Numbering.{numbered_name}
 use Rattle.ged_canon.proofs.writer.Records.{no_number, own_identifier, own_stands, below_stands, record_spelled}
@@ -44,7 +45,7 @@ returns-then-number-eq0 g c = λ names h named.
     let tag = c.tag-tag.result in
     let rule : option_map as_row (option_copied c.row-rule.result) ≡ row File (own_tag d x) = c.row-rule.ensures ∙ ap (λ k. row k tag.now) c.of-rows.ensures ∙ ap (row File) c.tag-tag.ensures in
     let unnamed = no_number d names named (structure_at d x.place).xref (sym (c.own_number-number.ensures names h) ∙ c.if-number-eq0.true) in
-    subst (λ (bytes : Bytes). OnOk c.write_tree.result (c.write_tree.new.work.answer ≡ c.args.work.now.answer ++ bytes))
+    subst (λ (bytes : Bytes). OnOk c.write_tree.result (written c.args.self.now.plan.file.now c.write_tree.new.work.answer ≡ written c.args.self.now.plan.file.now c.args.work.now.answer ++ bytes))
     (lines_alike (number_of 1 names) edition None d tag x.place 0 _ (row File (own_tag d x)) c.tag-tag.ensures rule ∙ record_spelled (is_named d) edition names d x None unnamed) (c.write_tree.ensures.lines names h)
 
 pub write_named-requires-clause-stands : goal.write_named-requires-clause-stands
@@ -78,5 +79,5 @@ returns g c = λ names h named.
     let xref = Some (numbered c.own_number-number.result) in
     let some : 0 < c.own_number-number.result = omega (arith, c.if-number-eq0.false) in
     let shown = own_identifier d names named (structure_at d x.place).xref c.own_number-number.result (c.own_number-number.ensures names h) some in
-    subst (λ (bytes : Bytes). OnOk c.write_named.result (c.write_named.new.work.answer ≡ c.args.work.now.answer ++ bytes))
+    subst (λ (bytes : Bytes). OnOk c.write_named.result (written c.args.self.now.plan.file.now c.write_named.new.work.answer ≡ written c.args.self.now.plan.file.now c.args.work.now.answer ++ bytes))
     (lines_alike (number_of 1 names) edition xref d tag x.place 0 _ (row File (own_tag d x)) c.tag-tag.ensures rule ∙ record_spelled (is_named d) edition names d x xref shown) (c.write_named.ensures names h)

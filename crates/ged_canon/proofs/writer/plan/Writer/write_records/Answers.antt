@@ -7,6 +7,7 @@ use Rattle.ged_canon.specs.declared.writer.rank.RankedSibling.{RankedSibling}
 use Rattle.ged_canon.specs.inner.Working.{is_named}
 use Rattle.ged_canon.specs.inner.Siblings.{StandsRanked, sibling_trees}
 use Rattle.ged_canon.specs.inner.CanonBytes.{spelled_siblings}
+use Rattle.ged_canon.specs.inner.Written.{written}
 use Rattle.ged_canon.proofs.writer.Records.{first_stands, others_stand, left_after}
 use Rattle.ged_canon.proofs.writer.RunsWritten.{next_left}
 use Rattle.ged_canon.proofs.writer.plan.Writer.write_records.Goals as goal
@@ -45,7 +46,7 @@ loop-each-preserved g c =
       within = all.1;
       stand = others_stand (is_named d) edition d x (drop (at + 1) xs)
           (ap (λ (ys : List RankedSibling). are_at 0 (sibling_trees (is_named d) edition File d ys)) (sym split) ∙ c.loop-each.invariant.stand);
-      told = λ names h named. left_after (is_named d) edition names d xs at (x) c.args.work.now.answer c.loop-each.work.answer c.write_record.new.work.answer (spelled_siblings (is_named d) edition names d xs)
+      told = λ names h named. left_after (is_named d) edition names d xs at (x) (written c.args.self.now.plan.file.now c.args.work.now.answer) (written c.args.self.now.plan.file.now c.loop-each.work.answer) (written c.args.self.now.plan.file.now c.write_record.new.work.answer) (spelled_siblings (is_named d) edition names d xs)
           split (c.loop-each.invariant.told names h named) (c.in_ok-write_record.ensures names h named);
     }
 
@@ -54,6 +55,6 @@ returns g c = λ names h named.
     let d = g.F.Forest.trees c.args.self.now.forest.now in
     let xs = c.args.siblings.now in
     let none_left : drop c.loop-each.each-index xs ≡ [] = drop_all c.loop-each.each-index xs (omega arith) in
-    sym (append-nil c.loop-each.work.answer)
-    ∙ ap (λ (ys : List RankedSibling). c.loop-each.work.answer ++ spelled_siblings (is_named d) c.args.self.now.plan.edition names d ys) (sym none_left)
+    sym (append-nil (written c.args.self.now.plan.file.now c.loop-each.work.answer))
+    ∙ ap (λ (ys : List RankedSibling). written c.args.self.now.plan.file.now c.loop-each.work.answer ++ spelled_siblings (is_named d) c.args.self.now.plan.edition names d ys) (sym none_left)
     ∙ c.loop-each.invariant.told names h named

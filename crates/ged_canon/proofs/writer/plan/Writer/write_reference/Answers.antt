@@ -10,6 +10,7 @@ use Rattle.ged_tree.specs.DocumentLines.{first_value}
 use Rattle.ged_canon.specs.Steps.{renamed_payload}
 use Rattle.ged_canon.specs.Normal.{numbered}
 use Rattle.ged_canon.specs.inner.Working.{number_among, number_of}
+use Rattle.ged_canon.specs.inner.Written.{written}
 use Rattle.ged_canon.proofs.writer.NewNames.{kept_name, given_number}
 use Rattle.ged_canon.proofs.writer.plan.Writer.write_reference.Goals as goal
 
@@ -33,7 +34,7 @@ returns-then-is_kept_name-clause-lines g c = λ names h.
     let name = c.args.name.now in
     let here = sym c.requires.names in
     let at : number_among 1 names name ≡ c.new_number_at-number.result = sym (c.new_number_at-number.ensures d names h (sym here)) in
-    subst (λ value. OnOk c.write_kept_reference.result (c.write_kept_reference.new.answer ≡ c.args.work.now.answer ++ (spelling (line_parts c.args.level (option_copied c.args.xref) c.args.sibling.tag.now value) ++ 10 ∷ [])))
+    subst (λ value. OnOk c.write_kept_reference.result (written c.args.self.now.plan.file.now c.write_kept_reference.new.answer ≡ written c.args.self.now.plan.file.now c.args.work.now.answer ++ (spelling (line_parts c.args.level (option_copied c.args.xref) c.args.sibling.tag.now value) ++ 10 ∷ [])))
     (renamed_value names _ name name here (kept_value names name c.new_number_at-number.result at (c.is_kept_name.ensures.0 (search rules)))) c.write_kept_reference.ensures
 
 pub returns-clause-lines : goal.returns-clause-lines
@@ -44,5 +45,5 @@ returns-clause-lines g c = λ names h.
     let at : number_among 1 names name ≡ c.new_number_at-number.result = sym (c.new_number_at-number.ensures d names h (sym here)) in
     let other : c.new_number_at-number.result ≡ 0 → ⊥ = λ e. false≢true (sym c.if-is_kept_name.false ∙ c.is_kept_name.ensures.1 (inl e)) in
     let some : 0 < number_among 1 names name = omega (arith, at, other) in
-    subst (λ value. OnOk c.push_numbered.result (c.push_numbered.new.self ≡ c.args.work.now.answer ++ (spelling (line_parts c.args.level (option_copied c.args.xref) c.args.sibling.tag.now value) ++ 10 ∷ [])))
+    subst (λ value. OnOk c.push_numbered.result (written c.args.self.now.plan.file.now c.push_numbered.new.self ≡ written c.args.self.now.plan.file.now c.args.work.now.answer ++ (spelling (line_parts c.args.level (option_copied c.args.xref) c.args.sibling.tag.now value) ++ 10 ∷ [])))
     (renamed_value names _ name (numbered c.new_number_at-number.result) here (ap numbered (sym at) ∙ given_number name 1 names some)) c.push_numbered.ensures

@@ -1,5 +1,7 @@
 use Rattle.std.proofs.Common.{◌≡◌, ◌∙◌, true, false, arith, sym}
+use Rattle.ged_tree.specs.Rows.{AreSizes, kept_levels}
 use Rattle.ged_tree.specs.TreeFaults.{has_trailer}
+use Rattle.ged_tree.specs.inner.Growing.{RiseByOne}
 use Rattle.ged_tree.proofs.table.Taking.{finished, past, nothing}
 use Rattle.ged_tree.proofs.table.builder.TableBuilder.finish.Goals.{then-self-eq0, else-self-eq0}
 use Rattle.ged_tree.proofs.table.builder.TableBuilder.finish.Goals as goal
@@ -17,12 +19,14 @@ of_table-requires c =
     let lines = c.requires.lines.0 in
     let holds = c.requires.lines.1 in
     let end : has_trailer lines ≡ true = sym (c.has_ended.ensures lines holds.judged) ∙ c.if-not-has_ended.false in
-    let sized = rw c.as_slice.ensures.value at c.in-Ok.ensures in
+    let items = c.args.self.structures.items in
+    let sized : RiseByOne 0 (kept_levels items) → AreSizes items c.in-Ok.sizes 0 = λ rises. c.in-Ok.ensures items (c.len.ensures ∙ c.args.self.structures.ok.0) rises holds.kept.sized in
     (finished c.args.self lines c.in-Ok.sizes holds end c.requires.lines.2 sized).flat
 
 pub returns-in-Ok : goal.returns-in-Ok
 returns-in-Ok c = λ lines holds few.
     let end : has_trailer lines ≡ true = sym (c.has_ended.ensures lines holds.judged) ∙ c.if-not-has_ended.false in
-    let sized = rw c.as_slice.ensures.value at c.in-Ok.ensures in
+    let items = c.args.self.structures.items in
+    let sized : RiseByOne 0 (kept_levels items) → AreSizes items c.in-Ok.sizes 0 = λ rises. c.in-Ok.ensures items (c.len.ensures ∙ c.args.self.structures.ok.0) rises holds.kept.sized in
     let done = finished c.args.self lines c.in-Ok.sizes holds end few sized in
     rw (c.of_table.ensures, done.lists.seen) done.has

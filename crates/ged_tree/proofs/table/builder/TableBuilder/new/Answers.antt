@@ -10,7 +10,7 @@ returns-clause-lines c = record {
   are_lines = refl;
   counted = refl;
   structures = rw c.new-2.ensures.items refl;
-  places = rw (c.new-4.ensures.slices, c.new-4.ensures.apart) refl;
-  further = rw (c.new-4.ensures.slices, c.new-4.ensures.apart) refl;
-  kept = none_kept _ c.new-2.ensures.items c.new-3.ensures.items c.new-4.ensures.slices;
+  places = rw (c.new-5.ensures.slices, c.new-5.ensures.apart) refl;
+  further = rw (c.new-5.ensures.slices, c.new-5.ensures.apart) refl;
+  kept = none_kept _ c.new-2.ensures.items c.new-4.ensures.items c.new-5.ensures.slices c.new-3.ensures;
 }

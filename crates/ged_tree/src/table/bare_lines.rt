@@ -1,0 +1,66 @@
+// Lines of a table that stand in its text as the canonical spelling has them.
+ghost use Rattle.std.specs.Prelude.{◌≡◌, ◌≤◌, ◌++◌, ◌∷◌, [], IfSome, length, decimal, slice_range};
+ghost use Rattle.ged_line.specs.Bytes.{line_feed, space};
+ghost use Rattle.ged_tree.specs.Trees.{Trees};
+ghost use Rattle.ged_tree.specs.Places.{structure_at};
+ghost use Rattle.ged_tree.specs.DocumentLines.{rest_of_line};
+ghost use Rattle.ged_tree.specs.BareLines.{AreBareLines, lines_text};
+
+use crate::table::packed::KeptStructure;
+
+/// The own lines of structures without an identifier, where they stand in a text as the canonical spelling has them, each with a line
+/// feed behind it.
+#[derive(Clone, Copy)]
+pub struct BareLines<'a> {
+    pub(crate) text: &'a [u8],
+    pub(crate) structures: &'a [KeptStructure],
+}
+
+impl<'a> BareLines<'a> {
+    /// No lines.
+    pub fn none() -> BareLines<'a>
+        ensures { (d : Trees) → AreBareLines d result }
+    {
+        BareLines {
+            text: &[],
+            structures: &[],
+        }
+    }
+
+    /// The text in which the lines stand.
+    #[inline(always)]
+    pub fn text(&self) -> &'a [u8]
+        ensures { result.now ≡ lines_text self.now }
+    {
+        self.text
+    }
+
+    /// About where the line of the structure at a place begins in the text, in bytes; or where the text ends, if there is none at that
+    /// place. It is a hint, and no clause rests on it.
+    pub fn start_of(&self, place: usize) -> usize {
+        match self.structures.get(place) {
+            Some(kept) => kept.start as usize,
+            None => self.text.len(),
+        }
+    }
+
+    /// From where up to where the own line of the structure at a place stands in the text, with its line feed, if it has this level, which has
+    /// one digit, and no identifier; or `None` where that is not kept.
+    #[inline(always)]
+    pub fn at(&self, place: usize, level: u8) -> Option<(usize, usize)>
+        ensures order { IfSome result (λ run. (run.0 ≤ run.1) × (run.1 ≤ length (lines_text self.now))) }
+        ensures line { (d : Trees) → AreBareLines d self.now → IfSome result (λ run. slice_range (lines_text self.now) run.0 run.1
+            ≡ (decimal level ++ space ∷ rest_of_line (structure_at d place)) ++ line_feed ∷ []) }
+    {
+        let kept = self.structures.get(place)?;
+        if !kept.is_bare(level) {
+            return None;
+        }
+        let start = kept.start as usize;
+        let end = start + kept.length as usize;
+        if *self.text.get(end)? != b'\n' {
+            return None;
+        }
+        Some((start, end + 1))
+    }
+}
