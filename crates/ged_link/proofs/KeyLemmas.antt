@@ -1,11 +1,13 @@
--- What the maps of names hold, and under which key they hash.
-use Rattle.std.proofs.Common.{◌≡◌, subst, sym, ap, ◌∙◌, ℕ, Bool, true, false, cond, fold, nat_eq, List, [], Option, Some, Result, Ok, Err, OnOk, inl, inr, refl, arith, rules}
+-- What the maps of names hold, and under which keys they hash.
+use Rattle.std.proofs.Common.{◌≡◌, subst, sym, ap, ◌∙◌, ℕ, zero, suc, Bool, true, false, cond, fold, drop, map, replicate, nat_eq, List, [], ◌∷◌, Option, None, Some, Result, Ok, Err, OnOk, inl, inr, refl, arith, rules}
 use Rattle.std.specs.Bool.{if◌then◌else◌, Decides}
 use Rattle.std.specs.Str.{bytes_eq}
+use Rattle.std.specs.Hash.DefaultHasher.{initial}
 use Rattle.std.specs.declared.hash.DefaultHasher.{DefaultHasher}
 use Rattle.std.specs.HashMap.{get, get_by_text, hasher_of, hash_map_len}
 use Rattle.std.proofs.lemmas.Slice.Eq.{bytes_eq-Decides}
 use Rattle.std.proofs.lemmas.Bool.Decides.{nat_tests}
+use Rattle.std.proofs.lemmas.List.Sums.{fold-append}
 use Rattle.ged_line.specs.Bytes.{Bytes}
 use Rattle.ged_tree.specs.Trees.{Trees, none, tree}
 use Rattle.ged_tree.specs.Documents.{are_at}
@@ -14,91 +16,100 @@ use Rattle.ged_tree.specs.Runs.{trees_between, IsStep}
 use Rattle.ged_link.specs.declared.index.RecordPlace.{RecordPlace}
 use Rattle.ged_link.specs.declared.keys.Keyed.{Keyed}
 use Rattle.ged_link.specs.declared.keys.KeyedNumbers.{KeyedNumbers}
+use Rattle.ged_link.specs.declared.listing.RecordList.{RecordList}
 use Rattle.ged_link.specs.declared.names.Names.{Names}
 use Rattle.ged_link.specs.Links.{IsAmong, identifiers}
 use Rattle.ged_link.specs.NameNumbers.{short_number}
-use Rattle.ged_link.specs.inner.Indexes.{HasKey, HoldsOf, IsKeyed, IsKeyedFrom}
-use Rattle.ged_link.specs.inner.Keys.{fed_name, names_key}
+use Rattle.ged_link.specs.inner.Indexes.{HoldsShort, HoldsLong, IsKeyed, IsKeyedShort, IsKeyedLong, numbers_key}
+use Rattle.ged_link.specs.inner.Keys.{fed_number, texts_key}
+use Rattle.ged_link.specs.inner.Listing.{listed_halves, all_halves, unnamed_in}
 use Rattle.ged_link.proofs.LinkLemmas.{level_parts, never_empty}
+use Rattle.ged_link.proofs.NameLemmas.{none_short, none_long}
+
+-- of records without a name nothing is written to the hasher of a key
+none_fed : (n : ℕ) (hasher : DefaultHasher) → fold fed_number hasher (replicate n (0, 0)) ≡ hasher
+none_fed zero hasher = refl
+none_fed (suc n) hasher = none_fed n hasher
+
+pub fed_all : (list : RecordList) (names : List (Option Bytes)) → all_halves list ≡ map listed_halves names → fold fed_number initial list.names.items ≡ fold fed_number initial (map listed_halves names)
+fed_all list names e =
+    sym (ap (λ (hasher : DefaultHasher). fold fed_number hasher list.names.items) (none_fed (unnamed_in list) initial))
+    ∙ sym (fold-append fed_number initial (replicate (unnamed_in list) (0, 0)) list.names.items)
+    ∙ ap (fold fed_number initial) e
 
 same_number : (m n : ℕ) → nat_eq m n ≡ true → m ≡ n
 same_number m n e = grind (arith, nat_tests)
 
-module _ (old new : Names) (names : List (Option Bytes)) (name : Bytes) (found : RecordPlace) where
-  -- one more name, by its number
-  pub holds_short : (number : ℕ) → short_number name ≡ Some number → IsAmong (Some name) names → ((n : ℕ) → get nat_eq new.short n ≡ cond (nat_eq number n) (Some found) (get nat_eq old.short n)) → new.long ≡ old.long
-      → HoldsOf names old → HoldsOf names new
-  holds_short number is among updates kept held = record {
-    short = λ n other has. go n other (nat_eq number n) refl (sym (updates n) ∙ has);
-    long = λ other at has. held.long other at (sym (ap (λ records. get_by_text records other) kept) ∙ has);
-  }
-    where
-      go : (n : ℕ) (other : RecordPlace) (b : Bool) → nat_eq number n ≡ b → cond b (Some found) (get nat_eq old.short n) ≡ Some other → (m : Bytes) × (short_number m ≡ Some n) × IsAmong (Some m) names
-      go n other true e h = (name, is ∙ ap Some (same_number number n e), among)
-      go n other false e h = held.short n other h
+module _ (names : List (Option Bytes)) (old new : Names) where
+  module _ (name : Bytes) (found : RecordPlace) (among : IsAmong (Some name) names) where
+    -- one more name, by its number
+    pub holds_short : (number : ℕ) → short_number name ≡ Some number → ((n : ℕ) → get nat_eq new.short n ≡ cond (nat_eq number n) (Some found) (get nat_eq old.short n)) → HoldsShort names old → HoldsShort names new
+    holds_short number is updates held n other has = go (nat_eq number n) refl (sym (updates n) ∙ has)
+      where
+        go : (b : Bool) → nat_eq number n ≡ b → cond b (Some found) (get nat_eq old.short n) ≡ Some other → (m : Bytes) × (short_number m ≡ Some n) × IsAmong (Some m) names
+        go true e h = (name, is ∙ ap Some (same_number number n e), among)
+        go false e h = held n other h
 
-  -- as a text
-  pub holds_long : IsAmong (Some name) names → ((n : Bytes) → get_by_text new.long n ≡ (if bytes_eq name n then Some found else get_by_text old.long n)) → new.short ≡ old.short → HoldsOf names old → HoldsOf names new
-  holds_long among updates kept held = record {
-    short = λ n at has. held.short n at (sym (ap (λ records. get nat_eq records n) kept) ∙ has);
-    long = λ n at has. go n at (bytes_eq name n) (bytes_eq-Decides name n) (sym (updates n) ∙ has);
-  }
-    where
-      go : (n : Bytes) (at : RecordPlace) (same : Bool) → Decides same (name ≡ n) → (if same then Some found else get_by_text old.long n) ≡ Some at → IsAmong (Some n) names
-      go n at true d h = let f : name ≡ n = search rules in subst (λ (m : Bytes). IsAmong (Some m) names) f among
-      go n at false d h = held.long n at h
+    -- as a text
+    pub holds_long : ((n : Bytes) → get_by_text new.long n ≡ (if bytes_eq name n then Some found else get_by_text old.long n)) → HoldsLong names old → HoldsLong names new
+    holds_long updates held n at has = go (bytes_eq name n) (bytes_eq-Decides name n) (sym (updates n) ∙ has)
+      where
+        go : (same : Bool) → Decides same (name ≡ n) → (if same then Some found else get_by_text old.long n) ≡ Some at → IsAmong (Some n) names
+        go true d h = let f : name ≡ n = search rules in subst (λ (m : Bytes). IsAmong (Some m) names) f among
+        go false d h = held n at h
 
-module _ (d : Trees) (place end : ℕ) where
-  -- the same maps, whatever the slots hold
-  pub keyed_same : (old new : Names) → new.short ≡ old.short → new.long ≡ old.long → IsKeyed d place end old → IsKeyed d place end new
-  keyed_same old new short long (inl empty) = inl (ap hash_map_len short ∙ empty.0, ap hash_map_len long ∙ empty.1)
-  keyed_same old new short long (inr (first, is)) = inr (
-    first,
-    record {
-      key = (ap (λ records. (hasher_of {S = KeyedNumbers} records).key) short ∙ is.key.0, ap (λ records. (hasher_of {S = Keyed} records).key) long ∙ is.key.1);
-      held = record {
-        short = λ number found has. is.held.short number found (sym (ap (λ records. get nat_eq records number) short) ∙ has);
-        long = λ name found has. is.held.long name found (sym (ap (λ records. get_by_text records name) long) ∙ has);
-      };
-      more = is.more;
-    },
+  same_short : new.short ≡ old.short → IsKeyedShort names old → IsKeyedShort names new
+  same_short short (inl empty) = inl (ap hash_map_len short ∙ empty)
+  same_short short (inr is) = inr (
+    ap (λ records. (hasher_of {S = KeyedNumbers} records).key) short ∙ is.0,
+    λ number found has. is.1 number found (sym (ap (λ records. get nat_eq records number) short) ∙ has),
   )
+
+  pub same_long : new.long ≡ old.long → IsKeyedLong names old → IsKeyedLong names new
+  same_long long is = (
+    ap (λ records. (hasher_of {S = Keyed} records).key) long ∙ is.0,
+    λ name found has. is.1 name found (sym (ap (λ records. get_by_text records name) long) ∙ has),
+  )
+
+  -- the same maps, whatever the slots hold
+  pub keyed_same : new.short ≡ old.short → new.long ≡ old.long → IsKeyed names old → IsKeyed names new
+  keyed_same short long is = (same_short short is.0, same_long long is.1)
 
   -- one more name, which the growth of a map may refuse
-  pub keyed_more : {E : Type 0} (first : ℕ) (old new : Names) → IsKeyedFrom d first place end old → (r : Result Bool E) → HasKey new (names_key (identifiers (trees_between d first end)))
-      → OnOk r (HoldsOf (identifiers (trees_between d first end)) new) → OnOk r (IsKeyed d place end new)
-  keyed_more first old new is (Ok is_new) key held = inr (first, record { key = key; held = held; more = is.more })
-  keyed_more first old new is (Err error) key held = tt
+  pub keyed_short : {E : Type 0} (r : Result Bool E) → new.long ≡ old.long → (hasher_of {S = KeyedNumbers} new.short).key ≡ numbers_key names → IsKeyed names old → OnOk r (HoldsShort names new) → OnOk r (IsKeyed names new)
+  keyed_short (Ok is_new) long key is held = (inr (key, held), same_long long is.1)
+  keyed_short (Err error) long key is held = tt
 
+  pub keyed_long : {E : Type 0} (r : Result Bool E) → new.short ≡ old.short → (hasher_of {S = Keyed} new.long).key ≡ (hasher_of {S = Keyed} old.long).key → IsKeyed names old → OnOk r (HoldsLong names new) → OnOk r (IsKeyed names new)
+  keyed_long (Ok is_new) short key is held = (same_short short is.0, (key ∙ is.1.0, held))
+  keyed_long (Err error) short key is held = tt
+
+-- a map of numbers that is empty has whatever key it is given
+pub begun_short : (names : List (Option Bytes)) (records : Names) → hash_map_len records.short ≡ 0 → HoldsShort names records
+begun_short names records empty number found has = absurd (let f = none_short records empty number in let g : None ≡ Some found = sym f ∙ has in cc)
+
+pub kept_short : (names : List (Option Bytes)) (records : Names) → (hash_map_len records.short ≡ 0 → ⊥) → IsKeyedShort names records → ((hasher_of {S = KeyedNumbers} records.short).key ≡ numbers_key names) × HoldsShort names records
+kept_short names records some (inl empty) = absurd (some empty)
+kept_short names records some (inr is) = is
+
+-- maps that are empty
+pub keyed_none : (names : List (Option Bytes)) (records : Names) → hash_map_len records.short ≡ 0 → hash_map_len records.long ≡ 0 → (hasher_of {S = Keyed} records.long).key ≡ texts_key names → IsKeyed names records
+keyed_none names records short long key = (
+  inl short,
+  (key, λ name found has. absurd (let f = none_long records long name in let g : None ≡ Some found = sym f ∙ has in cc)),
+)
+
+-- the next of the names that are left is among all
+pub among_left : (names : List (Option Bytes)) (k : ℕ) (xref : Option Bytes) (more : List (Option Bytes)) → drop k names ≡ xref ∷ more → IsAmong xref names
+among_left [] zero xref more e = cc
+among_left [] (suc k) xref more e = cc
+among_left (x ∷ xs) zero xref more e = inl (cc)
+among_left (x ∷ xs) (suc k) xref more e = inr (among_left xs k xref more e)
+
+module _ (d : Trees) (place end : ℕ) where
   -- what is among those past the record there is among all
-  pub among_next : (after : ℕ) → IsStep d place end after → (xref : Option Bytes) → IsAmong xref (identifiers (trees_between d after end)) → IsAmong xref (identifiers (trees_between d place end))
-  among_next after step xref among = subst (IsAmong xref) (sym (ap identifiers step.first)) (inr among)
-
-  -- past the record there
-  pub keyed_next : (after : ℕ) (records : Names) → IsStep d place end after → IsKeyed d place end records → IsKeyed d after end records
-  keyed_next after records step (inl empty) = inl empty
-  keyed_next after records step (inr (first, is)) = inr (
-    first,
-    record {
-      key = is.key;
-      held = is.held;
-      more = λ xref among. is.more xref (among_next after step xref among);
-    },
-  )
-
-  -- whose identifier is among those that the key is made of
   pub among_here : (after : ℕ) → IsStep d place end after → IsAmong (structure_at d place).xref (identifiers (trees_between d place end))
   among_here after step = subst (IsAmong (structure_at d place).xref) (sym (ap identifiers step.first)) (inl refl)
-
-  -- which is not empty, where none of all is
-  pub not_empty : (after : ℕ) → IsStep d place end after → (IsAmong (Some []) (identifiers (trees_between d place end)) → ⊥) → (structure_at d place).xref ≡ Some [] → ⊥
-  not_empty after step named is = named (subst (λ (xref : Option Bytes). IsAmong xref (identifiers (trees_between d place end))) is (among_here after step))
-
-  -- that is written to the hasher of a key, and those that are left
-  pub fed_next : (after : ℕ) → IsStep d place end after → (old new all : DefaultHasher) → new ≡ fed_name old (structure_at d place).xref → fold fed_name old (identifiers (trees_between d place end)) ≡ all
-      → fold fed_name new (identifiers (trees_between d after end)) ≡ all
-  fed_next after step old new all feeds before =
-      ap (λ (hasher : DefaultHasher). fold fed_name hasher (identifiers (trees_between d after end))) feeds ∙ sym (ap (λ (trees : Trees). fold fed_name old (identifiers trees)) step.first) ∙ before
 
 -- no record has an empty identifier
 pub none_empty : (trees : Trees) → are_at 0 trees ≡ true → IsAmong (Some []) (identifiers trees) → ⊥

@@ -14,7 +14,6 @@ use Rattle.ged_link.specs.Slots.{number_read, no_region, slot_within, slot_in, k
 use Rattle.ged_link.specs.inner.Layout.{counted}
 use Rattle.ged_link.specs.inner.Listing.{listed_with, listed_text, listed_name, listed_halves, listed_digits, all_halves, all_digits, IsListedFrom, AreTypesOf}
 use Rattle.ged_link.specs.inner.Slots.{kept_at, IsMissed}
-use Rattle.ged_link.specs.declared.layout.Tally.{Tally}
 use Rattle.ged_link.specs.declared.listing.ListedName.{ListedName}
 use Rattle.ged_link.specs.declared.listing.ListedNames.{ListedNames}
 use Rattle.ged_link.specs.declared.listing.RecordList.{RecordList}
@@ -140,10 +139,10 @@ module _ {X : Type 0} (count : ℕ) (same : X) (list : List X) (k : ℕ) (other 
   pub at_listed : count ≤ k → slice_index_or (replicate count same ++ list) k other ≡ slice_index_or list (k - count) other
   at_listed past = get_or-append_right (replicate count same) list count k other (length-replicate count same) past
 
--- one more name is counted and listed; those that are left
+-- one more name is told and listed; those that are left
 module _ (pushed xref : Option Bytes) (same : pushed ≡ xref) (left more : List (Option Bytes)) (is : left ≡ xref ∷ more) where
-  pub tallies_more : (old new all : List Tally) → new ≡ counted old pushed → fold counted old left ≡ all → fold counted new more ≡ all
-  tallies_more old new all counts before = ap (λ (ts : List Tally). fold counted ts more) (counts ∙ ap (counted old) same) ∙ sym (ap (fold counted old) is) ∙ before
+  pub told_more : {X : Type 0} (tell : X → Option Bytes → X) (old new all : X) → new ≡ tell old pushed → fold tell old left ≡ all → fold tell new more ≡ all
+  told_more {X} tell old new all tells before = ap (λ (so_far : X). fold tell so_far more) (tells ∙ ap (tell old) same) ∙ sym (ap (fold tell old) is) ∙ before
 
   pub listed_more : {X : Type 0} (list : Option Bytes → X) (old new all : List X) → new ≡ old ++ list pushed ∷ [] → old ++ map list left ≡ all → new ++ map list more ≡ all
   listed_more {X} list old new all lists before =

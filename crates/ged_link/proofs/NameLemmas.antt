@@ -5,7 +5,7 @@ use Rattle.std.specs.Char.{is_ascii_digit}
 use Rattle.std.specs.Option.{option_or}
 use Rattle.std.specs.List.{list_all}
 use Rattle.std.specs.Str.{bytes_eq}
-use Rattle.std.specs.HashMap.{get, get_by_text}
+use Rattle.std.specs.HashMap.{get, get_by_text, hash_map_len}
 use Rattle.std.proofs.lemmas.Slice.Eq.{bytes_eq-Decides}
 use Rattle.std.proofs.lemmas.Bool.Decides.{nat_tests}
 use Rattle.ged_line.specs.Bytes.{Bytes}
@@ -14,7 +14,6 @@ use Rattle.ged_link.specs.declared.names.Names.{Names}
 use Rattle.ged_link.specs.NameNumbers.{name_number, digits_number, number_up_to, is_up_to, is_full, count_read, counted_number, number_within, short_number}
 use Rattle.ged_link.specs.declared.slots.Slots.{Slots}
 use Rattle.ged_link.specs.Indexes.{found_in, found_by, found_short, first_of}
-use Rattle.ged_link.specs.inner.Indexes.{HasNoOthers}
 use Rattle.ged_link.specs.Slots.{kept_in, slot_in}
 use Rattle.ged_link.specs.inner.Slots.{KeepsIn, kept_at}
 use Rattle.ged_link.specs.inner.Resolving.{AddsName, AddsRecord}
@@ -263,20 +262,20 @@ nothing [] e = refl
 nothing (x ∷ xs) e = absurd (omega (arith, e))
 
 -- empty maps hold no name
-pub none_short : (records : Names) → HasNoOthers records → (n : ℕ) → get nat_eq records.short n ≡ None
-none_short records e n = let f = nothing records.short.entries e.0 in search rules
+pub none_short : (records : Names) → hash_map_len records.short ≡ 0 → (n : ℕ) → get nat_eq records.short n ≡ None
+none_short records e n = let f = nothing records.short.entries e in search rules
 
-pub none_long : (records : Names) → HasNoOthers records → (name : Bytes) → get_by_text records.long name ≡ None
-none_long records e name = let f = nothing records.long.entries e.1 in search rules
+pub none_long : (records : Names) → hash_map_len records.long ≡ 0 → (name : Bytes) → get_by_text records.long name ≡ None
+none_long records e name = let f = nothing records.long.entries e in search rules
 
--- so maps that are empty may be replaced by others that are
-pub same_names : (old new : Names) → HasNoOthers old → HasNoOthers new → new.slots ≡ old.slots → (name : Bytes) → found_in new name ≡ found_in old name
-same_names old new h k same name = go (short_number name)
+-- so a map of numbers that is empty may be replaced by another that is
+pub same_names : (old new : Names) → hash_map_len old.short ≡ 0 → hash_map_len new.short ≡ 0 → new.long ≡ old.long → new.slots ≡ old.slots → (name : Bytes) → found_in new name ≡ found_in old name
+same_names old new h k long same name = go (short_number name)
   where
     go : (o : Option ℕ) → found_by new name o ≡ found_by old name o
     go (Some n) =
         ap (first_of (kept_in new.slots name n)) (none_short new k n) ∙ ap (λ (slots : Slots). first_of (kept_in slots name n) None) same ∙ ap (first_of (kept_in old.slots name n)) (sym (none_short old h n))
-    go None = none_long new k name ∙ sym (none_long old h name)
+    go None = ap (λ records. get_by_text records name) long
 
 -- the answer of a test that there is none
 pub told_none : (told : Bool) (o : Option RecordPlace) → is_some o ≡ not told → told ≡ is_none o

@@ -13,6 +13,8 @@ use Rattle.ged_tree.specs.Documents.{is_document, are_at, are_records}
 use Rattle.ged_tree.specs.DocumentLines.{line_value, first_value, lines_of, document_lines}
 use Rattle.ged_link.specs.Links.{identifiers}
 use Rattle.ged_link.specs.RecordTypes.{IsTypeOf}
+use Rattle.std.specs.Hash.DefaultHasher.{initial}
+use Rattle.ged_link.specs.inner.Keys.{fed_long}
 use Rattle.ged_link.specs.inner.Layout.{counted, no_names}
 use Rattle.ged_link.specs.inner.Listing.{listed_halves, listed_digits, all_halves, all_digits, AreTypesOf, IsRecordList}
 use Rattle.ged_link.specs.inner.RecordLines.{is_record_tag, record_lines, AreTypesByTags, AreListed}
@@ -62,8 +64,8 @@ map_more {X} {Y} f xs x old new was is = is ∙ ap (λ (o : List Y). o ++ f x �
 pub listed_more : (old new : RecordList) (known : Option RecordType) (lines : List LineParts) (line : LineParts) → IsTypeOf known line.tag
     → new.tallies.items ≡ counted old.tallies.items line.xref → all_halves new ≡ all_halves old ++ listed_halves line.xref ∷ []
     → (length old.names.items ≡ length old.digits.items → all_digits new ≡ all_digits old ++ listed_digits line.xref ∷ []) → new.types.items ≡ old.types.items ++ known ∷ []
-    → AreListed old lines → AreListed new (lines ++ line ∷ [])
-listed_more old new known lines line is tallies names digits types before =
+    → new.long.hasher ≡ fed_long old.long.hasher line.xref → AreListed old lines → AreListed new (lines ++ line ∷ [])
+listed_more old new known lines line is tallies names digits types long before =
     let xrefs : map (λ (l : LineParts). l.xref) (lines ++ line ∷ []) ≡ map (λ (l : LineParts). l.xref) lines ++ line.xref ∷ [] = map-append (λ (l : LineParts). l.xref) lines (line ∷ []) in
     let before_xrefs = map (λ (l : LineParts). l.xref) lines in
     let even : length old.names.items ≡ length old.digits.items =
@@ -74,6 +76,7 @@ listed_more old new known lines line is tallies names digits types before =
       names = map_more listed_halves before_xrefs line.xref (all_halves old) (all_halves new) before.names names ∙ ap (λ (xs : List (Option Bytes)). map listed_halves xs) (sym xrefs);
       digits = map_more listed_digits before_xrefs line.xref (all_digits old) (all_digits new) before.digits (digits even) ∙ ap (λ (xs : List (Option Bytes)). map listed_digits xs) (sym xrefs);
       types = rw types (types_more old.types.items known lines line before.types is);
+      long = fold_more fed_long initial before_xrefs line.xref old.long.hasher new.long.hasher before.long long ∙ ap (λ (xs : List (Option Bytes)). fold fed_long initial xs) (sym xrefs);
     }
 
 -- ---- the lines of a document
@@ -173,4 +176,5 @@ records_listed d list is listed =
       names = listed.names ∙ ap (λ (xs : List (Option Bytes)). map listed_halves xs) ids;
       digits = listed.digits ∙ ap (λ (xs : List (Option Bytes)). map listed_digits xs) ids;
       types = own_types list.types.items (records_of d) (subst (AreTypesByTags list.types.items) begins listed.types);
+      long = listed.long ∙ ap (λ (xs : List (Option Bytes)). fold fed_long initial xs) ids;
     }

@@ -1,16 +1,13 @@
 // The keys of the maps of an index, and the hashers that begin with them.
-ghost use Rattle.std.specs.Prelude.{◌≡◌, ◌<◌, [], Some, None, fold};
-ghost use Rattle.ged_tree.specs.Trees.{trees_count};
-ghost use Rattle.ged_tree.specs.Places.{structure_at};
-ghost use Rattle.ged_tree.specs.Runs.{trees_between, IsRunOfTrees};
-ghost use Rattle.ged_link.specs.Links.{IsAmong, identifiers};
+ghost use Rattle.std.specs.Prelude.{◌≡◌, Some, None, List, Option, fold, map};
+ghost use Rattle.std.specs.Hash.DefaultHasher.{initial as unfed, finish};
+ghost use Rattle.ged_line.specs.Bytes.{Bytes};
 ghost use Rattle.ged_link.specs.NameNumbers.{short_number};
-ghost use Rattle.ged_link.specs.inner.Keys.{fed_name, names_key as key_of_names};
-ghost use Rattle.ged_link.specs.inner.Listing.{listed_name, IsListedFrom};
+ghost use Rattle.ged_link.specs.inner.Keys.{fed_long, fed_number};
+ghost use Rattle.ged_link.specs.inner.Indexes.{numbers_key as key_of_numbers};
+ghost use Rattle.ged_link.specs.inner.Listing.{listed_halves, all_halves};
 
-use crate::index::RecordPlace;
-use crate::listing::{ListedName, ListedNames};
-use ged_tree::{Forest, next_in_run};
+use crate::listing::{RecordList, joined};
 use std::hash::{BuildHasher, DefaultHasher, FoldHasher, Hasher};
 
 /// Makes the hashers of a map of texts: SipHash, each begun with the map's key, a hash of names among which are all that the map is
@@ -63,52 +60,70 @@ impl BuildHasher for KeyedNumbers {
     }
 }
 
-/// Writes a long name to a hasher, with its length before it, counted down from the greatest number: no short name's number is as great.
-fn feed_long(hasher: &mut DefaultHasher, name: &str)
-    requires { short_number name.now ≡ None }
-    ensures { hasher.new ≡ fed_name hasher.old (Some name.now) }
-{
-    hasher.write_u64(u64::MAX - name.len() as u64);
-    hasher.write(name.as_bytes());
+/// The long names of a document, as far as they are listed. They are hashed while they are, since that reads them anyway.
+#[derive(Drop)]
+pub(crate) struct LongNames {
+    /// How many there are. No answer rests on it.
+    pub(crate) count: usize,
+    /// What each was written to.
+    pub(crate) hasher: DefaultHasher,
 }
 
-/// Writes the name of the record at a place, if it has one, to a hasher, by what is listed of it: as the number that it spells, or a long
-/// one by its text. No other text is read.
-#[inline(always)]
-fn feed_listed<F: Forest>(hasher: &mut DefaultHasher, name: ListedName, forest: &F, place: usize)
-    requires within { place < trees_count (F.trees forest.now) }
-    requires listed { name ≡ listed_name (structure_at (F.trees forest.now) place).xref }
-    requires named { (structure_at (F.trees forest.now) place).xref ≡ Some [] → ⊥ }
-    ensures { hasher.new ≡ fed_name hasher.old (structure_at (F.trees forest.now) place).xref }
-{
-    if name.number != 0 {
-        hasher.write_u64(name.number);
-    } else if name.digits != 0 {
-        if let Some(text) = forest.xref(place) {
-            feed_long(hasher, text);
+impl LongNames {
+    pub(crate) fn none() -> LongNames
+        ensures { result.hasher ≡ unfed }
+    {
+        LongNames {
+            count: 0,
+            hasher: DefaultHasher::new(),
         }
     }
+
+    /// One more, which is written with its length before it.
+    #[cold]
+    #[inline(never)]
+    pub(crate) fn push(&mut self, name: &str)
+        requires { short_number name.now ≡ None }
+        ensures { self.new.hasher ≡ fed_long self.old.hasher (Some name.now) }
+    {
+        self.count = self.count.saturating_add(1);
+        self.hasher.write_u64(name.len() as u64);
+        self.hasher.write(name.as_bytes());
+    }
+
+    /// The key for their map.
+    pub(crate) fn key(&self) -> u64
+        ensures { result ≡ finish self.now.hasher }
+    {
+        self.hasher.finish()
+    }
 }
 
-/// The key for the identifiers of the records from one up to an end, by what is listed of them. Only the long ones are read again.
-pub(crate) fn names_key<F: Forest>(
-    forest: &F,
-    listed: ListedNames<'_>,
-    first: RecordPlace,
-    end: usize,
-) -> u64
-    requires run { IsRunOfTrees (F.trees forest.now) first.place end }
-    requires listed { IsListedFrom (F.trees forest.now) listed first.number first.place end }
-    requires named { IsAmong (Some []) (identifiers (trees_between (F.trees forest.now) first.place end)) → ⊥ }
-    ensures { result ≡ key_of_names (identifiers (trees_between (F.trees forest.now) first.place end)) }
+/// Writes the number that a name spells to a hasher, if it spells one.
+#[inline(always)]
+fn feed_number(hasher: &mut DefaultHasher, halves: (u32, u32))
+    ensures { hasher.new ≡ fed_number hasher.old halves }
+{
+    let number = joined(halves);
+    if number != 0 {
+        hasher.write_u64(number);
+    }
+}
+
+/// A hash of all numbers that names spell.
+fn hash_numbers(numbers: &[(u32, u32)]) -> u64
+    ensures { result ≡ finish (fold fed_number unfed numbers.now) }
 {
     let mut hasher = DefaultHasher::new();
-    let mut place = first.place;
-    let mut number = first.number;
-    while let Some(after) = next_in_run(forest, place, end) {
-        feed_listed(&mut hasher, listed.name_at(number), forest, place);
-        place = after;
-        number += 1;
+    for halves in numbers {
+        feed_number(&mut hasher, *halves);
     }
     hasher.finish()
+}
+
+/// The key for the map of numbers, by what is listed of the names.
+pub(crate) fn numbers_key(list: &RecordList) -> u64
+    ensures { (names : List (Option Bytes)) → all_halves list.now ≡ map listed_halves names → result ≡ key_of_numbers names }
+{
+    hash_numbers(&list.names)
 }

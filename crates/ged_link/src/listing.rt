@@ -5,9 +5,12 @@ ghost use Rattle.ged_line.specs.Bytes.{Bytes};
 ghost use Rattle.ged_tree.specs.Trees.{records_of, trees_count};
 ghost use Rattle.ged_tree.specs.Runs.{trees_between, IsRunOfTrees};
 ghost use Rattle.ged_link.specs.Links.{identifiers};
+ghost use Rattle.std.specs.Hash.DefaultHasher.{initial};
+ghost use Rattle.ged_link.specs.inner.Keys.{fed_long};
 ghost use Rattle.ged_link.specs.inner.Layout.{counted, no_names};
 ghost use Rattle.ged_link.specs.inner.Listing.{listed_name, listed_halves, listed_digits, unnamed_in, all_halves, all_digits, AreTypesOf, IsRecordList};
 
+use crate::keys::LongNames;
 use crate::layout::{Tally, count_name, no_tallies};
 use crate::names::{count_in, number_of};
 use crate::record_type::{RecordType, type_of};
@@ -50,12 +53,15 @@ pub(crate) struct RecordList {
     pub(crate) digits: Vec<u32>,
     /// The types of all records.
     pub(crate) types: Vec<Option<RecordType>>,
+    /// The names that spell no number.
+    pub(crate) long: LongNames,
 }
 
-/// Counts the name of a record, if it spells a number. The answer is what is listed of it.
+/// Counts the name of a record, by the number that it spells, or as a long one. The answer is what is listed of it.
 #[inline(always)]
-fn list_name(tallies: &mut Vec<Tally>, xref: Option<&str>) -> ListedName
+fn list_name(tallies: &mut Vec<Tally>, long: &mut LongNames, xref: Option<&str>) -> ListedName
     ensures counted { tallies.new.items ≡ counted tallies.old.items (option_copied xref.entry) }
+    ensures long { long.new.hasher ≡ fed_long long.old.hasher (option_copied xref.entry) }
     ensures listed { result ≡ listed_name (option_copied xref.entry) }
 {
     let Some(name) = xref else {
@@ -65,6 +71,7 @@ fn list_name(tallies: &mut Vec<Tally>, xref: Option<&str>) -> ListedName
         return NO_NUMBER;
     };
     let Some(number) = number_of(name) else {
+        long.push(name);
         return NO_NUMBER;
     };
     let digits = match count_in(number) {
@@ -102,12 +109,14 @@ impl RecordList {
         ensures names { IfOk result (λ list. list.names.items ≡ []) }
         ensures digits { IfOk result (λ list. list.digits.items ≡ []) }
         ensures types { IfOk result (λ list. list.types.items ≡ []) }
+        ensures long { IfOk result (λ list. list.long.hasher ≡ initial) }
     {
         Ok(RecordList {
             tallies: no_tallies(alloc)?,
             names: Vec::new(alloc),
             digits: Vec::new(alloc),
             types: Vec::new(alloc),
+            long: LongNames::none(),
         })
     }
 
@@ -123,12 +132,13 @@ impl RecordList {
         ensures digits { length self.old.names.items ≡ length self.old.digits.items
             → OnOk result (all_digits self.new ≡ all_digits self.old ++ listed_digits (option_copied xref.entry) ∷ []) }
         ensures types { OnOk result (self.new.types.items ≡ self.old.types.items ++ record_type ∷ []) }
+        ensures long { OnOk result (self.new.long.hasher ≡ fed_long self.old.long.hasher (option_copied xref.entry)) }
     {
         if xref.is_none() && self.names.is_empty() {
             self.types.push(record_type)?;
             return Ok(());
         }
-        let name = list_name(&mut self.tallies, xref);
+        let name = list_name(&mut self.tallies, &mut self.long, xref);
         self.names.push(halves(name.number))?;
         self.digits.push(name.digits)?;
         self.types.push(record_type)?;
@@ -140,15 +150,6 @@ impl RecordList {
         ensures { result ≡ unnamed_in self.now }
     {
         self.types.len().saturating_sub(self.names.len())
-    }
-
-    /// How many names spell no number.
-    pub(crate) fn long_names(&self) -> usize {
-        self.digits
-            .iter()
-            .zip(&self.names)
-            .filter(|(digits, halves)| **digits == NO_NUMBER.digits && **halves == (0, 0))
-            .count()
     }
 }
 
@@ -205,6 +206,7 @@ fn list_between<F: Forest>(
     ensures names { IfOk result (λ list. all_halves list ≡ map listed_halves (identifiers (records_of (F.trees forest.now)))) }
     ensures digits { IfOk result (λ list. all_digits list ≡ map listed_digits (identifiers (records_of (F.trees forest.now)))) }
     ensures types { IfOk result (λ list. AreTypesOf list.types.items (records_of (F.trees forest.now))) }
+    ensures long { IfOk result (λ list. list.long.hasher ≡ fold fed_long initial (identifiers (records_of (F.trees forest.now)))) }
 {
     let mut list = RecordList::new(alloc)?;
     let mut place = start;

@@ -1,10 +1,11 @@
 // Records by the names of their cross-reference identifiers.
 ghost use Rattle.std.specs.Prelude.{◌≡◌, ◌+◌, ◌∷◌, ◌<◌, ◌^◌, ◌↔◌, ℕ, IsTrue, IfOk, IfSome, OnOk, [], List, Option, Some, None, nat_eq};
-ghost use Rattle.std.specs.HashMap.{get, get_by_text};
+ghost use Rattle.std.specs.Hash.DefaultHasher.{finish};
+ghost use Rattle.std.specs.HashMap.{get, get_by_text, hasher_of, hash_map_len};
 ghost use Rattle.ged_line.specs.Bytes.{Bytes};
 ghost use Rattle.ged_link.specs.Links.{IsAmong};
 ghost use Rattle.ged_link.specs.Indexes.{found_in};
-ghost use Rattle.ged_link.specs.inner.Indexes.{HasKey, HasNoOthers, HoldsOf};
+ghost use Rattle.ged_link.specs.inner.Indexes.{HoldsShort, HoldsLong};
 ghost use Rattle.ged_link.specs.Slots.{number_read, slot_in, kept_in};
 ghost use Rattle.ged_link.specs.NameNumbers.{count_read, counted_number, number_up_to, number_within, short_number};
 ghost use Rattle.ged_link.specs.inner.Listing.{listed_name};
@@ -12,7 +13,7 @@ ghost use Rattle.ged_link.specs.inner.Resolving.{AddsRecord};
 ghost use Rattle.ged_link.specs.inner.Slots.{kept_at, HasNoSlot, IsMissed};
 
 use crate::index::RecordPlace;
-use crate::keys::{Keyed, KeyedNumbers};
+use crate::keys::{Keyed, KeyedNumbers, LongNames};
 use crate::listing::ListedName;
 use crate::slots::Slots;
 use indexmap::IndexMap;
@@ -176,39 +177,40 @@ pub(crate) struct Names {
 }
 
 impl Names {
-    /// No records, where the slots are free. The maps have no key yet ([`Names::set_key`]).
-    pub(crate) fn new(alloc: Global, slots: Slots) -> Names
+    /// No records, where the slots are free. The map of long names has the key that was made of them, and room for all. That of numbers
+    /// has no key yet ([`Names::set_key`]).
+    pub(crate) fn new(alloc: Global, slots: Slots, long: &LongNames) -> Result<Names, AllocError>
         requires free { (name : _) → (number : ℕ) → 0 < number → kept_in slots name number ≡ None }
-        ensures none { (name : _) → found_in result name ≡ None }
-        ensures others { HasNoOthers result }
-        ensures slots { result.slots ≡ slots }
+        ensures none { IfOk result (λ names. (name : _) → found_in names name ≡ None) }
+        ensures keyed { IfOk result (λ names. (hasher_of {S = Keyed} names.long).key ≡ finish long.now.hasher) }
+        ensures long { IfOk result (λ names. hash_map_len names.long ≡ 0) }
+        ensures short { IfOk result (λ names. hash_map_len names.short ≡ 0) }
     {
-        Names {
+        let key = long.key();
+        Ok(Names {
             slots,
             short: IndexMap::with_hasher(alloc, KeyedNumbers { key: 0 }),
-            long: IndexMap::with_hasher(alloc, Keyed { key: 0 }),
-        }
+            long: IndexMap::with_capacity_and_hasher(alloc, long.count, Keyed { key })?,
+        })
     }
 
-    /// Whether each record so far has a slot.
-    pub(crate) fn has_no_others(&self) -> bool
-        ensures { IsTrue result ↔ HasNoOthers self.now }
+    /// Whether each short name so far has a slot.
+    pub(crate) fn have_slots(&self) -> bool
+        ensures { IsTrue result ↔ (hash_map_len self.now.short ≡ 0) }
     {
-        self.short.is_empty() && self.long.is_empty()
+        self.short.is_empty()
     }
 
-    /// Gives the maps, which are empty, the key of the names that are to come ([`crate::keys::names_key`]), and takes memory for so many
-    /// long ones. No answer rests on how many.
-    pub(crate) fn set_key(&mut self, alloc: Global, key: u64, room: usize) -> Result<(), AllocError>
-        requires { HasNoOthers self.old }
+    /// Gives the map of numbers, which is empty, the key of those that are to come ([`crate::keys::numbers_key`]).
+    pub(crate) fn set_key(&mut self, alloc: Global, key: u64)
+        requires { hash_map_len self.old.short ≡ 0 }
         ensures same { (name : _) → found_in self.new name ≡ found_in self.old name }
         ensures slots { self.new.slots ≡ self.old.slots }
-        ensures others { HasNoOthers self.new }
-        ensures keyed { OnOk result (HasKey self.new key) }
+        ensures long { self.new.long ≡ self.old.long }
+        ensures short { hash_map_len self.new.short ≡ 0 }
+        ensures keyed { (hasher_of {S = KeyedNumbers} self.new.short).key ≡ key }
     {
         self.short = IndexMap::with_hasher(alloc, KeyedNumbers { key });
-        self.long = IndexMap::with_capacity_and_hasher(alloc, room, Keyed { key })?;
-        Ok(())
     }
 
     /// Where the record that has a name stands. Takes no memory.
@@ -301,9 +303,10 @@ impl Names {
         found: RecordPlace,
     ) -> Result<bool, AllocError>
         ensures added { (name : Bytes) → short_number name ≡ Some number → HasNoSlot self.old name → IfOk result (AddsRecord self.old self.new (Some name) found) }
-        ensures keyed { (key : ℕ) → HasKey self.old key → HasKey self.new key }
+        ensures keyed { (hasher_of {S = KeyedNumbers} self.new.short).key ≡ (hasher_of {S = KeyedNumbers} self.old.short).key }
         ensures held { (names : List (Option Bytes)) (name : Bytes) → short_number name ≡ Some number → IsAmong (Some name) names
-            → HoldsOf names self.old → OnOk result (HoldsOf names self.new) }
+            → HoldsShort names self.old → OnOk result (HoldsShort names self.new) }
+        ensures long { self.new.long ≡ self.old.long }
     {
         let before = self.short.insert(number, found)?;
         Ok(before.is_none())
@@ -318,8 +321,9 @@ impl Names {
     ) -> Result<bool, AllocError>
         requires { short_number name.now ≡ None }
         ensures added { IfOk result (AddsRecord self.old self.new (Some name.now) found) }
-        ensures keyed { (key : ℕ) → HasKey self.old key → HasKey self.new key }
-        ensures held { (names : List (Option Bytes)) → IsAmong (Some name.now) names → HoldsOf names self.old → OnOk result (HoldsOf names self.new) }
+        ensures keyed { (hasher_of {S = Keyed} self.new.long).key ≡ (hasher_of {S = Keyed} self.old.long).key }
+        ensures held { (names : List (Option Bytes)) → IsAmong (Some name.now) names → HoldsLong names self.old → OnOk result (HoldsLong names self.new) }
+        ensures short { self.new.short ≡ self.old.short }
     {
         let key = String::from_str(alloc, name)?;
         let before = self.long.insert(key, found)?;

@@ -9,19 +9,22 @@ ghost use Rattle.ged_link.specs.Links.{IsAmong, Resolved, identifiers};
 ghost use Rattle.ged_link.specs.LinkFaults.{HasLinkFault, IsRepeated};
 ghost use Rattle.ged_link.specs.Places.{ArePlaces};
 ghost use Rattle.ged_link.specs.Indexes.{IsIndexOf, AreRecords, AreTyped, found_in};
-ghost use Rattle.ged_link.specs.inner.Indexes.{HasKey, HasNoOthers, IsKeyed, IsKeyedFrom};
-ghost use Rattle.ged_link.specs.inner.Keys.{names_key as key_of_names};
+ghost use Rattle.ged_line.specs.Bytes.{Bytes};
+ghost use Rattle.ged_link.specs.NameNumbers.{short_number};
+ghost use Rattle.std.specs.HashMap.{hasher_of};
+ghost use Rattle.ged_link.specs.declared.keys.KeyedNumbers.{KeyedNumbers};
+ghost use Rattle.ged_link.specs.inner.Indexes.{HoldsShort, IsKeyed, IsKeyedShort, numbers_key as key_of_numbers};
 ghost use Rattle.ged_link.specs.inner.Listing.{listed_halves, listed_digits, all_halves, all_digits, IsListedFrom, AreTypesOf, IsRecordList};
 ghost use Rattle.ged_link.specs.inner.PairSets.{lists_have};
 ghost use Rattle.ged_link.specs.inner.PointerLists.{pointers as all_pointers, AreListedFirst};
 ghost use Rattle.ged_link.specs.inner.Resolving.{AddsRecord};
-ghost use Rattle.ged_link.specs.inner.Slots.{IsMissed};
+ghost use Rattle.ged_link.specs.inner.Slots.{HasNoSlot, IsMissed};
 ghost use Rattle.ged_link.specs.declared.pairs.Role.{Role};
 ghost use Rattle.ged_link.specs.declared.fault.LinkFault.TheVariants.{Memory};
 
 use crate::fault::LinkFault;
 use crate::index::{Index, RecordPlace};
-use crate::keys::names_key;
+use crate::keys::numbers_key;
 use crate::layout::slots_for;
 use crate::link_lists::LinkLists;
 use crate::links::find_one_way;
@@ -101,31 +104,33 @@ fn resolve_listed<F: Forest>(
     })
 }
 
-/// Gives the maps, where they are empty, their key: that of all names from a record's own on. Takes memory for the long ones, which
-/// are counted here, since in most files each name has a slot.
-fn begin_others<F: Forest>(
-    alloc: Global,
-    forest: &F,
-    end: usize,
-    records: &mut Names,
-    listed: ListedNames<'_>,
-    first: RecordPlace,
-) -> Result<(), AllocError>
-    requires run { IsRunOfTrees (F.trees forest.now) first.place end }
-    requires listed { IsListedFrom (F.trees forest.now) listed first.number first.place end }
-    requires named { IsAmong (Some []) (identifiers (trees_between (F.trees forest.now) first.place end)) → ⊥ }
+/// Gives the map of numbers, where it is empty, its key: that of all numbers, which are read here, since in most files each name has a slot.
+fn begin_short(alloc: Global, records: &mut Names, list: &RecordList)
     ensures same { (name : _) → found_in records.new name ≡ found_in records.old name }
     ensures slots { records.new.slots ≡ records.old.slots }
-    ensures key { HasNoOthers records.old → OnOk result (HasKey records.new (key_of_names (identifiers (trees_between (F.trees forest.now) first.place end)))) }
-    ensures stays { (HasNoOthers records.old → ⊥) → records.new ≡ records.old }
-    ensures keyed { IsKeyed (F.trees forest.now) first.place end records.old
-        → OnOk result ((begun : ℕ) × IsKeyedFrom (F.trees forest.now) begun first.place end records.new) }
+    ensures long { records.new.long ≡ records.old.long }
+    ensures keyed { (names : List (Option Bytes)) → all_halves list.now ≡ map listed_halves names → IsKeyedShort names records.old
+        → ((hasher_of {S = KeyedNumbers} records.new.short).key ≡ key_of_numbers names) × HoldsShort names records.new }
 {
-    if records.has_no_others() {
-        let key = names_key(forest, listed, first, end);
-        records.set_key(alloc, key, listed.list.long_names())?;
+    if records.have_slots() {
+        records.set_key(alloc, numbers_key(list));
     }
-    Ok(())
+}
+
+/// Adds a record by the number of its name, which has no slot. The answer is whether no record had it. Grows.
+fn add_short(
+    alloc: Global,
+    records: &mut Names,
+    list: &RecordList,
+    number: u64,
+    found: RecordPlace,
+) -> Result<bool, AllocError>
+    ensures added { (name : Bytes) → short_number name ≡ Some number → HasNoSlot records.old name → IfOk result (AddsRecord records.old records.new (Some name) found) }
+    ensures keyed { (names : List (Option Bytes)) (name : Bytes) → all_halves list.now ≡ map listed_halves names → short_number name ≡ Some number
+        → IsAmong (Some name) names → IsKeyed names records.old → OnOk result (IsKeyed names records.new) }
+{
+    begin_short(alloc, records, list);
+    records.insert_short(number, found)
 }
 
 /// Adds a record whose name has no slot: by the number that is listed of the name, or where that is 0, by the name, which is read
@@ -135,24 +140,19 @@ fn begin_others<F: Forest>(
 fn add_other<F: Forest>(
     alloc: Global,
     forest: &F,
-    end: usize,
     records: &mut Names,
-    listed: ListedNames<'_>,
+    list: &RecordList,
     number: u64,
     found: RecordPlace,
 ) -> Result<bool, AllocError>
     requires within { found.place < trees_count (F.trees forest.now) }
-    requires run { IsRunOfTrees (F.trees forest.now) found.place end }
-    requires among { IsAmong (structure_at (F.trees forest.now) found.place).xref (identifiers (trees_between (F.trees forest.now) found.place end)) }
-    requires listed { IsListedFrom (F.trees forest.now) listed found.number found.place end }
-    requires named { IsAmong (Some []) (identifiers (trees_between (F.trees forest.now) found.place end)) → ⊥ }
     requires missed { IsMissed records.old number (structure_at (F.trees forest.now) found.place).xref }
     ensures added { IfOk result (AddsRecord records.old records.new (structure_at (F.trees forest.now) found.place).xref found) }
-    ensures keyed { IsKeyed (F.trees forest.now) found.place end records.old → OnOk result (IsKeyed (F.trees forest.now) found.place end records.new) }
+    ensures keyed { (names : List (Option Bytes)) → all_halves list.now ≡ map listed_halves names → IsAmong (structure_at (F.trees forest.now) found.place).xref names
+        → IsKeyed names records.old → OnOk result (IsKeyed names records.new) }
 {
-    begin_others(alloc, forest, end, records, listed, found)?;
     if number != 0 {
-        return records.insert_short(number, found);
+        return add_short(alloc, records, list, number, found);
     }
     match forest.xref(found.place) {
         Some(name) => records.insert_long(alloc, name, found),
@@ -166,28 +166,25 @@ fn add_other<F: Forest>(
 fn add_record<F: Forest>(
     alloc: Global,
     forest: &F,
-    end: usize,
     records: &mut Names,
     listed: ListedNames<'_>,
     found: RecordPlace,
 ) -> Result<bool, AllocError>
-    requires run { IsRunOfTrees (F.trees forest.now) found.place end }
-    requires first { (after : ℕ) × IsStep (F.trees forest.now) found.place end after }
-    requires listed { IsListedFrom (F.trees forest.now) listed found.number found.place end }
-    requires named { IsAmong (Some []) (identifiers (trees_between (F.trees forest.now) found.place end)) → ⊥ }
+    requires listed { (end after : ℕ) × IsStep (F.trees forest.now) found.place end after × IsListedFrom (F.trees forest.now) listed found.number found.place end }
+    requires named { (structure_at (F.trees forest.now) found.place).xref ≡ Some [] → ⊥ }
     ensures added { IfOk result (AddsRecord records.old records.new (structure_at (F.trees forest.now) found.place).xref found) }
-    ensures keyed { IsKeyed (F.trees forest.now) found.place end records.old → OnOk result (IsKeyed (F.trees forest.now) found.place end records.new) }
+    ensures keyed { (names : List (Option Bytes)) → all_halves listed.entry.list.now ≡ map listed_halves names → IsAmong (structure_at (F.trees forest.now) found.place).xref names
+        → IsKeyed names records.old → OnOk result (IsKeyed names records.new) }
 {
     let name = listed.name_at(found.number);
     match records.keep_listed(name, found) {
         Some(is_new) => Ok(is_new),
-        None => add_other(alloc, forest, end, records, listed, name.number, found),
+        None => add_other(alloc, forest, records, listed.list, name.number, found),
     }
 }
 
 /// Adds all records, which are from a place up to the end, by what is listed of their identifiers, and answers their places; or the
-/// fault of the first record whose identifier an earlier one has. No identifier is read again but the long ones, once for the
-/// key of the maps ([`names_key`]) and once to be kept.
+/// fault of the first record whose identifier an earlier one has. No identifier is read again but the long ones, to be kept.
 fn add_records<F: Forest>(
     alloc: Global,
     forest: &F,
@@ -203,9 +200,9 @@ fn add_records<F: Forest>(
     requires names { all_halves list.now ≡ map listed_halves (identifiers (records_of (F.trees forest.now))) }
     requires digits { all_digits list.now ≡ map listed_digits (identifiers (records_of (F.trees forest.now))) }
     requires none { (name : _) → found_in records.old name ≡ None }
-    requires others { HasNoOthers records.old }
+    requires keyed { IsKeyed (identifiers (records_of (F.trees forest.now))) records.old }
     ensures records { OnOk result (AreRecords (F.trees forest.now) records.new) }
-    ensures keyed { OnOk result (IsKeyed (F.trees forest.now) end end records.new) }
+    ensures keyed { OnOk result (IsKeyed (identifiers (records_of (F.trees forest.now))) records.new) }
     ensures types { (types : List (Option RecordType)) → AreTypesOf types (records_of (F.trees forest.now)) → OnOk result (AreTyped (F.trees forest.now) records.new types) }
     ensures places { IfOk result (λ places. ArePlaces (F.trees forest.now) places.items) }
     ensures distinct { OnOk result ((place : ℕ) → IsRepeated (F.trees forest.now) place → ⊥) }
@@ -222,7 +219,7 @@ fn add_records<F: Forest>(
     let mut number: usize = 0;
     while let Some(after) = next_in_run(forest, place, end) {
         let found = RecordPlace { number, place };
-        match add_record(alloc, forest, end, records, listed, found) {
+        match add_record(alloc, forest, records, listed, found) {
             Ok(true) => {}
             Ok(false) => return Err(LinkFault::Duplicate(forest.line(place))),
             Err(_) => return Err(LinkFault::Memory(AllocError)),
@@ -260,8 +257,7 @@ fn find_records<F: Forest>(
     requires document { is_document (F.trees forest.now) ≡ true }
     requires list { IsRecordList (F.trees forest.now) list }
     ensures records { IfOk result (λ found. AreRecords (F.trees forest.now) found.names) }
-    ensures keyed { IfOk result (λ found. IsKeyed (F.trees forest.now) (trees_count (F.trees forest.now))
-        (trees_count (F.trees forest.now)) found.names) }
+    ensures keyed { IfOk result (λ found. IsKeyed (identifiers (records_of (F.trees forest.now))) found.names) }
     ensures types { IfOk result (λ found. AreTyped (F.trees forest.now) found.names found.types.items) }
     ensures places { IfOk result (λ found. ArePlaces (F.trees forest.now) found.places.items) }
     ensures none { IfOk result (λ found. (role : Role) (pair : ℕ × ℕ) → lists_have found.none role pair ≡ false) }
@@ -271,7 +267,7 @@ fn find_records<F: Forest>(
 {
     let start = first_record(forest, end);
     let slots = slots_for(alloc, &list.tallies)?;
-    let mut names = Names::new(alloc, slots);
+    let mut names = Names::new(alloc, slots, &list.long)?;
     let places = add_records(alloc, forest, start, end, &list, &mut names)?;
     Ok(FoundRecords {
         names,

@@ -57,23 +57,22 @@ impl<'f, F: Forest> Writer<'_, 'f, F> {
 fn are_alike<F: Forest, G: Forest>(
     first: &Writer<'_, '_, F>,
     siblings: &[RankedSibling],
-    work: &mut Work,
     second: &Writer<'_, '_, G>,
     others: &[RankedSibling],
-    other_work: &mut Work,
 ) -> Result<bool, AllocError>
     requires first { CanWriteRecords (is_named (F.trees first.now.forest.now)) first.now.plan.edition (F.trees first.now.forest.now) siblings.now }
     requires second { CanWriteRecords (is_named (G.trees second.now.forest.now)) second.now.plan.edition (G.trees second.now.forest.now) others.now }
     requires count { length siblings.now ≡ length others.now }
-    requires empty { written first.now.plan.file.now work.old.answer ≡ [] }
-    requires other_empty { written second.now.plan.file.now other_work.old.answer ≡ [] }
     ensures { IfOk result (TellsSame (F.trees first.now.forest.now) first.now.plan siblings.now (G.trees second.now.forest.now) second.now.plan others.now) }
 {
-    let mut name = String::new(first.plan.alloc);
+    let alloc = first.plan.alloc;
+    let mut work = Work::new(alloc, Answer::none(alloc));
+    let mut other_work = Work::new(alloc, Answer::none(alloc));
+    let mut name = String::new(alloc);
     let mut number = 0;
     while number < siblings.len() {
-        let form = first.take_record(siblings[number], &mut name, work)?;
-        let other = second.take_record(others[number], &mut name, other_work)?;
+        let form = first.take_record(siblings[number], &mut name, &mut work)?;
+        let other = second.take_record(others[number], &mut name, &mut other_work)?;
         if !form.has_bytes_of(&other) {
             return Ok(false);
         }
@@ -132,14 +131,5 @@ pub fn have_same_form<F: Forest, G: Forest>(
         lines: second.forest.bare_lines(),
         window: Window { start: 0, end: 0 },
     };
-    let mut work = Work::new(alloc, Answer::none(alloc));
-    let mut other_work = Work::new(alloc, Answer::none(alloc));
-    are_alike(
-        &writer,
-        siblings,
-        &mut work,
-        &other_writer,
-        others,
-        &mut other_work,
-    )
+    are_alike(&writer, siblings, &other_writer, others)
 }

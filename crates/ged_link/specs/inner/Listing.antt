@@ -5,6 +5,8 @@ use Rattle.ged_line.specs.Bytes.{Bytes}
 use Rattle.ged_tree.specs.Trees.{Trees, none, tree, records_of}
 use Rattle.ged_tree.specs.Runs.{trees_between}
 use Rattle.ged_link.specs.Links.{identifiers}
+use Rattle.std.specs.Hash.DefaultHasher.{initial}
+use Rattle.ged_link.specs.inner.Keys.{fed_long}
 use Rattle.ged_link.specs.inner.Layout.{counted, no_names}
 use Rattle.ged_link.specs.NameNumbers.{short_number}
 use Rattle.ged_link.specs.Slots.{number_read}
@@ -71,3 +73,4 @@ pub record IsRecordList (d : Trees) (list : RecordList) : Type 0 where
   pub names : all_halves list ≡ map listed_halves (identifiers (records_of d))
   pub digits : all_digits list ≡ map listed_digits (identifiers (records_of d))
   pub types : AreTypesOf list.types.items (records_of d)
+  pub long : list.long.hasher ≡ fold fed_long initial (identifiers (records_of d))

@@ -6,6 +6,8 @@ use Rattle.std.specs.Str.{bytes_eq}
 use Rattle.ged_line.specs.Bytes.{Bytes}
 use Rattle.ged_line.specs.Lines.{LineParts}
 use Rattle.ged_link.specs.RecordTypes.{IsTypeOf}
+use Rattle.std.specs.Hash.DefaultHasher.{initial}
+use Rattle.ged_link.specs.inner.Keys.{fed_long}
 use Rattle.ged_link.specs.inner.Layout.{counted, no_names}
 use Rattle.ged_link.specs.inner.Listing.{listed_halves, listed_digits, all_halves, all_digits}
 use Rattle.ged_link.specs.inner.PointerLists.{line_pointers, AreListedPointers}
@@ -34,6 +36,7 @@ pub record AreListed (list : RecordList) (lines : List LineParts) : Type 0 where
   pub names : all_halves list ≡ map listed_halves (map (λ line. line.xref) lines)
   pub digits : all_digits list ≡ map listed_digits (map (λ line. line.xref) lines)
   pub types : AreTypesByTags list.types.items lines
+  pub long : list.long.hasher ≡ fold fed_long initial (map (λ line. line.xref) lines)
 
 -- the lines were read, and their pointers are listed
 abbrev pub HasListed : RecordReader → List LineParts → Type 0

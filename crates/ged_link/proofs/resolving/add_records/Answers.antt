@@ -1,17 +1,17 @@
-use Rattle.std.proofs.Common.{◌≡◌, ◌+◌, ℕ, List, None, true, false, inr, inl, sym, ap, ◌∙◌, ◌++◌, refl, arith, subst, map, slice_index_or, drop}
+use Rattle.std.proofs.Common.{◌≡◌, ◌+◌, ℕ, List, Option, None, true, false, inr, inl, sym, ap, ◌∙◌, ◌++◌, refl, arith, subst, map, slice_index_or, drop}
 use Rattle.ged_tree.specs.Places.{structure_at}
 use Rattle.ged_tree.specs.Trees.{Trees, trees_count, records_of}
 use Rattle.ged_tree.specs.Documents.{are_at}
 use Rattle.ged_tree.specs.Runs.{trees_between, IsStep}
-use Rattle.ged_link.specs.Links.{identifiers}
+use Rattle.ged_line.specs.Bytes.{Bytes}
+use Rattle.ged_link.specs.Links.{IsAmong, identifiers}
 use Rattle.ged_link.specs.declared.names.Names.{Names}
 use Rattle.ged_link.specs.declared.index.RecordPlace.{RecordPlace}
 use Rattle.ged_link.specs.Places.{places_from, record_places, place_kept}
 use Rattle.ged_link.specs.RecordTypes.{IsTypeOf}
-use Rattle.ged_link.specs.inner.Indexes.{IsKeyed}
 use Rattle.ged_link.specs.inner.Listing.{listed_halves, listed_digits, AreTypesOf}
 use Rattle.ged_link.specs.inner.Resolving.{AddsRecord}
-use Rattle.ged_link.proofs.KeyLemmas.{none_empty, keyed_next}
+use Rattle.ged_link.proofs.KeyLemmas.{among_left, among_here, none_empty}
 use Rattle.ged_link.proofs.KeptPlaces.{places_start, places_next, places_end}
 use Rattle.ged_link.proofs.ListingLemmas.{listed_next, types_next}
 use Rattle.ged_link.proofs.RecordLemmas.{left_after, level_next, number_within, records_start, records_level, records_next, records_all, repeated_here, none_repeated_all, typed_start, typed_next}
@@ -35,7 +35,7 @@ loop-after-init g c =
       fits = omega arith;
       found = records_start w c.requires.document c.args.start c.args.end c.requires.end c.requires.run is c.args.records.now c.requires.none;
       typed = λ types are. (subst (AreTypesOf types) (sym is) are, typed_start w c.args.records.now types c.requires.none);
-      keyed = inl c.requires.others;
+      keyed = c.requires.keyed;
       placed =
           let sum : c.args.start + trees_count (records_of w) ≡ trees_count w = rw (is, c.requires.end) at c.requires.run.fills in
           ap (λ (ps : List ℕ). ps ++ map place_kept (places_from c.args.start (trees_between w c.args.start c.args.end))) c.in-Ok.ensures.items
@@ -80,7 +80,9 @@ loop-after-preserved g c =
           let next : IsTypeOf (slice_index_or types k None) here.tag × AreTypesOf (drop (k + 1) types) (trees_between w a e) =
           types_next types k (trees_between w p e) here (trees_between w (p + 1) a) (trees_between w a e) step.first before.0 in
           (next.1, typed_next w p e a k step inv.left inv.level old new types one refl refl next.0 adds before.1);
-      keyed = keyed_next w p e a new step (c.in-Ok-true.ensures.keyed inv.keyed);
+      keyed =
+          let left = inv.left ∙ ap identifiers step.first in
+          c.in-Ok-true.ensures.keyed (identifiers (records_of w)) c.requires.names (among_left (identifiers (records_of w)) k here.xref (identifiers (trees_between w a e)) left) inv.keyed;
       placed = ap (λ (ps : List ℕ). ps ++ map place_kept (places_from a (trees_between w a e))) c.in-Ok-push_place.ensures
           ∙ places_next w p e a step c.loop-after.places.items (map place_kept (record_places w)) inv.placed;
     }
@@ -101,11 +103,14 @@ returns-clause-distinct g c =
     none_repeated_all w c.loop-after.place c.loop-after.number c.args.end c.loop-after.records c.requires.end inv.run c.in_default-next_in_run.ensures inv.found
 
 pub add_record-requires-clause-named : goal.add_record-requires-clause-named
-add_record-requires-clause-named g c =
-    none_empty (trees_between (g.F.Forest.trees c.args.forest.now) c.loop-after.place c.args.end) c.loop-after.invariant.level
+add_record-requires-clause-named g c is =
+    let w = g.F.Forest.trees c.args.forest.now in
+    let p = c.loop-after.place in
+    let left = trees_between w p c.args.end in
+    none_empty left c.loop-after.invariant.level (subst (λ (xref : Option Bytes). IsAmong xref (identifiers left)) is (among_here w p c.args.end c.in-Some.after c.in-Some.ensures))
 
-pub add_record-requires-clause-first : goal.add_record-requires-clause-first
-add_record-requires-clause-first g c = (c.in-Some.after, c.in-Some.ensures)
+pub add_record-requires-clause-listed : goal.add_record-requires-clause-listed
+add_record-requires-clause-listed g c = (c.args.end, c.in-Some.after, c.in-Some.ensures, c.loop-after.invariant.listed)
 
 pub returns-in_default-clause-records : goal.returns-in_default-clause-records
 returns-in_default-clause-records g c = tt
@@ -180,10 +185,7 @@ pub returns-clause-fault : goal.returns-clause-fault
 returns-clause-fault g c = tt
 
 pub returns-clause-keyed : goal.returns-clause-keyed
-returns-clause-keyed g c =
-    let inv = c.loop-after.invariant in
-    let at_end : c.loop-after.place ≡ c.args.end = let f : c.loop-after.place + 0 ≡ c.args.end = rw c.in_default-next_in_run.ensures at inv.run.fills in omega arith in
-    subst (λ (place : ℕ). IsKeyed (g.F.Forest.trees c.args.forest.now) place c.args.end c.loop-after.records) at_end inv.keyed
+returns-clause-keyed g c = c.loop-after.invariant.keyed
 
 pub returns-clause-places : goal.returns-clause-places
 returns-clause-places g c =

@@ -23,7 +23,7 @@ invariant-loop-after g l =
       fits : l.number ≤ l.place;
       found : AreRecordsBefore trees l.place l.number l.records;
       typed : (types : List (Option RecordType)) → AreTypesOf types (records_of trees) → AreTypesOf (drop l.number types) (trees_between trees l.place l.end) × AreTyped trees l.records types;
-      keyed : IsKeyed trees l.place l.end l.records;
+      keyed : IsKeyed (identifiers (records_of trees)) l.records;
       placed : l.places.items ++ map place_kept (places_from l.place (trees_between trees l.place l.end)) ≡ map place_kept (record_places trees);
     }
 

@@ -27,7 +27,7 @@ returns-clause-held c names among =
     let old : Names = c.args.self.now in
     let new : Names = record { slots = old.slots; short = old.short; long = c.insert.new.self } in
     let updates = hash_map_updates_text (string_bytes c.in_ok-key.key) old.long new.long (Some c.args.found) c.in_ok-before.ensures.updates in
-    holds_long old new names c.args.name.now c.args.found among (λ other. subst
+    holds_long names old new c.args.name.now c.args.found among (λ other. subst
     (λ (bytes : Bytes). get_by_text new.long other ≡ (if bytes_eq bytes other then Some c.args.found else get_by_text old.long other))
     c.in_ok-key.ensures.ok
-    (updates other)) refl
+    (updates other))

@@ -17,4 +17,4 @@ pub returns-clause-held : goal.returns-clause-held
 returns-clause-held c names name is among =
     let old : Names = c.args.self.now in
     let new : Names = record { slots = old.slots; short = c.insert.new.self; long = old.long } in
-    holds_short old new names name c.args.found c.args.number is among c.in_ok-before.ensures.updates.0 refl
+    holds_short names old new name c.args.found among c.args.number is c.in_ok-before.ensures.updates.0

@@ -1,5 +1,6 @@
 use Rattle.std.proofs.Common.{sym, ap, ◌∙◌, Option, [], ◌∷◌, ◌++◌}
 use Rattle.ged_line.specs.Bytes.{Bytes}
+use Rattle.ged_link.specs.inner.Keys.{fed_long}
 use Rattle.ged_link.specs.inner.Layout.{counted}
 use Rattle.ged_link.specs.inner.Listing.{listed_halves, listed_digits, all_halves, all_digits}
 use Rattle.ged_link.proofs.RecordLineLemmas.{listed_more}
@@ -13,4 +14,6 @@ returns-clause-records c lines line xref tag listed =
     (pushed.tallies ∙ ap (λ (x : Option Bytes). counted old.tallies.items x) (sym xref))
     (pushed.names ∙ ap (λ (x : Option Bytes). all_halves old ++ listed_halves x ∷ []) (sym xref))
     (λ even. pushed.digits even ∙ ap (λ (x : Option Bytes). all_digits old ++ listed_digits x ∷ []) (sym xref))
-    pushed.types listed
+    pushed.types
+    (pushed.long ∙ ap (fed_long old.long.hasher) (sym xref))
+    listed
