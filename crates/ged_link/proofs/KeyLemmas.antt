@@ -4,7 +4,7 @@ use Rattle.std.specs.Bool.{if◌then◌else◌, Decides}
 use Rattle.std.specs.Str.{bytes_eq}
 use Rattle.std.specs.Hash.DefaultHasher.{initial}
 use Rattle.std.specs.declared.hash.DefaultHasher.{DefaultHasher}
-use Rattle.std.specs.HashMap.{get, get_by_text, hasher_of, hash_map_len}
+use Rattle.std.specs.HashMap.{get, hasher_of, hash_map_len}
 use Rattle.std.proofs.lemmas.Slice.Eq.{bytes_eq-Decides}
 use Rattle.std.proofs.lemmas.Bool.Decides.{nat_tests}
 use Rattle.std.proofs.lemmas.List.Sums.{fold-append}
@@ -14,17 +14,18 @@ use Rattle.ged_tree.specs.Documents.{are_at}
 use Rattle.ged_tree.specs.Places.{structure_at}
 use Rattle.ged_tree.specs.Runs.{trees_between, IsStep}
 use Rattle.ged_link.specs.declared.index.RecordPlace.{RecordPlace}
-use Rattle.ged_link.specs.declared.keys.Keyed.{Keyed}
 use Rattle.ged_link.specs.declared.keys.KeyedNumbers.{KeyedNumbers}
 use Rattle.ged_link.specs.declared.listing.RecordList.{RecordList}
 use Rattle.ged_link.specs.declared.names.Names.{Names}
 use Rattle.ged_link.specs.Links.{IsAmong, identifiers}
+use Rattle.ged_link.specs.declared.records_by_text.RecordsByText.{RecordsByText}
+use Rattle.ged_link.specs.TextRecords.{found_by_text}
 use Rattle.ged_link.specs.NameNumbers.{short_number}
 use Rattle.ged_link.specs.inner.Indexes.{HoldsShort, HoldsLong, IsKeyed, IsKeyedShort, IsKeyedLong, numbers_key}
 use Rattle.ged_link.specs.inner.Keys.{fed_number, texts_key}
 use Rattle.ged_link.specs.inner.Listing.{listed_halves, all_halves, unnamed_in}
 use Rattle.ged_link.proofs.LinkLemmas.{level_parts, never_empty}
-use Rattle.ged_link.proofs.NameLemmas.{none_short, none_long}
+use Rattle.ged_link.proofs.NameLemmas.{none_short}
 
 -- of records without a name nothing is written to the hasher of a key
 none_fed : (n : ℕ) (hasher : DefaultHasher) → fold fed_number hasher (replicate n (0, 0)) ≡ hasher
@@ -51,12 +52,19 @@ module _ (names : List (Option Bytes)) (old new : Names) where
         go false e h = held n other h
 
     -- as a text
-    pub holds_long : ((n : Bytes) → get_by_text new.long n ≡ (if bytes_eq name n then Some found else get_by_text old.long n)) → HoldsLong names old → HoldsLong names new
+    holds_long : ((n : Bytes) → found_by_text new.long n ≡ (if bytes_eq name n then Some found else found_by_text old.long n)) → HoldsLong names old → HoldsLong names new
     holds_long updates held n at has = go (bytes_eq name n) (bytes_eq-Decides name n) (sym (updates n) ∙ has)
       where
-        go : (same : Bool) → Decides same (name ≡ n) → (if same then Some found else get_by_text old.long n) ≡ Some at → IsAmong (Some n) names
+        go : (same : Bool) → Decides same (name ≡ n) → (if same then Some found else found_by_text old.long n) ≡ Some at → IsAmong (Some n) names
         go true d h = let f : name ≡ n = search rules in subst (λ (m : Bytes). IsAmong (Some m) names) f among
         go false d h = held n at h
+
+    -- by what a table of texts answers
+    pub held_long : {E : Type 0} (r : Result Bool E) → (r ≡ Ok true → (n : Bytes) → found_by_text new.long n ≡ (if bytes_eq name n then Some found else found_by_text old.long n))
+        → (r ≡ Ok false → new.long ≡ old.long) → HoldsLong names old → OnOk r (HoldsLong names new)
+    held_long (Ok true) added same held = holds_long (added refl) held
+    held_long (Ok false) added same held = λ n at has. held n at (sym (ap (λ (records : RecordsByText). found_by_text records n) (same refl)) ∙ has)
+    held_long (Err error) added same held = tt
 
   same_short : new.short ≡ old.short → IsKeyedShort names old → IsKeyedShort names new
   same_short short (inl empty) = inl (ap hash_map_len short ∙ empty)
@@ -67,8 +75,8 @@ module _ (names : List (Option Bytes)) (old new : Names) where
 
   pub same_long : new.long ≡ old.long → IsKeyedLong names old → IsKeyedLong names new
   same_long long is = (
-    ap (λ records. (hasher_of {S = Keyed} records).key) long ∙ is.0,
-    λ name found has. is.1 name found (sym (ap (λ records. get_by_text records name) long) ∙ has),
+    ap (λ (records : RecordsByText). records.key) long ∙ is.0,
+    λ name found has. is.1 name found (sym (ap (λ records. found_by_text records name) long) ∙ has),
   )
 
   -- the same maps, whatever the slots hold
@@ -80,7 +88,7 @@ module _ (names : List (Option Bytes)) (old new : Names) where
   keyed_short (Ok is_new) long key is held = (inr (key, held), same_long long is.1)
   keyed_short (Err error) long key is held = tt
 
-  pub keyed_long : {E : Type 0} (r : Result Bool E) → new.short ≡ old.short → (hasher_of {S = Keyed} new.long).key ≡ (hasher_of {S = Keyed} old.long).key → IsKeyed names old → OnOk r (HoldsLong names new) → OnOk r (IsKeyed names new)
+  pub keyed_long : {E : Type 0} (r : Result Bool E) → new.short ≡ old.short → new.long.key ≡ old.long.key → IsKeyed names old → OnOk r (HoldsLong names new) → OnOk r (IsKeyed names new)
   keyed_long (Ok is_new) short key is held = (same_short short is.0, (key ∙ is.1.0, held))
   keyed_long (Err error) short key is held = tt
 
@@ -93,10 +101,10 @@ kept_short names records some (inl empty) = absurd (some empty)
 kept_short names records some (inr is) = is
 
 -- maps that are empty
-pub keyed_none : (names : List (Option Bytes)) (records : Names) → hash_map_len records.short ≡ 0 → hash_map_len records.long ≡ 0 → (hasher_of {S = Keyed} records.long).key ≡ texts_key names → IsKeyed names records
+pub keyed_none : (names : List (Option Bytes)) (records : Names) → hash_map_len records.short ≡ 0 → ((name : Bytes) → found_by_text records.long name ≡ None) → records.long.key ≡ texts_key names → IsKeyed names records
 keyed_none names records short long key = (
   inl short,
-  (key, λ name found has. absurd (let f = none_long records long name in let g : None ≡ Some found = sym f ∙ has in cc)),
+  (key, λ name found has. absurd (let f = long name in let g : None ≡ Some found = sym f ∙ has in cc)),
 )
 
 -- the next of the names that are left is among all

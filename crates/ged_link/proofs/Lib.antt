@@ -4,6 +4,7 @@ pub mod TypeWalks
 pub mod PairLemmas
 pub mod PlaceCases
 pub mod LinkLemmas
+pub mod TextLemmas
 pub mod NameLemmas
 pub mod CountLemmas
 pub mod KeyLemmas

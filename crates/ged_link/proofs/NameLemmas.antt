@@ -5,7 +5,7 @@ use Rattle.std.specs.Char.{is_ascii_digit}
 use Rattle.std.specs.Option.{option_or}
 use Rattle.std.specs.List.{list_all}
 use Rattle.std.specs.Str.{bytes_eq}
-use Rattle.std.specs.HashMap.{get, get_by_text, hash_map_len}
+use Rattle.std.specs.HashMap.{get, hash_map_len}
 use Rattle.std.proofs.lemmas.Slice.Eq.{bytes_eq-Decides}
 use Rattle.std.proofs.lemmas.Bool.Decides.{nat_tests}
 use Rattle.ged_line.specs.Bytes.{Bytes}
@@ -15,6 +15,7 @@ use Rattle.ged_link.specs.NameNumbers.{name_number, digits_number, number_up_to,
 use Rattle.ged_link.specs.declared.slots.Slots.{Slots}
 use Rattle.ged_link.specs.Indexes.{found_in, found_by, found_short, first_of}
 use Rattle.ged_link.specs.Slots.{kept_in, slot_in}
+use Rattle.ged_link.specs.TextRecords.{found_by_text}
 use Rattle.ged_link.specs.inner.Slots.{KeepsIn, kept_at}
 use Rattle.ged_link.specs.inner.Resolving.{AddsName, AddsRecord}
 use Rattle.ged_link.proofs.LinkLemmas.{both}
@@ -265,9 +266,6 @@ nothing (x ∷ xs) e = absurd (omega (arith, e))
 pub none_short : (records : Names) → hash_map_len records.short ≡ 0 → (n : ℕ) → get nat_eq records.short n ≡ None
 none_short records e n = let f = nothing records.short.entries e in search rules
 
-pub none_long : (records : Names) → hash_map_len records.long ≡ 0 → (name : Bytes) → get_by_text records.long name ≡ None
-none_long records e name = let f = nothing records.long.entries e in search rules
-
 -- so a map of numbers that is empty may be replaced by another that is
 pub same_names : (old new : Names) → hash_map_len old.short ≡ 0 → hash_map_len new.short ≡ 0 → new.long ≡ old.long → new.slots ≡ old.slots → (name : Bytes) → found_in new name ≡ found_in old name
 same_names old new h k long same name = go (short_number name)
@@ -275,7 +273,12 @@ same_names old new h k long same name = go (short_number name)
     go : (o : Option ℕ) → found_by new name o ≡ found_by old name o
     go (Some n) =
         ap (first_of (kept_in new.slots name n)) (none_short new k n) ∙ ap (λ (slots : Slots). first_of (kept_in slots name n) None) same ∙ ap (first_of (kept_in old.slots name n)) (sym (none_short old h n))
-    go None = ap (λ records. get_by_text records name) long
+    go None = ap (λ records. found_by_text records name) long
+
+-- no long name is empty
+pub not_empty : (name : Bytes) → short_number name ≡ None → 0 < length name
+not_empty [] e = absurd (cc)
+not_empty (b ∷ bs) e = omega arith
 
 -- the answer of a test that there is none
 pub told_none : (told : Bool) (o : Option RecordPlace) → is_some o ≡ not told → told ≡ is_none o
@@ -298,12 +301,12 @@ module _ (old new : Names) (name : Bytes) (found : RecordPlace) where
           none_some : (o : Option ℕ) → o ≡ Some number → o ≡ None → ⊥
           none_some o h k = absurd (let f : None ≡ Some number = sym k ∙ h in cc)
 
-          not_here : (same : Bool) → Decides same (name ≡ other) → get_by_text new.long other ≡ (if same then Some found else get_by_text old.long other)
-          not_here false d = ap (λ records. get_by_text records other) kept
+          not_here : (same : Bool) → Decides same (name ≡ other) → found_by_text new.long other ≡ (if same then Some found else found_by_text old.long other)
+          not_here false d = ap (λ records. found_by_text records other) kept
           not_here true d = let f : name ≡ other = search rules in absurd (none_some (short_number other) (sym (ap short_number f) ∙ is) other_is)
 
   -- as a text
-  pub added_long : short_number name ≡ None → ((n : Bytes) → get_by_text new.long n ≡ (if bytes_eq name n then Some found else get_by_text old.long n)) → new.short ≡ old.short → new.slots ≡ old.slots → AddsName old new name found
+  pub added_long : short_number name ≡ None → ((n : Bytes) → found_by_text new.long n ≡ (if bytes_eq name n then Some found else found_by_text old.long n)) → new.short ≡ old.short → new.slots ≡ old.slots → AddsName old new name found
   added_long is updates kept slots_kept other = go (short_number other) refl
     where
       go : (o : Option ℕ) → short_number other ≡ o → found_by new other o ≡ (if bytes_eq name other then Some found else found_by old other o)
@@ -316,6 +319,16 @@ module _ (old new : Names) (name : Bytes) (found : RecordPlace) where
           not_here : (same : Bool) → Decides same (name ≡ other) → found_short new other n ≡ (if same then Some found else found_short old other n)
           not_here false d = ap (λ (slots : Slots). first_of (kept_in slots other n) (get nat_eq new.short n)) slots_kept ∙ ap (λ records. first_of (kept_in old.slots other n) (get nat_eq records n)) kept
           not_here true d = let f : name ≡ other = search rules in absurd (none_some (short_number other) (sym (ap short_number f) ∙ is) other_is)
+
+  -- by what a table of texts answers
+  pub added_by_text : {E : Type 0} (r : Result Bool E) → short_number name ≡ None → IfOk r (λ is_new. is_new ≡ is_none (found_by_text old.long name))
+      → (r ≡ Ok true → (other : Bytes) → found_by_text new.long other ≡ (if bytes_eq name other then Some found else found_by_text old.long other))
+      → new.short ≡ old.short → new.slots ≡ old.slots → IfOk r (AddsRecord old new (Some name) found)
+  added_by_text (Ok is_new) is told added kept slots_kept = (
+    told ∙ ap (λ o. is_none (found_by old name o)) (sym is),
+    λ e. added_long is (added (ap Ok e)) kept slots_kept,
+  )
+  added_by_text (Err error) is told added kept slots_kept = tt
 
   module _ (number : ℕ) (is : short_number name ≡ Some number) where
     -- in its slot

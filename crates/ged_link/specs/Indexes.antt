@@ -1,6 +1,6 @@
 -- Which document an index is of. The contracts of its calls say what follows; what it holds is told here for the proofs.
 use Rattle.std.specs.Prelude.{◌≡◌, ℕ, true, false, List, Option, Some, None, ◌↔◌, nat_eq, slice_index_or, option_map, IsTrue}
-use Rattle.std.specs.HashMap.{get, get_by_text}
+use Rattle.std.specs.HashMap.{get}
 use Rattle.ged_line.specs.Bytes.{Bytes}
 use Rattle.ged_tree.specs.Trees.{Trees}
 use Rattle.ged_tree.specs.Places.{structure_at}
@@ -9,6 +9,7 @@ use Rattle.ged_link.specs.declared.index.RecordPlace.{RecordPlace}
 use Rattle.ged_link.specs.declared.names.Names.{Names}
 use Rattle.ged_link.specs.NameNumbers.{short_number}
 use Rattle.ged_link.specs.Slots.{kept_in}
+use Rattle.ged_link.specs.TextRecords.{found_by_text}
 use Rattle.ged_link.specs.Links.{Resolved, IsRecordNumber, IsUsed}
 use Rattle.ged_link.specs.LinkFaults.{HasXref}
 use Rattle.ged_link.specs.declared.record_type.RecordType.{RecordType}
@@ -29,7 +30,7 @@ found_short records name number = first_of (kept_in records.slots name number) (
 -- the record that has a name: by the name's number, where it has one
 abbrev pub found_by : Names → Bytes → Option ℕ → Option RecordPlace
 found_by records name (Some number) = found_short records name number
-found_by records name None = get_by_text records.long name
+found_by records name None = found_by_text records.long name
 
 abbrev pub found_in : Names → Bytes → Option RecordPlace
 found_in records name = found_by records name (short_number name)

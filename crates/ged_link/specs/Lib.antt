@@ -9,5 +9,8 @@ pub mod Targets
 pub mod LedByTags
 pub mod Places
 pub mod Slots
+pub mod Keys
+pub mod Texts
+pub mod TextRecords
 pub mod Indexes
 pub mod inner

@@ -11,3 +11,4 @@ pub mod PointerTags
 pub mod RecordLines
 pub mod Resolving
 pub mod Slots
+pub mod Texts

@@ -3,14 +3,15 @@ ghost use Rattle.std.specs.Prelude.{◌≡◌, Some, None, List, Option, fold, m
 ghost use Rattle.std.specs.Hash.DefaultHasher.{initial as unfed, finish};
 ghost use Rattle.ged_line.specs.Bytes.{Bytes};
 ghost use Rattle.ged_link.specs.NameNumbers.{short_number};
+ghost use Rattle.ged_link.specs.Keys.{started};
 ghost use Rattle.ged_link.specs.inner.Keys.{fed_long, fed_number};
 ghost use Rattle.ged_link.specs.inner.Indexes.{numbers_key as key_of_numbers};
 ghost use Rattle.ged_link.specs.inner.Listing.{listed_halves, all_halves};
 
 use crate::listing::{RecordList, joined};
-use std::hash::{BuildHasher, DefaultHasher, FoldHasher, Hasher};
+use std::hash::{BuildHasher, DefaultHasher, FoldHasher, Hash, Hasher};
 
-/// Makes the hashers of a map of texts: SipHash, each begun with the map's key, a hash of names among which are all that the map is
+/// Makes the hashers of a map of texts: SipHash, each begun with a key, a hash of names among which are all that the map is
 /// to hold.
 ///
 /// Who writes a file knows this code and can compute the file's keys, but not choose them: what he makes to collide under a
@@ -19,21 +20,27 @@ use std::hash::{BuildHasher, DefaultHasher, FoldHasher, Hasher};
 /// state, and letters behind them that give all names one hash from there on.
 #[derive(Clone, Copy)]
 pub(crate) struct Keyed {
-    pub(crate) key: u64,
+    /// A hasher to which the key is written, so that this is done once.
+    start: DefaultHasher,
+}
+
+impl Keyed {
+    pub(crate) fn new(key: u64) -> Keyed
+        ensures { result.start ≡ started key }
+    {
+        let mut start = DefaultHasher::new();
+        start.write_u64(key);
+        Keyed { start }
+    }
 }
 
 impl BuildHasher for Keyed {
-    ghost use Rattle.std.specs.Hash.DefaultHasher.{initial, write};
-    ghost use Rattle.std.specs.Hash as fed;
-
     type Hasher = DefaultHasher;
 
-    ghost build_hasher = { λ k. fold write initial (fed.u64 k.key) };
+    ghost build_hasher = { λ k. k.start };
 
     fn build_hasher(&self) -> DefaultHasher {
-        let mut hasher = DefaultHasher::new();
-        hasher.write_u64(self.key);
-        hasher
+        self.start
     }
 }
 
@@ -60,26 +67,29 @@ impl BuildHasher for KeyedNumbers {
     }
 }
 
-/// The long names of a document, as far as they are listed. They are hashed while they are, since that reads them anyway.
+/// The long names of a document, as far as they are listed. Each is hashed at once, while its line is at hand.
 #[derive(Drop)]
 pub(crate) struct LongNames {
-    /// How many there are. No answer rests on it.
+    /// How many there are, and how many bytes they have. No answer rests on these.
     pub(crate) count: usize,
+    pub(crate) length: usize,
     /// What each was written to.
     pub(crate) hasher: DefaultHasher,
 }
 
 impl LongNames {
+    /// No name.
     pub(crate) fn none() -> LongNames
         ensures { result.hasher ≡ unfed }
     {
         LongNames {
             count: 0,
+            length: 0,
             hasher: DefaultHasher::new(),
         }
     }
 
-    /// One more, which is written with its length before it.
+    /// One more, which is written as a text is, with a byte behind it that is in none.
     #[cold]
     #[inline(never)]
     pub(crate) fn push(&mut self, name: &str)
@@ -87,11 +97,11 @@ impl LongNames {
         ensures { self.new.hasher ≡ fed_long self.old.hasher (Some name.now) }
     {
         self.count = self.count.saturating_add(1);
-        self.hasher.write_u64(name.len() as u64);
-        self.hasher.write(name.as_bytes());
+        self.length = self.length.saturating_add(name.len());
+        name.hash(&mut self.hasher);
     }
 
-    /// The key for their map.
+    /// The key for their table.
     pub(crate) fn key(&self) -> u64
         ensures { result ≡ finish self.now.hasher }
     {

@@ -20,9 +20,11 @@ mod pointer_tag;
 mod pointers;
 mod record_reader;
 mod record_type;
+mod records_by_text;
 mod resolving;
 mod slots;
 mod targets;
+mod text_slots;
 
 pub use fault::LinkFault;
 pub use index::Index;

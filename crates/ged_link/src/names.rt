@@ -1,11 +1,12 @@
 // Records by the names of their cross-reference identifiers.
 ghost use Rattle.std.specs.Prelude.{◌≡◌, ◌+◌, ◌∷◌, ◌<◌, ◌^◌, ◌↔◌, ℕ, IsTrue, IfOk, IfSome, OnOk, [], List, Option, Some, None, nat_eq};
 ghost use Rattle.std.specs.Hash.DefaultHasher.{finish};
-ghost use Rattle.std.specs.HashMap.{get, get_by_text, hasher_of, hash_map_len};
+ghost use Rattle.std.specs.HashMap.{get, hasher_of, hash_map_len};
 ghost use Rattle.ged_line.specs.Bytes.{Bytes};
 ghost use Rattle.ged_link.specs.Links.{IsAmong};
 ghost use Rattle.ged_link.specs.Indexes.{found_in};
 ghost use Rattle.ged_link.specs.inner.Indexes.{HoldsShort, HoldsLong};
+ghost use Rattle.ged_link.specs.TextRecords.{found_by_text};
 ghost use Rattle.ged_link.specs.Slots.{number_read, slot_in, kept_in};
 ghost use Rattle.ged_link.specs.NameNumbers.{count_read, counted_number, number_up_to, number_within, short_number};
 ghost use Rattle.ged_link.specs.inner.Listing.{listed_name};
@@ -13,8 +14,9 @@ ghost use Rattle.ged_link.specs.inner.Resolving.{AddsRecord};
 ghost use Rattle.ged_link.specs.inner.Slots.{kept_at, HasNoSlot, IsMissed};
 
 use crate::index::RecordPlace;
-use crate::keys::{Keyed, KeyedNumbers, LongNames};
+use crate::keys::{KeyedNumbers, LongNames};
 use crate::listing::ListedName;
+use crate::records_by_text::RecordsByText;
 use crate::slots::Slots;
 use indexmap::IndexMap;
 use std::alloc::{AllocError, Global};
@@ -172,25 +174,24 @@ pub(crate) struct Names {
     slots: Slots,
     /// The others whose names are short, by the numbers that the names spell.
     short: IndexMap<u64, RecordPlace, KeyedNumbers>,
-    /// All others.
-    long: IndexMap<String, RecordPlace, Keyed>,
+    /// All others, by the names' texts.
+    long: RecordsByText,
 }
 
 impl Names {
-    /// No records, where the slots are free. The map of long names has the key that was made of them, and room for all. That of numbers
-    /// has no key yet ([`Names::set_key`]).
+    /// No records, where the slots are free. The table of long names has the key that was made of them, and room for all. The map of
+    /// numbers has no key yet ([`Names::set_key`]).
     pub(crate) fn new(alloc: Global, slots: Slots, long: &LongNames) -> Result<Names, AllocError>
         requires free { (name : _) → (number : ℕ) → 0 < number → kept_in slots name number ≡ None }
         ensures none { IfOk result (λ names. (name : _) → found_in names name ≡ None) }
-        ensures keyed { IfOk result (λ names. (hasher_of {S = Keyed} names.long).key ≡ finish long.now.hasher) }
-        ensures long { IfOk result (λ names. hash_map_len names.long ≡ 0) }
+        ensures keyed { IfOk result (λ names. names.long.key ≡ finish long.now.hasher) }
+        ensures long { IfOk result (λ names. (name : _) → found_by_text names.long name ≡ None) }
         ensures short { IfOk result (λ names. hash_map_len names.short ≡ 0) }
     {
-        let key = long.key();
         Ok(Names {
             slots,
             short: IndexMap::with_hasher(alloc, KeyedNumbers { key: 0 }),
-            long: IndexMap::with_capacity_and_hasher(alloc, long.count, Keyed { key })?,
+            long: RecordsByText::new(alloc, long.key(), long.count, long.length)?,
         })
     }
 
@@ -255,9 +256,9 @@ impl Names {
     /// The same for a long name. It stays a call of its own, so that what is made of `find` is short.
     #[inline(never)]
     fn find_long(&self, name: &str) -> Option<RecordPlace>
-        ensures { result ≡ get_by_text self.now.long name.now }
+        ensures { result ≡ found_by_text self.now.long name.now }
     {
-        self.long.get(name).copied()
+        self.long.find(name)
     }
 
     /// Keeps a record under a number in a slot. The answer is whether no record had the name that spells the number and asks for
@@ -321,12 +322,10 @@ impl Names {
     ) -> Result<bool, AllocError>
         requires { short_number name.now ≡ None }
         ensures added { IfOk result (AddsRecord self.old self.new (Some name.now) found) }
-        ensures keyed { (hasher_of {S = Keyed} self.new.long).key ≡ (hasher_of {S = Keyed} self.old.long).key }
+        ensures keyed { self.new.long.key ≡ self.old.long.key }
         ensures held { (names : List (Option Bytes)) → IsAmong (Some name.now) names → HoldsLong names self.old → OnOk result (HoldsLong names self.new) }
         ensures short { self.new.short ≡ self.old.short }
     {
-        let key = String::from_str(alloc, name)?;
-        let before = self.long.insert(key, found)?;
-        Ok(before.is_none())
+        self.long.insert(alloc, name, found)
     }
 }

@@ -4,4 +4,5 @@ pub mod Feeding
 pub mod Forms
 pub mod Judging
 pub mod Pieces
+pub mod Spelled
 pub mod TidyLaws

@@ -1,16 +1,16 @@
 -- Nothing here need be believed: only private contracts and proofs cite it.
 -- The keys that the maps' hashers begin with: a hash of all that a map is to hold, and more.
-use Rattle.std.specs.Prelude.{ℕ, ◌+◌, ◌*◌, List, [], ◌∷◌, ◌++◌, Option, Some, None, length, fold, cond, nat_eq}
+use Rattle.std.specs.Prelude.{ℕ, ◌+◌, ◌*◌, List, Option, Some, None, fold, cond, nat_eq}
 use Rattle.std.specs.Hash as fed
 use Rattle.std.specs.Hash.DefaultHasher.{initial, write, finish}
 use Rattle.std.specs.declared.hash.DefaultHasher.{DefaultHasher}
 use Rattle.ged_line.specs.Bytes.{Bytes}
 use Rattle.ged_link.specs.NameNumbers.{short_number}
 
--- a long name is written with its length before it, so no list of them is written as another is
+-- a long name is written as a text is, with a byte behind it that is in none, so no list of them is written as another is
 abbrev pub fed_text : DefaultHasher → Bytes → Option ℕ → DefaultHasher
 fed_text hasher name (Some number) = hasher
-fed_text hasher name None = fold write hasher (fed.u64 (length name) ++ name ∷ [])
+fed_text hasher name None = fold write hasher (fed.str name)
 
 abbrev pub fed_long : DefaultHasher → Option Bytes → DefaultHasher
 fed_long hasher None = hasher

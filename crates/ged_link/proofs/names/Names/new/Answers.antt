@@ -10,8 +10,8 @@ pub returns-clause-none : goal.returns-clause-none
 returns-clause-none c name = go (short_number name) refl
   where
     made : Names
-    made = record { slots = c.args.slots; short = c.with_hasher.result; long = c.in_ok-with_capacity_and_hasher.field-0 }
+    made = record { slots = c.args.slots; short = c.with_hasher.result; long = c.in_ok-new.field-0 }
 
     go : (o : Option ℕ) → short_number name ≡ o → found_by made name o ≡ None
     go (Some number) e = ap (λ kept. first_of kept (get nat_eq made.short number)) (c.requires.free name number (above name number e)) ∙ (search rules)
-    go None e = search rules
+    go None e = c.in_ok-new.ensures.none name
