@@ -1,6 +1,7 @@
 -- Lines that go through a buffer one after another.
-use Rattle.std.proofs.Common.{◌≡◌, ℕ, ◌+◌, ◌<◌, ◌∷◌, ◌++◌, [], Option, Result, Ok, Err, OnErr, take, get_or, decimal, refl, sym, ◌∙◌, ap, subst, append_assoc, append-nil}
+use Rattle.std.proofs.Common.{◌≡◌, ℕ, ◌+◌, ◌/◌, ◌%◌, ◌<◌, ◌≤◌, ◌∷◌, ◌++◌, [], Option, Result, Ok, Err, OnErr, take, get_or, decimal, refl, sym, ◌∙◌, ap, subst, append_assoc, append-nil}
 use Rattle.std.proofs.lemmas.Fmt.{decimal_digit}
+use Rattle.itoa.proofs.Decimal.{decimal_two}
 use Rattle.std.specs.Io.{StartsWith}
 use Rattle.std.specs.Io.KnownBytes.{Appends}
 use Rattle.ged_line.specs.Bytes.{Bytes, space, line_feed}
@@ -48,14 +49,22 @@ pub line_pieces : (level : ℕ) (tag word : Bytes)
     → (decimal level ++ space ∷ []) ++ (tag ++ (space ∷ [] ++ (word ++ line_feed ∷ []))) ≡ decimal level ++ space ∷ (tag ++ space ∷ (word ++ line_feed ∷ []))
 line_pieces level tag word = append_assoc (decimal level) (space ∷ []) (tag ++ space ∷ (word ++ line_feed ∷ []))
 
--- the line that a digit, a tag and what stands behind it make; the last byte of its array tells how many bytes that has
-pub line_joined : (level number : ℕ) (letters tag ending word : Bytes) → level < 10 → letters ≡ tag
+-- the front of a line whose level has one digit, and of one whose level has two
+pub digit_front : (level : ℕ) (letters tag : Bytes) → level < 10 → letters ≡ tag → (48 + level) ∷ 32 ∷ letters ≡ decimal level ++ space ∷ tag
+digit_front level letters tag digit tag_is = ap (λ t. (48 + level) ∷ space ∷ t) tag_is ∙ ap (λ ds. ds ++ space ∷ tag) (sym (decimal_digit level digit))
+
+pub deep_front : (level : ℕ) (letters tag : Bytes) → 10 ≤ level → level < 100 → letters ≡ tag → (48 + level / 10) ∷ (48 + level % 10) ∷ 32 ∷ letters ≡ decimal level ++ space ∷ tag
+deep_front level letters tag more less tag_is =
+    ap (λ t. (48 + level / 10) ∷ (48 + level % 10) ∷ space ∷ t) tag_is ∙ ap (λ ds. ds ++ space ∷ tag) (sym (decimal_two level more less))
+
+-- the line that its front and what stands behind it make; the last byte of its array tells how many bytes that has
+pub line_joined : (level number : ℕ) (front tag ending word : Bytes) → front ≡ decimal level ++ space ∷ tag
     → number ≡ get_or ending 15 0 → take (get_or ending 15 0) ending ≡ space ∷ (word ++ line_feed ∷ [])
-    → (48 + level) ∷ 32 ∷ (letters ++ take number ending) ≡ decimal level ++ space ∷ (tag ++ space ∷ (word ++ line_feed ∷ []))
-line_joined level number letters tag ending word digit tag_is number_is ending_is =
-    ap (λ end. (48 + level) ∷ space ∷ (letters ++ end)) (ap (λ n. take n ending) number_is ∙ ending_is)
-    ∙ ap (λ t. (48 + level) ∷ space ∷ (t ++ space ∷ (word ++ line_feed ∷ []))) tag_is
-    ∙ ap (λ ds. ds ++ space ∷ (tag ++ space ∷ (word ++ line_feed ∷ []))) (sym (decimal_digit level digit))
+    → front ++ take number ending ≡ decimal level ++ space ∷ (tag ++ space ∷ (word ++ line_feed ∷ []))
+line_joined level number front tag ending word front_is number_is ending_is =
+    ap (λ xs. front ++ xs) (ap (λ n. take n ending) number_is ∙ ending_is)
+    ∙ ap (λ xs. xs ++ space ∷ (word ++ line_feed ∷ [])) front_is
+    ∙ append_assoc (decimal level) (space ∷ tag) (space ∷ (word ++ line_feed ∷ []))
 
 -- what a run shows is the line of its first structure, what is below it, and what is behind
 pub step_shown : (trees : Trees) (level : ℕ) (context rows below : Context) (place end after : ℕ) (tag : Bytes) (r : Option Row) → IsStep trees place end after

@@ -92,8 +92,27 @@ fn write_parts<W: Sink>(
     Ok(())
 }
 
+/// Puts the line of a structure, by its front up to the tag's end, behind what a buffer holds, and answers true, where there is room. Each
+/// part has a fixed length, so that none is copied by a call.
+#[inline(always)]
+fn put_line<const N: usize>(
+    level: usize,
+    tag: &str,
+    front: &[u8; N],
+    rule: Option<&Rule>,
+    buffer: &mut Vec<u8>,
+) -> bool
+    requires { front.now ≡ decimal level ++ space ∷ tag.now }
+    ensures put { OnTrue result (buffer.new.items
+        ≡ buffer.old.items ++ structure_line level tag.now (option_map as_row (option_copied rule.entry))) }
+    ensures left { result ≡ false → buffer.new.items ≡ buffer.old.items }
+{
+    let ending = row_ending(rule);
+    put_padded(buffer, front, ending, usize::from(ending[15]))
+}
+
 /// Puts the line of a structure behind what a buffer holds, and answers true, where its level has one digit, its tag has four letters,
-/// as most have, and there is room. Then each part has a fixed length, so that none is copied by a call.
+/// as most have, and there is room.
 #[inline(always)]
 fn put_usual_line(level: usize, tag: &str, rule: Option<&Rule>, buffer: &mut Vec<u8>) -> bool
     ensures put { OnTrue result (buffer.new.items
@@ -107,8 +126,7 @@ fn put_usual_line(level: usize, tag: &str, rule: Option<&Rule>, buffer: &mut Vec
         return false;
     };
     let front = [b'0' + level as u8, b' ', first, second, third, fourth];
-    let ending = row_ending(rule);
-    put_padded(buffer, &front, ending, usize::from(ending[15]))
+    put_line(level, tag, &front, rule, buffer)
 }
 
 /// The same where the tag has three letters.
@@ -125,8 +143,35 @@ fn put_short_line(level: usize, tag: &str, rule: Option<&Rule>, buffer: &mut Vec
         return false;
     };
     let front = [b'0' + level as u8, b' ', first, second, third];
-    let ending = row_ending(rule);
-    put_padded(buffer, &front, ending, usize::from(ending[15]))
+    put_line(level, tag, &front, rule, buffer)
+}
+
+/// The same where the level has two digits, and the tag two letters, three or four.
+#[inline(always)]
+fn put_deep_line(level: usize, tag: &str, rule: Option<&Rule>, buffer: &mut Vec<u8>) -> bool
+    ensures put { OnTrue result (buffer.new.items
+        ≡ buffer.old.items ++ structure_line level tag.now (option_map as_row (option_copied rule.entry))) }
+    ensures left { result ≡ false → buffer.new.items ≡ buffer.old.items }
+{
+    if level < 10 || level > 99 {
+        return false;
+    }
+    let (tens, ones) = (b'0' + (level / 10) as u8, b'0' + (level % 10) as u8);
+    match tag.as_bytes() {
+        &[first, second] => {
+            let front = [tens, ones, b' ', first, second];
+            put_line(level, tag, &front, rule, buffer)
+        }
+        &[first, second, third] => {
+            let front = [tens, ones, b' ', first, second, third];
+            put_line(level, tag, &front, rule, buffer)
+        }
+        &[first, second, third, fourth] => {
+            let front = [tens, ones, b' ', first, second, third, fourth];
+            put_line(level, tag, &front, rule, buffer)
+        }
+        _ => false,
+    }
 }
 
 /// Writes the line of a structure that is not like most. It is a call, since the loop over structures has too few registers for this too.
@@ -147,7 +192,7 @@ fn write_other<W: Sink>(
         (structure_line level tag.now (option_map as_row (option_copied rule.entry)))) }
     ensures fate { W.fate writer.new ≡ W.fate writer.old }
 {
-    if put_short_line(level, tag, rule, buffer) {
+    if put_short_line(level, tag, rule, buffer) || put_deep_line(level, tag, rule, buffer) {
         return Ok(());
     }
     write_parts(level, tag, rule, buffer, writer)

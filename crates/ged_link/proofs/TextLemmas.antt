@@ -1,18 +1,19 @@
 -- Slots of names, looked for by the names' texts.
-use Rattle.std.proofs.Common.{◌≡◌, ℕ, zero, suc, ◌+◌, ◌-◌, ◌%◌, ◌<◌, ◌≤◌, ◌&&◌, min, Bool, true, false, cond, nat_eq, nat_le, nat_lt, List, [], ◌∷◌, ◌++◌, Option, Some, None, length, take, drop, set, replicate, slice_index_or, refl, sym, ap, ◌∙◌, arith, subst}
+use Rattle.std.proofs.Common.{◌≡◌, ◌≢◌, ℕ, zero, suc, ◌+◌, ◌-◌, ◌%◌, ◌<◌, ◌≤◌, ◌&&◌, min, Bool, true, false, cond, nat_eq, nat_le, nat_lt, List, [], ◌∷◌, ◌++◌, Option, Some, None, length, take, drop, set, replicate, slice_index_or, refl, sym, ap, ◌∙◌, arith, subst}
 use Rattle.std.specs.Bool.{if◌then◌else◌, Decides}
 use Rattle.std.specs.List.{All}
 use Rattle.std.specs.Option.{option_or}
 use Rattle.std.specs.Str.{bytes_eq}
-use Rattle.std.proofs.lemmas.List.{length-take, length-drop, length-set, length-append, get_or-take, get_or-drop, take-append-le, drop-append-le, take_all, drop_at}
+use Rattle.std.proofs.lemmas.List.{length-take, length-drop, length-set, length-append, get_or-take, get_or-drop, get_or-set_other, take-append-le, drop-append-le, take_all, drop_at}
+use Rattle.std.proofs.lemmas.Grind.{get_or-set_at}
 use Rattle.std.proofs.lemmas.List.Elements.{All-head, All-tail, All-take, All-drop, All-replicate}
 use Rattle.std.proofs.lemmas.Slice.Eq.{bytes_eq-Decides}
 use Rattle.std.proofs.lemmas.Bool.Decides.{nat_tests}
 use Rattle.ged_line.specs.Bytes.{Bytes}
 use Rattle.ged_link.specs.declared.index.RecordPlace.{RecordPlace}
 use Rattle.ged_link.specs.declared.text_slots.TextSlot.{TextSlot}
-use Rattle.ged_link.specs.Texts.{text_in, is_slot_of, record_in, kept_among, kept_for, first_slot, slots_of, IsWithin, AreWithin}
-use Rattle.ged_link.specs.inner.Texts.{free, MayStandAt, IsSlotFor, KeepsText}
+use Rattle.ged_link.specs.Texts.{text_in, is_slot_of, record_in, kept_among, kept_for, first_slot, slots_of, text_hash, IsWithin, AreWithin, free, HasNoRoom, AreCrowded}
+use Rattle.ged_link.specs.inner.Texts.{MayStandAt, IsSlotFor, KeepsText}
 
 -- the slot that is free in the window is a slot of the table
 pub may_stand : (slots : List TextSlot) (hash used start : ℕ) (window : List TextSlot) → start ≡ first_slot (length slots) hash → window ≡ slots_of slots hash
@@ -53,6 +54,62 @@ new_text texts name slot begins long =
   where
     fits : (m n : ℕ) → m ≤ n → nat_le m n ≡ true
     fits m n h = grind (arith, nat_tests)
+
+-- a slot of those that a name may have is a slot of the table
+slot_in : (slots : List TextSlot) (hash at : ℕ) → at < 8 → slice_index_or (slots_of slots hash) at free ≡ slice_index_or slots (first_slot (length slots) hash + at) free
+slot_in slots hash at near = get_or-take 8 (drop (first_slot (length slots) hash) slots) at free near ∙ get_or-drop (first_slot (length slots) hash) slots at free
+
+how_many : (slots : List TextSlot) (hash : ℕ) → length (slots_of slots hash) ≡ min 8 (length slots - first_slot (length slots) hash)
+how_many slots hash = length-take 8 (drop (first_slot (length slots) hash) slots) ∙ ap (min 8) (length-drop (first_slot (length slots) hash) slots)
+
+-- a name that has a slot free is not crowded
+pub not_crowded : (slots : List TextSlot) (hash at : ℕ) → MayStandAt slots hash at → HasNoRoom slots hash → ⊥
+not_crowded slots hash at may crowded =
+    let first = first_slot (length slots) hash in
+    let near : at - first < 8 = omega (arith, may.from, may.near) in
+    let inside : at - first < length (slots_of slots hash) = omega (arith, may.from, may.near, may.within, how_many slots hash) in
+    let back : first + (at - first) ≡ at = omega (arith, may.from) in
+    let used : 0 < (slice_index_or slots (first + (at - first)) free).length = subst (λ (s : TextSlot). 0 < s.length) (slot_in slots hash (at - first) near) (crowded (at - first) inside) in
+    let none : (slice_index_or slots (first + (at - first)) free).length ≡ 0 = ap (λ n. (slice_index_or slots n free).length) back ∙ may.free in
+    omega (arith, used, none)
+
+-- where a name has a slot free, its record is not found elsewhere
+pub none_apart : (key : ℕ) (slots : List TextSlot) (other : Bytes → Option RecordPlace) → AreCrowded key slots other → (name : Bytes) (at : ℕ) → MayStandAt slots (text_hash key name) at → other name ≡ None
+none_apart key slots other crowded name at may = go (other name) refl
+  where
+    go : (found : Option RecordPlace) → other name ≡ found → found ≡ None
+    go None e = refl
+    go (Some found) e = absurd (not_crowded slots (text_hash key name) at may (crowded name found e))
+
+-- one more that is found elsewhere and has no slot free
+pub one_more_crowded : (key : ℕ) (slots : List TextSlot) (old new : Bytes → Option RecordPlace) (name : Bytes) (found : RecordPlace) → AreCrowded key slots old → HasNoRoom slots (text_hash key name)
+    → ((other : Bytes) → new other ≡ (if bytes_eq name other then Some found else old other)) → AreCrowded key slots new
+one_more_crowded key slots old new name found crowded full is other kept e = go (bytes_eq name other) (bytes_eq-Decides name other) (sym (is other) ∙ e)
+  where
+    go : (same : Bool) → Decides same (name ≡ other) → (if same then Some found else old other) ≡ Some kept → HasNoRoom slots (text_hash key other)
+    go true d e = subst (λ (n : Bytes). HasNoRoom slots (text_hash key n)) (d.0 refl) full
+    go false d e = crowded other kept e
+
+-- no slot becomes free by one that is written
+pub stays_crowded : (slots : List TextSlot) (hash at : ℕ) (slot : TextSlot) → 0 < slot.length → HasNoRoom slots hash → HasNoRoom (set slots at slot) hash
+stays_crowded slots hash at slot used crowded k inside =
+    let first = first_slot (length slots) hash in
+    let same : first_slot (length (set slots at slot)) hash ≡ first = ap (λ n. first_slot n hash) (length-set slots at slot) in
+    let before : k < length (slots_of slots hash) = omega (arith, inside, how_many (set slots at slot) hash, how_many slots hash, length-set slots at slot, same) in
+    let near : k < 8 = omega (arith, before, how_many slots hash) in
+    let within : first + k < length slots = omega (arith, before, how_many slots hash) in
+    let was : 0 < (slice_index_or slots (first + k) free).length = subst (λ (s : TextSlot). 0 < s.length) (slot_in slots hash k near) (crowded k before) in
+    let now : slice_index_or (slots_of (set slots at slot) hash) k free ≡ slice_index_or (set slots at slot) (first + k) free =
+    slot_in (set slots at slot) hash k near ∙ ap (λ n. slice_index_or (set slots at slot) (n + k) free) same in
+    subst (λ (s : TextSlot). 0 < s.length) (sym now) (go within was (nat_eq (first + k) at) refl)
+  where
+    go : first_slot (length slots) hash + k < length slots → 0 < (slice_index_or slots (first_slot (length slots) hash + k) free).length → (b : Bool) → nat_eq (first_slot (length slots) hash + k) at ≡ b → 0 < (slice_index_or (set slots at slot) (first_slot (length slots) hash + k) free).length
+    go within was true e =
+        let is : first_slot (length slots) hash + k ≡ at = grind (arith, nat_tests, e) in
+        subst (λ (s : TextSlot). 0 < s.length) (sym (get_or-set_at slots at (first_slot (length slots) hash + k) slot free is (omega (arith, within, is)))) used
+    go within was false e =
+        let differs : first_slot (length slots) hash + k ≢ at = λ (is : first_slot (length slots) hash + k ≡ at). grind (arith, nat_tests, e, is) in
+        subst (λ (s : TextSlot). 0 < s.length) (sym (get_or-set_other slots at (first_slot (length slots) hash + k) slot free differs)) was
 
 module _ (texts more name : Bytes) (tag : ℕ) where
   same_slot : (slot : TextSlot) → IsWithin texts slot → is_slot_of (texts ++ more) name tag slot ≡ is_slot_of texts name tag slot

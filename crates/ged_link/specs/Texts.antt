@@ -1,5 +1,5 @@
 -- The table of records by the texts of their names.
-use Rattle.std.specs.Prelude.{ℕ, ◌+◌, ◌*◌, ◌/◌, ◌%◌, ◌≤◌, Bool, ◌&&◌, cond, nat_le, nat_lt, nat_eq, List, [], ◌∷◌, Option, Some, None, fold, take, drop, length}
+use Rattle.std.specs.Prelude.{◌≡◌, ℕ, ◌+◌, ◌*◌, ◌/◌, ◌%◌, ◌≤◌, ◌<◌, Bool, ◌&&◌, cond, nat_le, nat_lt, nat_eq, List, [], ◌∷◌, Option, Some, None, fold, take, drop, length, slice_index_or}
 use Rattle.std.specs.List.{All}
 use Rattle.std.specs.Option.{option_or}
 use Rattle.std.specs.Str.{bytes_eq}
@@ -47,6 +47,18 @@ IsWithin texts slot = slot.start + slot.length ≤ length texts
 
 abbrev pub AreWithin : Bytes → List TextSlot → Type 0
 AreWithin texts slots = All (IsWithin texts) slots
+
+-- a slot without a name
+abbrev pub free : TextSlot
+free = record { tag = 0; start = 0; length = 0; number = 0; place = 0 }
+
+-- no slot is free that a name with a hash may have
+abbrev pub HasNoRoom : List TextSlot → ℕ → Type 0
+HasNoRoom slots hash = (at : ℕ) → at < length (slots_of slots hash) → 0 < (slice_index_or (slots_of slots hash) at free).length
+
+-- a name whose record is found elsewhere has no slot free
+abbrev pub AreCrowded : ℕ → List TextSlot → (Bytes → Option RecordPlace) → Type 0
+AreCrowded key slots other = (name : Bytes) (found : RecordPlace) → other name ≡ Some found → HasNoRoom slots (text_hash key name)
 
 -- the record that has a name: that in a slot of the name's, or else that under its text
 abbrev pub found_text : ℕ → List TextSlot → Bytes → (Bytes → Option RecordPlace) → Bytes → Option RecordPlace

@@ -59,14 +59,24 @@ pub(crate) fn next_record(places: &[u32], place: usize, cursor: &mut RecordCurso
     Some(number)
 }
 
-/// How many records behind the cursor are searched before all are: records that are visited in another order than the file's
-/// seldom stand far apart.
+/// How many records behind the cursor are passed one by one: records that are visited in another order than the file's seldom stand far
+/// apart.
+const NEXT: usize = 8;
+
+/// How many records behind these are searched before all are.
 const NEAR: usize = 64;
 
 /// Moves a cursor on to the first record near it that is not at a lower place than this one.
+#[inline(always)]
 fn move_on(places: &[u32], place: usize, cursor: &mut RecordCursor)
     ensures { cursor.old.next ≤ cursor.new.next }
 {
+    for _ in 0..NEXT {
+        match places.get(cursor.next) {
+            Some(kept) if (*kept as usize) < place => cursor.next += 1,
+            _ => return,
+        }
+    }
     let end = places.len().min(cursor.next.saturating_add(NEAR));
     if let Some(near) = places.get(cursor.next..end) {
         let passed = near.partition_point(|kept: &u32| -> bool { (*kept as usize) < place });

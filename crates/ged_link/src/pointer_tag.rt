@@ -54,16 +54,16 @@ impl PointerTag {
     pub(crate) fn of(tag: &str) -> PointerTag
         ensures { IsTold result tag.now }
     {
-        if tag == "FAMC" {
+        if tag == "SOUR" {
+            PointerTag::Sour
+        } else if tag == "FAMC" {
             PointerTag::Famc
         } else if tag == "FAMS" {
             PointerTag::Fams
-        } else if tag == "HUSB" || tag == "WIFE" {
-            PointerTag::Spouse
         } else if tag == "CHIL" {
             PointerTag::Chil
-        } else if tag == "SOUR" {
-            PointerTag::Sour
+        } else if tag == "HUSB" || tag == "WIFE" {
+            PointerTag::Spouse
         } else if tag == "ASSO" || tag == "ALIA" {
             PointerTag::Person
         } else if tag == "SUBM" || tag == "ANCI" || tag == "DESI" {

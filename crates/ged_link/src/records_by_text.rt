@@ -6,11 +6,11 @@ ghost use Rattle.std.specs.Str.{bytes_eq};
 ghost use Rattle.ged_line.specs.Bytes.{Bytes};
 ghost use Rattle.ged_link.specs.declared.keys.Keyed.{Keyed};
 ghost use Rattle.ged_link.specs.Keys.{started};
-ghost use Rattle.ged_link.specs.Texts.{AreWithin};
+ghost use Rattle.ged_link.specs.Texts.{AreWithin, AreCrowded};
 
 use crate::index::RecordPlace;
 use crate::keys::Keyed;
-use crate::text_slots::{FREE, TextSlot, find_kept, hash_text, keep_text};
+use crate::text_slots::{FREE, TextSlot, find_kept, has_room, hash_text, keep_text};
 use indexmap::IndexMap;
 use std::alloc::{AllocError, Global};
 
@@ -29,8 +29,11 @@ pub(crate) struct RecordsByText {
     /// The texts of the names in the slots, one behind the other.
     pub(crate) texts: Vec<u8>,
     pub(crate) others: IndexMap<String, RecordPlace, Keyed>,
+    /// Whether all that are in the map found no slot free, and none is there because it does not fit one.
+    pub(crate) all_fit: bool,
     ghost few: { length slots.items < 4294967296 },
     ghost within: { AreWithin texts.items slots.items },
+    ghost crowded: { all_fit ≡ true → AreCrowded key slots.items (get_by_text others) },
     ghost keyed: { (hasher_of {S = Keyed} others).start ≡ started key },
 }
 
@@ -60,10 +63,12 @@ fn keep_other(
 }
 
 impl RecordsByText {
-    ghost use Rattle.std.specs.Prelude.{◌≡◌, ◌<◌, ℕ, true, false, IfOk, Ok, Some, None, length, is_none};
+    ghost use Rattle.std.specs.Prelude.{◌≡◌, ◌<◌, ℕ, true, false, IfOk, OnOk, Ok, Some, None, length, is_none};
     ghost use Rattle.std.specs.Bool.{if◌then◌else◌};
     ghost use Rattle.std.specs.Str.{bytes_eq};
     ghost use Rattle.ged_line.specs.Bytes.{Bytes};
+    ghost use Rattle.std.specs.HashMap.{get_by_text};
+    ghost use Rattle.ged_link.specs.Texts.{text_hash, HasNoRoom};
     ghost use Rattle.ged_link.specs.TextRecords.{found_by_text};
 
     /// No records, with two slots for each of so many, as far as 32 bits number them, and room for so many bytes of their names.
@@ -82,6 +87,7 @@ impl RecordsByText {
             slots: vec![in alloc; FREE; room]?,
             texts: Vec::with_capacity(alloc, length)?,
             others: IndexMap::with_hasher(alloc, Keyed::new(key)),
+            all_fit: true,
         })
     }
 
@@ -94,6 +100,53 @@ impl RecordsByText {
             Some(found) => Some(found),
             None => find_other(&self.others, name),
         }
+    }
+
+    /// The record that is kept under the text of a name with this hash. The map is not asked where a slot is free that the name may have:
+    /// then the name is not there.
+    #[inline(always)]
+    fn find_apart(&self, name: &str, hash: u64) -> Option<RecordPlace>
+        requires { text_hash self.now.key name.now ≡ hash }
+        ensures { result ≡ get_by_text self.now.others name.now }
+    {
+        if self.all_fit && has_room(&self.slots, hash) {
+            return None;
+        }
+        find_other(&self.others, name)
+    }
+
+    /// Whether it is known that no name in the map has a slot free, and none is free for a name with this hash.
+    fn are_crowded_with(&self, hash: u64) -> bool
+        ensures crowded { result ≡ true → self.now.all_fit ≡ true }
+        ensures room { result ≡ true → HasNoRoom self.now.slots.items hash }
+    {
+        if has_room(&self.slots, hash) {
+            return false;
+        }
+        self.all_fit
+    }
+
+    /// Keeps a record under the text of a name with this hash. Grows.
+    #[cold]
+    #[inline(never)]
+    fn keep_apart(
+        &mut self,
+        alloc: Global,
+        name: &str,
+        hash: u64,
+        found: RecordPlace,
+    ) -> Result<(), AllocError>
+        requires { text_hash self.old.key name.now ≡ hash }
+        ensures kept { OnOk result ((other : Bytes) → get_by_text self.new.others other ≡ (if bytes_eq name.now other then Some found else get_by_text self.old.others other)) }
+        ensures slots { self.new.slots ≡ self.old.slots }
+        ensures texts { self.new.texts ≡ self.old.texts }
+        ensures key { self.new.key ≡ self.old.key }
+    {
+        let all_fit = self.are_crowded_with(hash);
+        self.all_fit = false;
+        keep_other(alloc, &mut self.others, name, found)?;
+        self.all_fit = all_fit;
+        Ok(())
     }
 
     /// Adds a record, if none has its name. The answer is whether none had it. Grows.
@@ -113,7 +166,7 @@ impl RecordsByText {
         if find_kept(&self.slots, &self.texts, name.as_bytes(), hash).is_some() {
             return Ok(false);
         }
-        if find_other(&self.others, name).is_some() {
+        if self.find_apart(name, hash).is_some() {
             return Ok(false);
         }
         if !keep_text(
@@ -123,7 +176,7 @@ impl RecordsByText {
             hash,
             found,
         )? {
-            keep_other(alloc, &mut self.others, name, found)?;
+            self.keep_apart(alloc, name, hash, found)?;
         }
         Ok(true)
     }

@@ -1,7 +1,7 @@
 // The slots of records that are found by the texts of their names.
-ghost use Rattle.std.specs.Prelude.{◌≡◌, ◌<◌, ◌≤◌, ◌+◌, ◌%◌, ℕ, true, false, IfSome, IsSome, Ok, Some, None, length, slice_index_or};
-ghost use Rattle.ged_link.specs.Texts.{text_in, is_slot_of, kept_among, kept_for, first_slot, slots_of, text_hash, AreWithin};
-ghost use Rattle.ged_link.specs.inner.Texts.{free, MayStandAt, HasNoRoom, FitsSlot, IsSlotFor, KeepsText};
+ghost use Rattle.std.specs.Prelude.{◌≡◌, ◌<◌, ◌≤◌, ◌+◌, ◌%◌, ℕ, true, false, MatchBool, IfSome, IsSome, Ok, Some, None, length, slice_index_or};
+ghost use Rattle.ged_link.specs.Texts.{text_in, is_slot_of, kept_among, kept_for, first_slot, slots_of, text_hash, free, HasNoRoom, AreWithin};
+ghost use Rattle.ged_link.specs.inner.Texts.{MayStandAt, FitsSlot, IsSlotFor, KeepsText};
 
 use crate::index::RecordPlace;
 use std::alloc::AllocError;
@@ -149,6 +149,18 @@ fn free_slot(slots: &[TextSlot], hash: u64) -> Option<usize>
     }
 }
 
+/// Whether a slot is free of those that a name with this hash may have.
+#[inline(always)]
+pub(crate) fn has_room(slots: &[TextSlot], hash: u64) -> bool
+    requires { length slots.now < 4294967296 }
+    ensures { MatchBool result ((at : ℕ) × MayStandAt slots.now hash at) (HasNoRoom slots.now hash) }
+{
+    match free_slot(slots, hash) {
+        Some(_) => true,
+        None => false,
+    }
+}
+
 /// The slot of a name with this hash, whose text is to stand at `start`; or `None` where that, the name or the record does not fit.
 fn slot_for(hash: u64, start: usize, name: &[u8], found: RecordPlace) -> Option<TextSlot>
     ensures slot { IfSome result (IsSlotFor hash start name.now found) }
@@ -175,7 +187,7 @@ fn slot_for(hash: u64, start: usize, name: &[u8], found: RecordPlace) -> Option<
     })
 }
 
-/// The hash of a name under a key. Names can be chosen that have one hash whatever the key is ([`crate::keys::Keyed`]): but the first of
+/// The hash of a name under a key. Names can be chosen that have one hash under one key in 2^27 ([`crate::keys::Keyed`]): but the first of
 /// these then fill the slots that they all may have.
 #[inline(always)]
 pub(crate) fn hash_text(key: u64, name: &[u8]) -> u64
@@ -203,6 +215,7 @@ pub(crate) fn keep_text(
     ensures kept { result ≡ Ok true → KeepsText slots.old texts.old.items slots.new texts.new.items name.now hash found }
     ensures full { result ≡ Ok false → FitsSlot (length texts.old.items) name.now found → HasNoRoom slots.old hash }
     ensures same { result ≡ Ok false → (slots.new ≡ slots.old) × (texts.new ≡ texts.old) }
+    ensures crowded { (other : ℕ) → HasNoRoom slots.old other → HasNoRoom slots.new other }
     ensures within { AreWithin texts.new.items slots.new }
     ensures few { length slots.new ≡ length slots.old }
 {

@@ -13,7 +13,7 @@ use crate::edition::Edition;
 use crate::spelled::SpelledForm;
 use crate::writer::answer::Answer;
 use crate::writer::document::document_siblings;
-use crate::writer::plan::{Plan, Window, Work, Writer};
+use crate::writer::plan::{Plan, Work, Writer};
 use crate::writer::rank::RankedSibling;
 use crate::writer::siblings::numbers_in_order;
 use ged_link::Index;
@@ -107,29 +107,21 @@ pub fn have_same_form<F: Forest, G: Forest>(
     }
     let numbers = numbers_in_order(alloc, first.forest, first.index, siblings)?;
     let other_numbers = numbers_in_order(alloc, second.forest, second.index, others)?;
-    let writer = Writer {
-        forest: first.forest,
-        plan: Plan {
-            alloc,
-            edition,
-            index: first.index,
-            numbers: numbers.as_slice(),
-            file: first.file,
-        },
-        lines: first.forest.bare_lines(),
-        window: Window { start: 0, end: 0 },
+    let plan = Plan {
+        alloc,
+        edition,
+        index: first.index,
+        numbers: numbers.as_slice(),
+        file: first.file,
     };
-    let other_writer = Writer {
-        forest: second.forest,
-        plan: Plan {
-            alloc,
-            edition,
-            index: second.index,
-            numbers: other_numbers.as_slice(),
-            file: second.file,
-        },
-        lines: second.forest.bare_lines(),
-        window: Window { start: 0, end: 0 },
+    let writer = Writer::new(first.forest, plan);
+    let other_plan = Plan {
+        alloc,
+        edition,
+        index: second.index,
+        numbers: other_numbers.as_slice(),
+        file: second.file,
     };
+    let other_writer = Writer::new(second.forest, other_plan);
     are_alike(&writer, siblings, &other_writer, others)
 }

@@ -23,7 +23,7 @@ use crate::spelled::SpelledForm;
 use crate::writer::answer::Answer;
 use crate::writer::lines::put_identifier;
 use crate::writer::numbers::new_number_of;
-use crate::writer::plan::{Plan, Window, Work, Writer};
+use crate::writer::plan::{Plan, Work, Writer};
 use crate::writer::rank::RankedSibling;
 use crate::writer::siblings::{Sibling, numbers_in_order, push_sorted, ranked_sibling};
 use ged_line::ValueView;
@@ -131,12 +131,7 @@ impl<F: Forest> Writer<'_, '_, F> {
         let end = self.forest.after(place);
         let own = Sibling { tag, place };
         let number = self.own_number(place, &mut work.records);
-        let writer = Writer {
-            forest: self.forest,
-            plan: self.plan,
-            lines: self.lines,
-            window: self.window_of(place, end),
-        };
+        let writer = self.within(place, end);
         if number == 0 {
             return writer.write_tree(rule, 0, None, own, end, work);
         }
@@ -186,12 +181,7 @@ pub fn spell_canonical_in<'f, F: Forest>(
         numbers,
         file,
     };
-    let writer = Writer {
-        forest,
-        plan,
-        lines: forest.bare_lines(),
-        window: Window { start: 0, end: 0 },
-    };
+    let writer = Writer::new(forest, plan);
     let answer = Answer::start(alloc, forest.size(), file.len())?;
     let mut work = Work::new(alloc, answer);
     writer.write_records(records, &mut work)?;

@@ -41,6 +41,22 @@ pub(crate) struct Writer<'a, 'p, F: Forest> {
     ghost same: { slice_range plan.file.now window.start window.end ≡ slice_range (lines_text lines) window.start window.end },
 }
 
+impl<'a, 'p, F: Forest> Writer<'a, 'p, F> {
+    /// Writes the structures of a forest by a plan. No line of the file is known to be one of the forest's yet.
+    #[inline(always)]
+    pub(crate) fn new(forest: &'a F, plan: Plan<'p>) -> Self
+        ensures forest { result.forest.now ≡ forest.now }
+        ensures plan { result.plan ≡ plan.entry }
+    {
+        Writer {
+            forest,
+            plan,
+            lines: forest.bare_lines(),
+            window: Window { start: 0, end: 0 },
+        }
+    }
+}
+
 /// What a writer has done: its answer; where the index looks for the next pointer and for the next record; and the siblings of
 /// each run in another order that is being written, those of a deeper run behind those of the runs above it.
 #[derive(Drop)]

@@ -12,7 +12,7 @@ use crate::edition::Edition;
 use crate::spelled::SpelledForm;
 use crate::writer::answer::Answer;
 use crate::writer::document::document_siblings;
-use crate::writer::plan::{Plan, Window, Work, Writer};
+use crate::writer::plan::{Plan, Work, Writer};
 use crate::writer::rank::RankedSibling;
 use crate::writer::siblings::Sibling;
 use ged_line::ValueView;
@@ -34,12 +34,7 @@ impl<F: Forest> Writer<'_, '_, F> {
         let end = self.forest.after(place);
         let xref = self.forest.xref(place);
         let own = Sibling { tag, place };
-        let writer = Writer {
-            forest: self.forest,
-            plan: self.plan,
-            lines: self.lines,
-            window: self.window_of(place, end),
-        };
+        let writer = self.within(place, end);
         writer.write_tree(rule, 0, xref, own, end, work)
     }
 
@@ -85,12 +80,7 @@ pub fn spell_tidy_in<'f, F: Forest>(
         numbers: &[],
         file,
     };
-    let writer = Writer {
-        forest,
-        plan,
-        lines: forest.bare_lines(),
-        window: Window { start: 0, end: 0 },
-    };
+    let writer = Writer::new(forest, plan);
     let answer = Answer::start(alloc, forest.size(), file.len())?;
     let mut work = Work::new(alloc, answer);
     writer.write_kept_records(records, &mut work)?;

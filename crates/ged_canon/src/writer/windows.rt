@@ -36,6 +36,20 @@ impl<F: Forest> Writer<'_, '_, F> {
         same_between(self.plan.file, self.lines.text(), start, stop)
     }
 
+    /// The same writer, by which lines are kept of the structures from a place up to the place `end`, if the file is the same there.
+    #[inline(always)]
+    pub(crate) fn within(&self, place: usize, end: usize) -> Self
+        ensures forest { result.forest.now ≡ self.now.forest.now }
+        ensures plan { result.plan ≡ self.now.plan }
+    {
+        Writer {
+            forest: self.forest,
+            plan: self.plan,
+            lines: self.lines,
+            window: self.window_of(place, end),
+        }
+    }
+
     /// From where up to where the own line of the structure at a place stands in the file as it is written at this level, if the forest
     /// keeps it so, and the file is known to be the same there. No byte of the line is read but its end.
     #[inline(always)]

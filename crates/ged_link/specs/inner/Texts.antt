@@ -6,11 +6,7 @@ use Rattle.std.specs.Str.{bytes_eq}
 use Rattle.ged_line.specs.Bytes.{Bytes}
 use Rattle.ged_link.specs.declared.index.RecordPlace.{RecordPlace}
 use Rattle.ged_link.specs.declared.text_slots.TextSlot.{TextSlot}
-use Rattle.ged_link.specs.Texts.{first_slot, slots_of, kept_for}
-
--- a slot without a name
-abbrev pub free : TextSlot
-free = record { tag = 0; start = 0; length = 0; number = 0; place = 0 }
+use Rattle.ged_link.specs.Texts.{free, first_slot, kept_for}
 
 -- a free slot that a name with a hash may have
 pub record MayStandAt (slots : List TextSlot) (hash at : ℕ) : Type 0 where
@@ -18,10 +14,6 @@ pub record MayStandAt (slots : List TextSlot) (hash at : ℕ) : Type 0 where
   pub near : at < first_slot (length slots) hash + 8
   pub within : at < length slots
   pub free : (slice_index_or slots at free).length ≡ 0
-
--- no slot is free that a name with a hash may have
-abbrev pub HasNoRoom : List TextSlot → ℕ → Type 0
-HasNoRoom slots hash = (at : ℕ) → at < length (slots_of slots hash) → 0 < (slice_index_or (slots_of slots hash) at free).length
 
 -- where a text begins, how long it is, and the record fit a slot
 pub record FitsSlot (at : ℕ) (name : Bytes) (found : RecordPlace) : Type 0 where

@@ -1,5 +1,5 @@
 use Rattle.std.proofs.Common.{refl, ◌≡◌, ◌++◌, rules, set, subst, sym, List, ℕ, length}
-use Rattle.ged_link.proofs.TextLemmas.{keeps_text}
+use Rattle.ged_link.proofs.TextLemmas.{keeps_text, stays_crowded}
 use Rattle.ged_link.specs.inner.Texts.{KeepsText, IsSlotFor}
 use Rattle.ged_link.proofs.text_slots.keep_text.Goals as goal
 
@@ -16,3 +16,6 @@ returns-clause-kept c told =
 
 pub returns-in_default-clause-full : goal.returns-in_default-clause-full
 returns-in_default-clause-full c told fits = c.in_default.ensures.full refl
+
+pub returns-clause-crowded : goal.returns-clause-crowded
+returns-clause-crowded c other = stays_crowded c.args.slots.now other c.in-Some.at c.in-Some-slot_for.slot (search rules)

@@ -2,8 +2,7 @@ use Rattle.std.proofs.Common.{rules, ◌≡◌, ◌∙◌, ap, List, None, repli
 use Rattle.std.specs.HashMap.{get_by_text}
 use Rattle.std.specs.Option.{option_or}
 use Rattle.ged_link.specs.declared.text_slots.TextSlot.{TextSlot}
-use Rattle.ged_link.specs.Texts.{kept_for, text_hash}
-use Rattle.ged_link.specs.inner.Texts.{free}
+use Rattle.ged_link.specs.Texts.{kept_for, text_hash, free}
 use Rattle.ged_link.proofs.TextLemmas.{none_for}
 use Rattle.ged_link.proofs.records_by_text.RecordsByText.new.Goals as goal
 

@@ -1,0 +1,28 @@
+use Rattle.std.proofs.Common.{◌≡◌, ◌∷◌, [], length, get_or, refl, sym, ◌∙◌, arith}
+use Rattle.std.proofs.lemmas.Slice.Eq.{text_from_reads}
+use Rattle.ged_accept.proofs.Showing.{deep_front}
+use Rattle.ged_accept.proofs.show.put_deep_line.Goals as goal
+
+pub put_line-requires : goal.put_line-requires
+put_line-requires c =
+    let seen = c.as_bytes.result.now in
+    let letters = get_or seen 0 0 ∷ get_or seen 1 0 ∷ [] in
+    let width : length seen ≡ 2 = omega (arith, c.in-len2.len_at_least, c.in-len2.len_below) in
+    let tag_is : letters ≡ c.args.tag.now = sym (text_from_reads seen letters width (refl, (refl, tt))) ∙ c.as_bytes.ensures.value in
+    (omega arith, deep_front c.args.level letters c.args.tag.now (omega (arith, c.if-level-lt10.false)) (omega (arith, c.if-level-gt99.false)) tag_is)
+
+pub put_line-requires-in-len3 : goal.put_line-requires-in-len3
+put_line-requires-in-len3 c =
+    let seen = c.as_bytes.result.now in
+    let letters = get_or seen 0 0 ∷ get_or seen 1 0 ∷ get_or seen 2 0 ∷ [] in
+    let width : length seen ≡ 3 = omega (arith, c.in-len3.len_at_least, c.in-len3.len_below) in
+    let tag_is : letters ≡ c.args.tag.now = sym (text_from_reads seen letters width (refl, (refl, (refl, tt)))) ∙ c.as_bytes.ensures.value in
+    (omega arith, deep_front c.args.level letters c.args.tag.now (omega (arith, c.if-level-lt10.false)) (omega (arith, c.if-level-gt99.false)) tag_is)
+
+pub put_line-requires-in-len4 : goal.put_line-requires-in-len4
+put_line-requires-in-len4 c =
+    let seen = c.as_bytes.result.now in
+    let letters = get_or seen 0 0 ∷ get_or seen 1 0 ∷ get_or seen 2 0 ∷ get_or seen 3 0 ∷ [] in
+    let width : length seen ≡ 4 = omega (arith, c.in-len4.len_at_least, c.in-len4.len_below) in
+    let tag_is : letters ≡ c.args.tag.now = sym (text_from_reads seen letters width (refl, (refl, (refl, (refl, tt))))) ∙ c.as_bytes.ensures.value in
+    (omega arith, deep_front c.args.level letters c.args.tag.now (omega (arith, c.if-level-lt10.false)) (omega (arith, c.if-level-gt99.false)) tag_is)
