@@ -85,7 +85,8 @@ pub(crate) fn say_bare_lines<F: Forest>(forest: &F, answer: &mut Answer) {
     }
 }
 
-/// The line of one place. Where the forest tells it at another level too, it says so.
+/// The line of one place. Where the forest does not tell that it is the structure's only line and no pointer, or where it tells the line at
+/// another level too, this is said.
 fn say_bare_line<F: Forest>(forest: &F, place: usize, answer: &mut Answer)
     requires { place < trees_count (F.trees forest.now) }
 {
@@ -94,6 +95,9 @@ fn say_bare_line<F: Forest>(forest: &F, place: usize, answer: &mut Answer)
     match lines.at(place, level) {
         Some((start, end)) => answer.say_bytes(&lines.text()[start..end]),
         None => answer.say("None\n"),
+    }
+    if lines.sole_at(place, level) != lines.at(place, level) {
+        answer.say("and more, or a pointer\n");
     }
     if lines.at(place, level.wrapping_add(1)).is_some() {
         answer.say("and at another level\n");

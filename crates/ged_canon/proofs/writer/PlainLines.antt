@@ -1,7 +1,11 @@
 -- Lines that are written as they stand, whatever the context.
 use Rattle.std.proofs.Common.{◌≡◌, ℕ, ◌+◌, Bool, true, false, cond, List, [], ◌∷◌, ◌++◌, map, Option, None, length, refl, sym, ap, ◌∙◌, ◌⊎◌, inl, inr, codes, decimal, arith}
 use Rattle.std.specs.Prelude.{◌==◌, ◌||◌, ◌<◌, ◌↔◌, IsTrue}
+use Rattle.std.specs.Bool.{Decides}
 use Rattle.std.specs.List.{list_any}
+use Rattle.std.specs.Str.{bytes_eq}
+use Rattle.std.proofs.lemmas.Fmt.{decimal_digit}
+use Rattle.std.proofs.lemmas.Slice.Eq.{bytes_eq-Decides}
 use Rattle.std.proofs.lemmas.Bool.{or_parts, true≢false, cases_lt}
 use Rattle.ged_line.specs.Bytes.{Bytes}
 use Rattle.ged_line.specs.Lines.{LineParts, line_parts, xref_part}
@@ -33,6 +37,32 @@ has_g bytes = list_any (λ b. b == 71) bytes
 behind_lacks : (front bytes : Bytes) → has_g (front ++ bytes) ≡ false → has_g bytes ≡ false
 behind_lacks [] bytes h = h
 behind_lacks (b ∷ bs) bytes h = behind_lacks bs bytes (or_parts (b == 71) (has_g (bs ++ bytes)) h).1
+
+front_lacks : (bytes behind : Bytes) → has_g (bytes ++ behind) ≡ false → has_g bytes ≡ false
+front_lacks [] behind h = refl
+front_lacks (b ∷ bs) behind h =
+    let parts = or_parts (b == 71) (has_g (bs ++ behind)) h in
+    ap (λ t. t || has_g bs) parts.0 ∙ front_lacks bs behind parts.1
+
+-- so a line without one has none behind its level
+pub level_lacks : (level : ℕ) (bytes line : Bytes) → line ≡ (decimal level ++ 32 ∷ bytes) ++ 10 ∷ [] → has_g line ≡ false → has_g bytes ≡ false
+level_lacks level bytes line is h = behind_lacks (decimal level) (32 ∷ bytes) (front_lacks (decimal level ++ 32 ∷ bytes) (10 ∷ []) (ap has_g (sym is) ∙ h))
+
+-- a line whose tag begins with other letters
+pub undated : (level : ℕ) (tag rest line : Bytes) → level < 10 → line ≡ (decimal level ++ 32 ∷ (tag ++ rest)) ++ 10 ∷ []
+    → ((a b : ℕ) (more : Bytes) → line ≡ a ∷ b ∷ 68 ∷ 65 ∷ more → ⊥) → ((a b : ℕ) (more : Bytes) → line ≡ a ∷ b ∷ 83 ∷ 68 ∷ more → ⊥)
+    → may_be_dated tag ≡ false
+undated level tag rest line digit is date sdate =
+    go (bytes_eq tag (codes "DATE")) (bytes_eq tag (codes "SDATE")) refl refl (bytes_eq-Decides tag (codes "DATE")) (bytes_eq-Decides tag (codes "SDATE"))
+  where
+    shown : (letters : Bytes) → tag ≡ letters → line ≡ (48 + level) ∷ 32 ∷ ((letters ++ rest) ++ 10 ∷ [])
+    shown letters e = is ∙ ap (λ ds. (ds ++ 32 ∷ (tag ++ rest)) ++ 10 ∷ []) (decimal_digit level digit) ∙ ap (λ t. (48 + level) ∷ 32 ∷ ((t ++ rest) ++ 10 ∷ [])) e
+
+    go : (one other : Bool) → bytes_eq tag (codes "DATE") ≡ one → bytes_eq tag (codes "SDATE") ≡ other → Decides one (tag ≡ codes "DATE") → Decides other (tag ≡ codes "SDATE")
+        → may_be_dated tag ≡ false
+    go true other e f d g = absurd (date (48 + level) 32 (84 ∷ 69 ∷ (rest ++ 10 ∷ [])) (shown (codes "DATE") (d.0 refl)))
+    go false true e f d g = absurd (sdate (48 + level) 32 (65 ∷ 84 ∷ 69 ∷ (rest ++ 10 ∷ [])) (shown (codes "SDATE") (g.0 refl)))
+    go false false e f d g = ap (λ t. t || bytes_eq tag (codes "SDATE")) e ∙ f
 
 line_lacks : (line : Bytes) → has_g (value_part (line_value line)) ≡ false → has_g line ≡ false
 line_lacks [] h = refl

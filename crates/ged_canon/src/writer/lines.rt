@@ -29,7 +29,7 @@ use crate::writer::numbers::{is_kept_name, is_numbered, new_number_at};
 use crate::writer::plan::{Plan, Work, Writer};
 use crate::writer::siblings::Sibling;
 use ged_line::ValueView;
-use ged_schema::{ContextRows, Rule};
+use ged_schema::{Context, Rule};
 use ged_tree::{Forest, OwnLine, PayloadView};
 use itoa::Buffer;
 use std::alloc::AllocError;
@@ -267,18 +267,22 @@ impl<F: Forest> Writer<'_, '_, F> {
     #[inline(always)]
     pub(crate) fn write_at_once(
         &self,
-        rows: &ContextRows,
+        _context: Context,
         level: u8,
         place: usize,
         work: &mut Work,
     ) -> Result<bool, AllocError>
         requires within { place < trees_count (F.trees self.now.forest.now) }
-        requires stands { HasLinesAt level (brief_sibling self.now.plan.edition (row rows.now (structure_at (F.trees self.now.forest.now) place).tag) None (F.trees self.now.forest.now) (sibling_at (F.trees self.now.forest.now) place)) }
+        requires stands { HasLinesAt level (brief_sibling self.now.plan.edition (row _context (structure_at (F.trees self.now.forest.now) place).tag) None (F.trees self.now.forest.now) (sibling_at (F.trees self.now.forest.now) place)) }
         ensures kept { IfOk result (λ _. work.new.siblings.items ≡ work.old.siblings.items) }
         ensures lines { (names : List Bytes) → IsNumberingOf (F.trees self.now.forest.now) names self.now.plan.index.now self.now.plan.numbers.now → IfOk result (λ all. IsTrue all → Appends self.now.plan.file.now work.old.answer work.new.answer
-            (spelled_lines (structure_lines level (renamed_sibling (number_of 1 names) self.now.plan.edition (row rows.now (structure_at (F.trees self.now.forest.now) place).tag) None (F.trees self.now.forest.now) (sibling_at (F.trees self.now.forest.now) place))))) }
+            (spelled_lines (structure_lines level (renamed_sibling (number_of 1 names) self.now.plan.edition (row _context (structure_at (F.trees self.now.forest.now) place).tag) None (F.trees self.now.forest.now) (sibling_at (F.trees self.now.forest.now) place))))) }
         ensures left { IfOk result (λ all. all ≡ false → work.new.answer ≡ work.old.answer) }
     {
+        if let Some((start, end)) = self.plain_run(level, place) {
+            work.answer.push_run(self.plan.file, start, end)?;
+            return Ok(true);
+        }
         let Some(line) = self.forest.own_line(place) else {
             return Ok(false);
         };

@@ -106,19 +106,19 @@ impl<F: Forest> Writer<'_, '_, F> {
     #[inline(never)]
     fn write_by_row(
         &self,
-        rows: &ContextRows,
+        context: Context,
         level: u8,
         place: usize,
         end: usize,
         work: &mut Work,
     ) -> Result<(), AllocError>
-        requires { CanWriteTree self.now.plan.edition (row rows.now (structure_at (F.trees self.now.forest.now) place).tag) level None (F.trees self.now.forest.now) (sibling_at (F.trees self.now.forest.now) place) end }
+        requires { CanWriteTree self.now.plan.edition (row context (structure_at (F.trees self.now.forest.now) place).tag) level None (F.trees self.now.forest.now) (sibling_at (F.trees self.now.forest.now) place) end }
         ensures kept { OnOk result (work.new.siblings.items ≡ work.old.siblings.items) }
         ensures lines { Writes (F.trees self.now.forest.now) self.now.plan result work.old.answer work.new.answer
-            (λ new. sibling_lines new self.now.plan.edition (row rows.now (structure_at (F.trees self.now.forest.now) place).tag) level None (F.trees self.now.forest.now) (sibling_at (F.trees self.now.forest.now) place)) }
+            (λ new. sibling_lines new self.now.plan.edition (row context (structure_at (F.trees self.now.forest.now) place).tag) level None (F.trees self.now.forest.now) (sibling_at (F.trees self.now.forest.now) place)) }
     {
         let tag = self.forest.tag(place);
-        let rule = rows.row(tag);
+        let rule = ContextRows::of(context).row(tag);
         self.write_tree(rule, level, None, Sibling { tag, place }, end, work)
     }
 
@@ -127,26 +127,26 @@ impl<F: Forest> Writer<'_, '_, F> {
     #[inline(always)]
     fn write_sibling(
         &self,
-        rows: &ContextRows,
+        context: Context,
         level: u8,
         place: usize,
         end: usize,
         work: &mut Work,
     ) -> Result<(), AllocError>
-        requires { CanWriteTree self.now.plan.edition (row rows.now (structure_at (F.trees self.now.forest.now) place).tag) level None (F.trees self.now.forest.now) (sibling_at (F.trees self.now.forest.now) place) end }
+        requires { CanWriteTree self.now.plan.edition (row context (structure_at (F.trees self.now.forest.now) place).tag) level None (F.trees self.now.forest.now) (sibling_at (F.trees self.now.forest.now) place) end }
         ensures kept { OnOk result (work.new.siblings.items ≡ work.old.siblings.items) }
         ensures lines { Writes (F.trees self.now.forest.now) self.now.plan result work.old.answer work.new.answer
-            (λ new. sibling_lines new self.now.plan.edition (row rows.now (structure_at (F.trees self.now.forest.now) place).tag) level None (F.trees self.now.forest.now) (sibling_at (F.trees self.now.forest.now) place)) }
+            (λ new. sibling_lines new self.now.plan.edition (row context (structure_at (F.trees self.now.forest.now) place).tag) level None (F.trees self.now.forest.now) (sibling_at (F.trees self.now.forest.now) place)) }
     {
-        if !self.write_at_once(rows, level, place, work)? {
-            return self.write_by_row(rows, level, place, end, work);
+        if !self.write_at_once(context, level, place, work)? {
+            return self.write_by_row(context, level, place, end, work);
         }
         let start = place + 1;
         if start >= end {
             return Ok(());
         }
-        let below = context_below(rows.row(self.forest.tag(place)));
-        self.write_run(below, level + 1, start, end, work)
+        let rule = ContextRows::of(context).row(self.forest.tag(place));
+        self.write_run(context_below(rule), level + 1, start, end, work)
     }
 
     /// Appends the lines of the structures of a run that stand in a context, and of what stands below them, in the order of
@@ -168,10 +168,9 @@ impl<F: Forest> Writer<'_, '_, F> {
         if !are_in_order(self.forest, start, end) {
             return self.write_sorted(context, level, start, end, work);
         }
-        let rows = ContextRows::of(context);
         let mut place = start;
         while let Some(after) = next_in_run(self.forest, place, end) {
-            self.write_sibling(&rows, level, place, after, work)?;
+            self.write_sibling(context, level, place, after, work)?;
             place = after;
         }
         Ok(())
@@ -196,12 +195,11 @@ impl<F: Forest> Writer<'_, '_, F> {
     {
         let base = work.siblings.len();
         push_sorted(self.plan.alloc, self.forest, start, end, &mut work.siblings)?;
-        let rows = ContextRows::of(context);
         let mut number = base;
         while number < work.siblings.len() {
             let ranked = work.siblings[number];
             let after = self.forest.after(ranked.place);
-            self.write_sibling(&rows, level, ranked.place, after, work)?;
+            self.write_sibling(context, level, ranked.place, after, work)?;
             number += 1;
         }
         work.siblings.truncate(base);

@@ -6,14 +6,14 @@ use Rattle.std.proofs.lemmas.Option.{slice_get_within, get_or_from_slice_get}
 use Rattle.ged_line.specs.Bytes.{Bytes}
 use Rattle.ged_tree.specs.Places.{structure_at}
 use Rattle.ged_tree.specs.DocumentLines.{rest_of_line}
-use Rattle.ged_tree.specs.BareLines.{IsBare}
+use Rattle.ged_tree.specs.BareLines.{IsBare, TellsOwnLine}
 use Rattle.ged_tree.specs.Rows.{IsFlat, Shown, flat_trees, shown_from, shown_with, further_of, text_at, line_shown, kept_level, kept_tag_length}
 use Rattle.ged_tree.specs.declared.forest.continuations.FurtherTable.{FurtherTable}
 use Rattle.ged_tree.specs.declared.table.closing.Sizes.{Sizes}
 use Rattle.ged_tree.specs.declared.table.packed.KeptStructure.{KeptStructure}
 use Rattle.ged_tree.specs.declared.table.packed.TextApart.{TextApart}
 use Rattle.ged_tree.proofs.table.PackedStructures.{text_of_slice}
-use Rattle.ged_tree.proofs.table.Answers.{kept_spelled, kept_shows}
+use Rattle.ged_tree.proofs.table.Answers.{kept_alone, kept_pointer, kept_spelled, kept_shows}
 use Rattle.ged_tree.proofs.table.Tags.{bare_line}
 
 -- a slice with the byte behind it
@@ -36,7 +36,7 @@ module _ (file : Bytes) (apart : List TextApart) (structures : List KeptStructur
   here = shown_with text s
 
   sliced : text ≡ take s.length (drop s.start file)
-  sliced = text_of_slice file apart place s bare.sliced
+  sliced = text_of_slice file apart place s bare.kept.sliced
 
   long : length text ≡ s.length
   long =
@@ -47,11 +47,14 @@ module _ (file : Bytes) (apart : List TextApart) (structures : List KeptStructur
   spelled : text ≡ decimal (kept_level s) ++ (32 ∷ rest_of_line (structure_at (flat_trees (shown_from file apart 0 structures) (further_of file table)) place))
   spelled =
       let whole = kept_spelled file apart structures sizes table flat place s h is in
-      let tag = (whole.1 bare.tagged).0 in
+      let tag = (whole.1 bare.kept.tagged).0 in
       let shows = kept_shows file apart structures sizes table flat place s h is text refl in
-      bare_line (line_shown here) text whole.0 s.tag_start (kept_tag_length s) tag.0 tag.1 bare.front (λ e. bare.ends (omega (arith, e, long, bare.front)))
+      bare_line (line_shown here) text whole.0 s.tag_start (kept_tag_length s) tag.0 tag.1 bare.kept.front (λ e. bare.kept.ends (omega (arith, e, long, bare.kept.front)))
       ∙ ap (λ (bs : Bytes). decimal (kept_level s) ++ (32 ∷ bs)) shows.rest
 
-  pub bare_in_file : slice_range file s.start (s.start + s.length + 1)
-      ≡ (decimal (kept_level s) ++ (32 ∷ rest_of_line (structure_at (flat_trees (shown_from file apart 0 structures) (further_of file table)) place))) ++ 10 ∷ []
-  bare_in_file = slice_and_byte file s.start s.length 10 bare.feed ∙ ap (λ (bs : Bytes). bs ++ 10 ∷ []) (sym sliced ∙ spelled)
+  pub bare_in_file : TellsOwnLine (flat_trees (shown_from file apart 0 structures) (further_of file table)) place file s
+  bare_in_file = record {
+    line = slice_and_byte file s.start s.length 10 bare.feed ∙ ap (λ (bs : Bytes). bs ++ 10 ∷ []) (sym sliced ∙ spelled);
+    points = kept_pointer file apart structures sizes table flat place s h is bare.kept.tagged;
+    alone = kept_alone file apart structures sizes table flat place s h is;
+  }

@@ -1,6 +1,7 @@
 // The structures of a table as they are kept, in few bytes.
-ghost use Rattle.std.specs.Prelude.{◌≡◌, ◌<◌, ◌+◌, ◌%◌, ℕ, [], Some, IfSome, IsTrue, nat_lt};
+ghost use Rattle.std.specs.Prelude.{◌≡◌, ◌<◌, ◌+◌, ◌%◌, ℕ, [], false, Some, IfSome, IsTrue, nat_lt};
 ghost use Rattle.std.specs.List.Sorted.{IsNonDecreasingBy};
+ghost use Rattle.ged_tree.specs.BareLines.{KeepsBare};
 ghost use Rattle.ged_tree.specs.Rows.{HasSlice, kept_level, kept_further, kept_tag_length, kept_points, text_at};
 ghost use Rattle.ged_tree.specs.Rows.{text_apart as finds_apart};
 
@@ -57,10 +58,7 @@ impl KeptStructure {
     #[inline(always)]
     pub(crate) fn is_bare(&self, level: u8) -> bool
         ensures level { IsTrue result → kept_level self.now ≡ level }
-        ensures sliced { IsTrue result → self.now.length < 255 }
-        ensures tagged { IsTrue result → 0 < kept_tag_length self.now }
-        ensures front { IsTrue result → self.now.tag_start ≡ 2 }
-        ensures ends { IsTrue result → ¬ (self.now.length ≡ kept_tag_length self.now + 3) }
+        ensures kept { IsTrue result → KeepsBare self.now }
     {
         let tag_length = self.tag_length();
         if tag_length == 0 || self.tag_start != 2 {
@@ -70,6 +68,24 @@ impl KeptStructure {
             return false;
         }
         self.level() == level
+    }
+
+    /// The same, where its payload is no pointer that names a record, and has no lines past the first.
+    #[inline(always)]
+    pub(crate) fn is_sole(&self, level: u8) -> bool
+        ensures level { IsTrue result → kept_level self.now ≡ level }
+        ensures kept { IsTrue result → KeepsBare self.now }
+        ensures value { IsTrue result → kept_points self.now ≡ false }
+        ensures alone { IsTrue result → kept_further self.now ≡ false }
+    {
+        // where nothing more is kept in a mark, it is the level, and the other one the length of the tag
+        if level > 127 || self.mark != level {
+            return false;
+        }
+        if self.tag_mark == 0 || self.tag_mark > 127 || self.tag_start != 2 {
+            return false;
+        }
+        self.length != APART && self.length != self.tag_mark + 3
     }
 
     /// Whether its payload is a pointer that names a record, or `None` where that is not kept.

@@ -23,30 +23,31 @@ pub(crate) struct FlatStructure<'a> {
 
 impl<'a> FlatStructure<'a> {
     /// What [`FlatStructure::tag`] answers, where the place of the tag is not kept, which is rare: so this and the next two are
-    /// functions of their own. The text is known to spell a line, so searches for single bytes find its parts, and nothing is tested.
+    /// functions of their own. They take the structure by value, so that nobody who calls them has to put it into memory. The text is
+    /// known to spell a line, so searches for single bytes find its parts, and nothing is tested.
     #[cold]
     #[inline(never)]
-    fn tag_of_line(&self) -> &'a str
-        requires { IsSpelled (shown_of self.now) }
-        ensures { result.now ≡ (line_shown (shown_of self.now)).tag }
+    fn tag_of_line(self) -> &'a str
+        requires { IsSpelled (shown_of self) }
+        ensures { result.now ≡ (line_shown (shown_of self.entry)).tag }
     {
         before_byte(b' ', self.from_tag())
     }
 
     #[cold]
     #[inline(never)]
-    fn xref_of_line(&self) -> Option<&'a str>
-        requires { IsSpelled (shown_of self.now) }
-        ensures { option_map (λ name. name.now) result ≡ (line_shown (shown_of self.now)).xref }
+    fn xref_of_line(self) -> Option<&'a str>
+        requires { IsSpelled (shown_of self) }
+        ensures { option_map (λ name. name.now) result ≡ (line_shown (shown_of self.entry)).xref }
     {
         xref_at_front(self.behind_level())
     }
 
     #[cold]
     #[inline(never)]
-    fn payload_of_line(&self) -> PayloadView<'a>
-        requires { IsSpelled (shown_of self.now) }
-        ensures { own_value result ≡ (line_shown (shown_of self.now)).value }
+    fn payload_of_line(self) -> PayloadView<'a>
+        requires { IsSpelled (shown_of self) }
+        ensures { own_value result ≡ (line_shown (shown_of self.entry)).value }
     {
         let rest = self.from_tag();
         let tag = before_byte(b' ', rest);

@@ -8,7 +8,6 @@ use Rattle.ged_tree.specs.Documents.{are_at}
 use Rattle.ged_tree.specs.DocumentLines.{structure_lines, lines_of}
 use Rattle.ged_tree.specs.Places.{structure_at, below_at}
 use Rattle.ged_tree.specs.Runs.{IsRunOfTrees, trees_between}
-use Rattle.ged_tree.specs.inner.Walks.{HasLinesAt}
 use Rattle.ged_tree.proofs.CallerLemmas.{below_run, run_below, run_ends}
 use Rattle.ged_schema.specs.Rows.{as_row}
 use Rattle.ged_schema.specs.Tables.{row, below_row}
@@ -16,7 +15,7 @@ use Rattle.ged_canon.specs.declared.writer.rank.RankedSibling.{RankedSibling}
 use Rattle.ged_canon.specs.Steps.{renamed}
 use Rattle.ged_canon.specs.inner.Working.{used_xref, number_of, sorted, each_sorted}
 use Rattle.ged_canon.specs.inner.Siblings.{sibling_trees, StandsRanked}
-use Rattle.ged_canon.specs.inner.Writing.{brief_sibling, renamed_sibling, sibling_at, CanWriteTree}
+use Rattle.ged_canon.specs.inner.Writing.{renamed_sibling, sibling_at, CanWriteTree}
 use Rattle.ged_canon.specs.inner.Written.{written}
 use Rattle.ged_canon.proofs.writer.SiblingTrees.{below_step}
 use Rattle.ged_canon.proofs.writer.RunsWritten.{tree_lines, lines_alike, can_write_alike, written_below, written_all, first_stands, below_stands, rest_stands, next_told, next_left, all_listed, in_order_sorted, run_first}
@@ -76,12 +75,12 @@ write_by_row-write_tree-requires g t c κs within =
     let edition = c.args.self.now.plan.edition in
     let place = c.args.place in
     let tag = c.tag-tag.result in
-    let rule = c.row-rule.ensures ∙ ap (row c.args.rows.now) c.tag-tag.ensures in (
+    let rule = c.row-rule.ensures ∙ ap (λ k. row k tag.now) c.of.ensures ∙ ap (row c.args.context) c.tag-tag.ensures in (
       omega (arith, c.decreases),
       (
         within,
         subst (λ r. CanWriteTree edition r c.args.level None d (record { tag = tag; place = place }) c.args.end) (sym rule)
-            (can_write_alike edition (row c.args.rows.now (structure_at d place).tag) c.args.level None d tag place c.args.end c.tag-tag.ensures c.requires),
+            (can_write_alike edition (row c.args.context (structure_at d place).tag) c.args.level None d tag place c.args.end c.tag-tag.ensures c.requires),
       ),
     )
 
@@ -89,7 +88,7 @@ pub write_by_row-returns-clause-lines : goal.write_by_row-returns-clause-lines
 write_by_row-returns-clause-lines g t c = λ names h.
     let d = g.F.Forest.trees c.args.self.now.forest.now in
     let tag = c.tag-tag.result in
-    let rule = c.row-rule.ensures ∙ ap (row c.args.rows.now) c.tag-tag.ensures in
+    let rule = c.row-rule.ensures ∙ ap (λ k. row k tag.now) c.of.ensures ∙ ap (row c.args.context) c.tag-tag.ensures in
     subst (λ text. OnOk c.write_tree.result (written c.args.self.now.plan.file.now c.write_tree.new.work.answer ≡ written c.args.self.now.plan.file.now c.args.work.now.answer ++ text))
     (lines_alike (number_of 1 names) c.args.self.now.plan.edition None d tag c.args.place c.args.level _ _ c.tag-tag.ensures rule)
     (c.write_tree.ensures.lines names h)
@@ -102,7 +101,7 @@ write_sibling-overflow_add-start g t c = omega (arith, c.requires.run.fills, c.r
 pub write_sibling-write_run-requires : goal.write_sibling-write_run-requires
 write_sibling-write_run-requires g t c κs within =
     let low = c.requires.stands.shallow in
-    let rule = c.row.ensures ∙ ap (row c.args.rows.now) c.tag.ensures in (
+    let rule = c.row-rule.ensures ∙ ap (λ k. row k c.tag.result.now) c.of.ensures ∙ ap (row c.args.context) c.tag.ensures in (
       omega (arith, c.decreases, low),
       (
         within,
@@ -110,7 +109,7 @@ write_sibling-write_run-requires g t c κs within =
           document = c.requires.document;
           run = c.requires.run;
           deep = omega arith;
-          stand = (λ i. are_at (c.args.level + 1) (sorted c.args.self.now.plan.edition ((c.context_below-below.ensures ∙ ap below_row rule) i) (c.requires.deeper i))) ∙ c.requires.below;
+          stand = (λ i. are_at (c.args.level + 1) (sorted c.args.self.now.plan.edition ((c.context_below.ensures ∙ ap below_row rule) i) (c.requires.deeper i))) ∙ c.requires.below;
         },
       ),
     )
@@ -120,11 +119,11 @@ write_sibling-returns-clause-lines g t c = λ names h.
     let d = g.F.Forest.trees c.args.self.now.forest.now in
     let edition = c.args.self.now.plan.edition in
     let new = number_of 1 names in
-    let r = row c.args.rows.now (structure_at d c.args.place).tag in
-    let rule = c.row.ensures ∙ ap (row c.args.rows.now) c.tag.ensures in
+    let r = row c.args.context (structure_at d c.args.place).tag in
+    let rule = c.row-rule.ensures ∙ ap (λ k. row k c.tag.result.now) c.of.ensures ∙ ap (row c.args.context) c.tag.ensures in
     let own = structure_lines c.args.level (renamed_sibling new edition r None d (sibling_at d c.args.place)) in
     subst (λ text. OnOk c.write_run.result (written c.args.self.now.plan.file.now c.write_run.new.work.answer ≡ text))
-    ((λ i. written c.args.self.now.plan.file.now c.write_at_once.new.work.answer ++ spelled_lines (lines_of (c.args.level + 1) (renamed new (sorted edition ((c.context_below-below.ensures ∙ ap below_row rule) i) (c.requires.deeper i)))))
+    ((λ i. written c.args.self.now.plan.file.now c.write_at_once.new.work.answer ++ spelled_lines (lines_of (c.args.level + 1) (renamed new (sorted edition ((c.context_below.ensures ∙ ap below_row rule) i) (c.requires.deeper i)))))
     ∙ written_below (written c.args.self.now.plan.file.now c.args.work.now.answer) (written c.args.self.now.plan.file.now c.write_at_once.new.work.answer) own (lines_of (c.args.level + 1) (renamed new (sorted edition (below_row r) (below_at d c.args.place)))) (c.in_ok-write_at_once.ensures.lines names h c.if-not-branch.false))
     (c.write_run.ensures.lines names h)
 
@@ -134,7 +133,7 @@ write_sibling-returns-then-start-end-clause-lines g t c = λ names h.
     let place = c.args.place in
     let edition = c.args.self.now.plan.edition in
     let new = number_of 1 names in
-    let r = row c.args.rows.now (structure_at d place).tag in
+    let r = row c.args.context (structure_at d place).tag in
     let leaf : below_at d place ≡ none = sym c.requires.deeper ∙ run_ends d (place + 1) c.args.end (omega arith) in
     let own = structure_lines c.args.level (renamed_sibling new edition r None d (sibling_at d place)) in
     c.in_ok-write_at_once.ensures.lines names h c.if-not-branch.false
@@ -162,7 +161,6 @@ write_run-write_sibling-requires g t c κs within =
     let edition = c.args.self.now.plan.edition in
     let place = c.loop-after.place in
     let sibling = sibling_at d place in
-    let rule : row c.of-rows.result sibling.tag.now ≡ row c.args.context sibling.tag.now = ap (λ k. row k sibling.tag.now) c.of-rows.ensures in
     let x = (structure_at d place).xref in
     let all = each_sorted edition c.args.context (trees_between d place c.args.end) in
     let rest = each_sorted edition c.args.context (trees_between d c.in-Some.after c.args.end) in
@@ -175,10 +173,8 @@ write_run-write_sibling-requires g t c κs within =
           within = (c.in-Some.ensures.within, refl);
           run = c.in-Some.ensures.below;
           deeper = below_step d place c.args.end c.in-Some.after c.loop-after.invariant.run c.in-Some.ensures;
-          stands = subst (λ r. HasLinesAt c.args.level (brief_sibling edition r None d sibling)) (sym rule)
-              (first_stands edition c.args.context d c.args.level sibling x all rest is c.requires.deep c.loop-after.invariant.stand);
-          below = ap (λ r. are_at (c.args.level + 1) (sorted edition (below_row r) (below_at d place))) rule
-              ∙ below_stands edition c.args.context d c.args.level sibling x all rest is c.requires.deep c.loop-after.invariant.stand;
+          stands = first_stands edition c.args.context d c.args.level sibling x all rest is c.requires.deep c.loop-after.invariant.stand;
+          below = below_stands edition c.args.context d c.args.level sibling x all rest is c.requires.deep c.loop-after.invariant.stand;
         },
       ),
     )
@@ -189,7 +185,6 @@ write_run-loop-after-preserved g t c =
     let edition = c.args.self.now.plan.edition in
     let place = c.loop-after.place in
     let sibling = sibling_at d place in
-    let rule : row c.of-rows.result sibling.tag.now ≡ row c.args.context sibling.tag.now = ap (λ k. row k sibling.tag.now) c.of-rows.ensures in
     let x = (structure_at d place).xref in
     let all = each_sorted edition c.args.context (trees_between d place c.args.end) in
     let rest = each_sorted edition c.args.context (trees_between d c.in-Some.after c.args.end) in
@@ -200,7 +195,7 @@ write_run-loop-after-preserved g t c =
       stand = rest_stands edition c.args.context d c.args.level sibling x all rest is c.requires.deep c.loop-after.invariant.stand;
       told = λ names h. next_told edition c.args.context d c.args.level sibling x all rest is c.requires.deep c.loop-after.invariant.stand (number_of 1 names)
           (written c.args.self.now.plan.file.now c.args.work.now.answer ++ spelled_lines (lines_of c.args.level (renamed (number_of 1 names) (sorted edition c.args.context (trees_between d c.args.start c.args.end)))))
-          (written c.args.self.now.plan.file.now c.loop-after.work.answer) (written c.args.self.now.plan.file.now c.write_sibling.new.work.answer) (c.in_ok-write_sibling.ensures.lines names h ∙ ap (λ bytes. written c.args.self.now.plan.file.now c.loop-after.work.answer ++ bytes) (tree_lines (number_of 1 names) edition None d sibling c.args.level _ (row c.args.context sibling.tag.now) rule)) (c.loop-after.invariant.told names h);
+          (written c.args.self.now.plan.file.now c.loop-after.work.answer) (written c.args.self.now.plan.file.now c.write_sibling.new.work.answer) (c.in_ok-write_sibling.ensures.lines names h ∙ ap (λ bytes. written c.args.self.now.plan.file.now c.loop-after.work.answer ++ bytes) (tree_lines (number_of 1 names) edition None d sibling c.args.level _ (row c.args.context sibling.tag.now) refl)) (c.loop-after.invariant.told names h);
     }
 
 pub write_run-returns-clause-lines : goal.write_run-returns-clause-lines
@@ -240,7 +235,6 @@ write_sorted-write_sibling-requires g t c κs within =
     let ranked = c.index-ranked.result.now in
     let sibling = sibling_at d ranked.place in
     let tag = (structure_at d sibling.place).tag in
-    let rule : row c.of-rows.result tag ≡ row c.args.context tag = ap (λ k. row k tag) c.of-rows.ensures in
     let x = used_xref (λ name. true) (structure_at d sibling.place).xref in
     let listed = next_left items at ranked (omega arith) c.index-ranked.ensures in
     let all = sibling_trees (λ name. true) edition c.args.context d (drop at items) in
@@ -255,10 +249,8 @@ write_sorted-write_sibling-requires g t c κs within =
           within = (here.within, refl);
           run = subst (λ q. IsRunOfTrees d (sibling.place + 1) q) (sym c.after-after.ensures) (run_below d sibling.place here.within);
           deeper = ap (trees_between d (sibling.place + 1)) c.after-after.ensures ∙ below_run d sibling.place here.within;
-          stands = subst (λ r. HasLinesAt c.args.level (brief_sibling edition r None d sibling)) (sym rule)
-              (first_stands edition c.args.context d c.args.level sibling x all rest is c.requires.deep c.loop-number.invariant.stand);
-          below = ap (λ r. are_at (c.args.level + 1) (sorted edition (below_row r) (below_at d sibling.place))) rule
-              ∙ below_stands edition c.args.context d c.args.level sibling x all rest is c.requires.deep c.loop-number.invariant.stand;
+          stands = first_stands edition c.args.context d c.args.level sibling x all rest is c.requires.deep c.loop-number.invariant.stand;
+          below = below_stands edition c.args.context d c.args.level sibling x all rest is c.requires.deep c.loop-number.invariant.stand;
         },
       ),
     )
@@ -273,7 +265,6 @@ write_sorted-loop-number-preserved g t c =
     let ranked = c.index-ranked.result.now in
     let sibling = sibling_at d ranked.place in
     let tag = (structure_at d sibling.place).tag in
-    let rule : row c.of-rows.result tag ≡ row c.args.context tag = ap (λ k. row k tag) c.of-rows.ensures in
     let x = used_xref (λ name. true) (structure_at d sibling.place).xref in
     let listed = next_left items at ranked (omega arith) c.index-ranked.ensures in
     let all = sibling_trees (λ name. true) edition c.args.context d (drop at items) in
@@ -290,7 +281,7 @@ write_sorted-loop-number-preserved g t c =
           ap (λ (xs : List RankedSibling). written c.args.self.now.plan.file.now c.write_sibling.new.work.answer ++ spelled_lines (lines_of c.args.level (renamed (number_of 1 names) (sibling_trees (λ name. true) edition c.args.context d (drop (at + 1) xs))))) same
           ∙ next_told edition c.args.context d c.args.level sibling x all rest is c.requires.deep c.loop-number.invariant.stand (number_of 1 names)
           (written c.args.self.now.plan.file.now c.args.work.now.answer ++ spelled_lines (lines_of c.args.level (renamed (number_of 1 names) (sorted edition c.args.context (trees_between d c.args.start c.args.end)))))
-          (written c.args.self.now.plan.file.now c.loop-number.work.answer) (written c.args.self.now.plan.file.now c.write_sibling.new.work.answer) (c.in_ok-write_sibling.ensures.lines names h ∙ ap (λ bytes. written c.args.self.now.plan.file.now c.loop-number.work.answer ++ bytes) (tree_lines (number_of 1 names) edition None d sibling c.args.level _ (row c.args.context tag) rule)) (c.loop-number.invariant.told names h);
+          (written c.args.self.now.plan.file.now c.loop-number.work.answer) (written c.args.self.now.plan.file.now c.write_sibling.new.work.answer) (c.in_ok-write_sibling.ensures.lines names h ∙ ap (λ bytes. written c.args.self.now.plan.file.now c.loop-number.work.answer ++ bytes) (tree_lines (number_of 1 names) edition None d sibling c.args.level _ (row c.args.context tag) refl)) (c.loop-number.invariant.told names h);
     }
 
 pub write_sorted-returns-clause-lines : goal.write_sorted-returns-clause-lines

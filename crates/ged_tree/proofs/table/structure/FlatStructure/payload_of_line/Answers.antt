@@ -10,13 +10,13 @@ use Rattle.ged_tree.proofs.table.structure.FlatStructure.payload_of_line.Goals a
 
 pub range_from-requires : goal.range_from-requires
 range_from-requires c =
-    let s = shown_of c.args.self.now in
+    let s = shown_of c.args.self in
     let spelled : IsSpelled s = c.requires in
     rw (c.before_byte-tag.ensures, c.from_tag-rest.ensures) (λ l. word_boundary (line_shown s) s.text spelled.0)
 
 pub payload_behind_tag-requires : goal.payload_behind_tag-requires
 payload_behind_tag-requires c =
-    let s = shown_of c.args.self.now in
+    let s = shown_of c.args.self in
     let spelled : IsSpelled s = c.requires in
     let line = line_shown s in
     let behind = rw (c.before_byte-tag.ensures, c.from_tag-rest.ensures) at c.range_from.ensures.value in
