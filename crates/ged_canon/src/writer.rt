@@ -1,11 +1,13 @@
 // The canonical spelling of a document, written from the document itself.
 pub(crate) mod alike;
 pub(crate) mod answer;
+pub(crate) mod bare;
 pub(crate) mod brief;
 pub(crate) mod compared;
 pub(crate) mod document;
 pub(crate) mod gathered;
 pub(crate) mod kept;
+pub(crate) mod leaves;
 pub(crate) mod lines;
 pub(crate) mod numbered;
 pub(crate) mod numbers;
@@ -17,4 +19,3 @@ pub(crate) mod same;
 pub(crate) mod siblings;
 pub(crate) mod structures;
 pub(crate) mod tidy;
-pub(crate) mod windows;

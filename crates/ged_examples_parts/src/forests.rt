@@ -3,7 +3,7 @@ ghost use Rattle.std.specs.Prelude.{◌<◌};
 ghost use Rattle.ged_tree.specs.Trees.{trees_count};
 
 use ged_examples_answers::Answer;
-use ged_tree::{Forest, PayloadView, end_of_all, next_in_run};
+use ged_tree::{Flat, Forest, PayloadView, end_of_all, next_in_run};
 
 /// A line for each place with what the forest tells of its structure.
 pub(crate) fn say_forest<F: Forest>(forest: &F, answer: &mut Answer) {
@@ -78,20 +78,20 @@ pub(crate) fn say_own_lines<F: Forest>(forest: &F, answer: &mut Answer) {
     }
 }
 
-/// For each place the structure's own line, where the forest tells that it stands in a text as it is written, or a line with `None`.
-pub(crate) fn say_bare_lines<F: Forest>(forest: &F, answer: &mut Answer) {
-    for place in 0..forest.size() {
-        say_bare_line(forest, place, answer);
+/// For each place the structure's own line, where the table tells that it stands in its file as it is written, or a line with `None`.
+pub(crate) fn say_bare_lines(flat: &Flat<'_>, answer: &mut Answer) {
+    for place in 0..flat.size() {
+        say_bare_line(flat, place, answer);
     }
 }
 
-/// The line of one place. Where the forest does not tell that it is the structure's only line and no pointer, or where it tells the line at
+/// The line of one place. Where the table does not tell that it is the structure's only line and no pointer, or where it tells the line at
 /// another level too, this is said.
-fn say_bare_line<F: Forest>(forest: &F, place: usize, answer: &mut Answer)
-    requires { place < trees_count (F.trees forest.now) }
+fn say_bare_line(flat: &Flat<'_>, place: usize, answer: &mut Answer)
+    requires { place < trees_count flat.now }
 {
-    let lines = forest.bare_lines();
-    let level = forest.level(place);
+    let lines = flat.bare_lines();
+    let level = flat.level(place);
     match lines.at(place, level) {
         Some((start, end)) => answer.say_bytes(&lines.text()[start..end]),
         None => answer.say("None\n"),

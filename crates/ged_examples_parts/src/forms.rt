@@ -1,4 +1,5 @@
 // Calls of `ged_canon` on a form in slices of its file.
+ghost use Rattle.ged_tree.specs.BareLines.{AreBareLines};
 ghost use Rattle.ged_link.specs.Indexes.{IsIndexOf};
 ghost use Rattle.ged_schema.specs.Checked.{Checked};
 
@@ -22,21 +23,15 @@ pub(crate) fn answer(alloc: Global, call: &str, argument: &[u8], answer: &mut An
         return false;
     }
     match flatten(alloc, argument) {
-        Ok(flat) => tell_table(alloc, question, &flat, argument, answer),
+        Ok(flat) => tell_table(alloc, question, &flat, answer),
         Err(_) => answer.say("no document"),
     }
     true
 }
 
-fn tell_table(
-    alloc: Global,
-    question: Question<'_>,
-    flat: &Flat<'_>,
-    argument: &[u8],
-    told: &mut Answer,
-) {
+fn tell_table(alloc: Global, question: Question<'_>, flat: &Flat<'_>, told: &mut Answer) {
     match index_of(alloc, flat) {
-        Ok(Some(index)) => tell_form(alloc, question, flat, &index, argument, told),
+        Ok(Some(index)) => tell_form(alloc, question, flat, &index, told),
         Ok(None) => told.say("not checked"),
         Err(_) => told.lack_memory(),
     }
@@ -47,19 +42,16 @@ fn tell_form(
     question: Question<'_>,
     flat: &Flat<'_>,
     index: &Index,
-    argument: &[u8],
     told: &mut Answer,
 )
     requires index { IsIndexOf flat.now index.now }
     requires checked { Checked flat.now }
 {
     let edition = edition_of(question.word).unwrap_or(Edition::First);
-    let file = argument
-        .strip_prefix("\u{feff}".as_bytes())
-        .unwrap_or(argument);
+    let lines = flat.bare_lines();
     let made = match question.name {
-        "tidy_form" => spell_tidy_in(alloc, edition, flat, index, file),
-        _ => spell_canonical_in(alloc, edition, flat, index, file),
+        "tidy_form" => spell_tidy_in(alloc, edition, flat, index, lines),
+        _ => spell_canonical_in(alloc, edition, flat, index, lines),
     };
     if let Some(form) = told.given(made) {
         say_form(alloc, form, told);
@@ -117,12 +109,12 @@ fn tell_sameness(alloc: Global, question: Question<'_>, argument: &[u8], told: &
     let one = IndexedDocument {
         forest: &flat,
         index: &index,
-        file: first,
+        lines: flat.bare_lines(),
     };
     let other = IndexedDocument {
         forest: &other_flat,
         index: &other_index,
-        file: second,
+        lines: other_flat.bare_lines(),
     };
     tell_same_form(alloc, question, &one, &other, told);
 }
@@ -135,8 +127,10 @@ fn tell_same_form(
     other: &IndexedDocument<'_, Flat<'_>>,
     told: &mut Answer,
 )
+    requires lines { AreBareLines one.now.forest.now one.now.lines }
     requires index { IsIndexOf one.now.forest.now one.now.index.now }
     requires checked { Checked one.now.forest.now }
+    requires other_lines { AreBareLines other.now.forest.now other.now.lines }
     requires other_index { IsIndexOf other.now.forest.now other.now.index.now }
     requires other_checked { Checked other.now.forest.now }
 {
@@ -145,8 +139,8 @@ fn tell_same_form(
         return;
     };
     told.say_truth(same);
-    let made = spell_canonical_in(alloc, edition, one.forest, one.index, one.file);
-    let other_made = spell_canonical_in(alloc, edition, other.forest, other.index, other.file);
+    let made = spell_canonical_in(alloc, edition, one.forest, one.index, one.lines);
+    let other_made = spell_canonical_in(alloc, edition, other.forest, other.index, other.lines);
     if let (Some(form), Some(other_form)) = (told.given(made), told.given(other_made)) {
         if form.has_bytes_of(&other_form) != same {
             told.say(" has_bytes_of: not as told");

@@ -102,7 +102,6 @@ fn say_of_document(alloc: Global, call: &str, document: &Document, answer: &mut 
     match call {
         "build" | "document_of" => say_forest(document, answer),
         "Document::of_file/own_line" => say_own_lines(document, answer),
-        "Document::of_file/bare_lines" => say_bare_lines(document, answer),
         "Document::of_file/next_in_run" => say_steps(document, answer),
         "Document::of_file/size" | "document_of/size" => answer.say_number(document.size() as u64),
         "Node::copy" => say_nodes(alloc, document, answer),

@@ -60,11 +60,11 @@ pub(crate) struct Records<'r> {
     pub(crate) types: &'r [Option<RecordType>],
 }
 
-/// What a pointer tells: by its tag, and where the record stands that it names.
+/// What a pointer tells: where the record stands that it names, and by its tag.
 #[derive(Clone, Copy)]
 struct Pointed {
-    told: PointerTag,
     to: RecordPlace,
+    told: PointerTag,
 }
 
 /// What the pointer at a place tells by its text, or `None` where it names no record.
@@ -81,7 +81,7 @@ fn read_pointer<F: Forest>(forest: &F, records: &Records<'_>, place: usize) -> O
     };
     let to = records.names.find(name)?;
     let told = PointerTag::of(tag);
-    Some(Pointed { told, to })
+    Some(Pointed { to, told })
 }
 
 /// The same by what is listed of the pointer, or where nothing is, by its text.
@@ -104,7 +104,7 @@ fn look_up<F: Forest>(
     };
     let to = records.names.find_counted(listed.bits)?;
     let told = listed.told;
-    Some(Pointed { told, to })
+    Some(Pointed { to, told })
 }
 
 /// Marks the record that the structure at a place points to, and answers where it stands, with what the structure's tag tells, or `None`

@@ -10,12 +10,10 @@ ghost use Rattle.ged_tree.specs.Documents.{is_document};
 ghost use Rattle.ged_tree.specs.Places.{structure_at, place_after, level_at, line_at};
 ghost use Rattle.ged_tree.specs.Runs.{trees_between, IsRunOfTrees, IsStep};
 ghost use Rattle.ged_tree.specs.Views.{payload_of, is_pointer, IsOwnLine};
-ghost use Rattle.ged_tree.specs.BareLines.{AreBareLines};
 
 use crate::forest::continuations::FurtherLines;
 use crate::forest::own_line::OwnLine;
 use crate::forest::payload::PayloadView;
-use crate::table::bare_lines::BareLines;
 
 /// The structures of a document by their places, which count from 0 in the order of a file: HEAD stands at place 0, and
 /// TRLR at none. No call takes memory.
@@ -104,13 +102,6 @@ pub trait Forest {
         ensures { IfSome result (IsOwnLine (structure_at (trees self.now) _place)) }
     {
         None
-    }
-
-    /// The own lines of structures that stand in a text of the forest as they are written; a forest that has no such text has none.
-    fn bare_lines(&self) -> BareLines<'_>
-        ensures { AreBareLines (trees self.now) result }
-    {
-        BareLines::none()
     }
 
     /// The lines of the payload past the first, for a caller that wants them all; or `None` where the forest has them only one

@@ -1,6 +1,6 @@
 -- Runs of a file behind what was made before them.
 use Rattle.std.proofs.Common.{◌≡◌, ◌≤◌, ◌+◌, ◌-◌, ◌++◌, ◌∷◌, [], ℕ, List, length, take, drop, decimal, Some, slice_range, take-add, refl, sym, ap, ◌∙◌, append_assoc, append-nil, arith}
-use Rattle.std.proofs.lemmas.List.{take_all, drop_all, take-append-le, drop-append-le, length-drop, drop-drop, drop-take, take-take}
+use Rattle.std.proofs.lemmas.List.{take_all, drop_all, take-append-le, drop-append-le, length-drop, drop-drop}
 use Rattle.std.proofs.lemmas.Fmt.{decimal_digit}
 use Rattle.ged_line.specs.Bytes.{Bytes}
 use Rattle.ged_line.specs.Lines.{xref_part}
@@ -67,21 +67,6 @@ goes_on file before joined start place end low high was =
     ∙ ap (λ xs. take (place - start) (drop start file) ++ take (end - place) xs) (drop-drop (place - start) start file ∙ ap (λ n. drop n file) from))
     ∙ sym (append_assoc joined (slice_range file start place) (slice_range file place end))
     ∙ ap (λ xs. xs ++ slice_range file place end) was
-
--- where two texts have the same bytes, they have the same runs
-pub same_run : (file text : Bytes) (from to start end : ℕ) → from ≤ start → start ≤ end → end ≤ to
-    → slice_range file from to ≡ slice_range text from to → slice_range file start end ≡ slice_range text start end
-same_run file text from to start end low order high same =
-    sym (inside file) ∙ ap (λ xs. take (end - start) (drop (start - from) xs)) same ∙ inside text
-  where
-    inside : (xs : Bytes) → take (end - start) (drop (start - from) (slice_range xs from to)) ≡ slice_range xs start end
-    inside xs =
-        let all : to - from ≡ (start - from) + (to - start) = omega (arith, low, order, high) in
-        let at : from + (start - from) ≡ start = omega (arith, low) in
-        ap (λ n. take (end - start) (drop (start - from) (take n (drop from xs)))) all
-        ∙ ap (take (end - start)) (drop-take (start - from) (to - start) (drop from xs))
-        ∙ take-take (end - start) (to - start) (drop (start - from) (drop from xs)) (omega (arith, order, high))
-        ∙ ap (take (end - start)) (drop-drop (start - from) from xs ∙ ap (λ n. drop n xs) at)
 
 -- a head, a rest behind it and a line feed
 pub head_and_rest : (made level name rest head whole : Bytes) → head ≡ made ++ (level ++ 32 ∷ name) → whole ≡ head ++ rest

@@ -1,6 +1,6 @@
 -- Nothing here need be believed: only private contracts and proofs cite it.
 -- The structures of a document as the canonical form spells them, and what it is to write them; only private functions cite this.
-use Rattle.std.specs.Prelude.{◌≡◌, ℕ, ◌+◌, ◌<◌, ◌≤◌, ◌++◌, Bool, true, ◌||◌, List, length, Option, option_map, Result, OnOk, codes}
+use Rattle.std.specs.Prelude.{◌≡◌, ℕ, ◌+◌, ◌<◌, ◌≤◌, ◌++◌, Bool, true, ◌||◌, List, length, Option, option_map, Result, OnOk, codes, slice_range}
 use Rattle.std.specs.Option.{option_copied}
 use Rattle.std.specs.List.{list_all}
 use Rattle.std.specs.Str.{bytes_eq}
@@ -75,6 +75,13 @@ pub record CanWriteRun (edition : Edition) (context : Context) (level : ℕ) (d 
   pub run : IsRunOfTrees d start end
   pub deep : 0 < level
   pub stand : are_at level (sorted edition context (trees_between d start end)) ≡ true
+
+-- lines that stand together in a file, from one place up to another, are those of a run, in any context in which they can be written
+abbrev pub AreLinesOfRun : Edition → Bytes → ℕ → Trees → ℕ → ℕ → (ℕ × ℕ) → Type 0
+AreLinesOfRun edition file level d start end lines =
+    (lines.0 ≤ lines.1)
+    × ((new : Bytes → Bytes) (context : Context) → are_at level (sorted edition context (trees_between d start end)) ≡ true
+    → slice_range file lines.0 lines.1 ≡ spelled_lines (run_lines new edition context level d start end))
 
 -- the further lines of the payload at a place can be written, where its structure stands at a level
 pub record CanWriteFurther (d : Trees) (place level : ℕ) : Type 0 where

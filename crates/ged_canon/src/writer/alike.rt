@@ -2,6 +2,7 @@
 ghost use Rattle.std.specs.Prelude.{◌≡◌, ◌∷◌, ◌↔◌, [], List, IfOk, OnOk, IsTrue, length};
 ghost use Rattle.ged_line.specs.Bytes.{Bytes};
 ghost use Rattle.ged_tree.specs.Trees.{Trees};
+ghost use Rattle.ged_tree.specs.BareLines.{AreBareLines};
 ghost use Rattle.ged_link.specs.Indexes.{IsIndexOf};
 ghost use Rattle.ged_schema.specs.Checked.{Checked};
 ghost use Rattle.ged_canon.specs.Steps.{Equivalent};
@@ -17,7 +18,7 @@ use crate::writer::plan::{Plan, Work, Writer};
 use crate::writer::rank::RankedSibling;
 use crate::writer::siblings::numbers_in_order;
 use ged_link::Index;
-use ged_tree::Forest;
+use ged_tree::{BareLines, Forest};
 use std::alloc::{AllocError, Global};
 
 /// A document with what is known of it.
@@ -27,9 +28,9 @@ pub struct IndexedDocument<'a, F> {
     pub forest: &'a F,
     /// Its index.
     pub index: &'a Index,
-    /// The bytes of the file that it was read from, behind a byte order mark. Lines that stand in them as the form has them are not copied:
-    /// any other bytes serve too, more slowly.
-    pub file: &'a [u8],
+    /// Its lines that stand in a text as they are written. Those that the form has so are not copied: [`BareLines::none`] serves too, more
+    /// slowly.
+    pub lines: BareLines<'a, 'a>,
 }
 
 impl<'f, F: Forest> Writer<'_, 'f, F> {
@@ -92,8 +93,10 @@ pub fn have_same_form<F: Forest, G: Forest>(
     first: &IndexedDocument<'_, F>,
     second: &IndexedDocument<'_, G>,
 ) -> Result<bool, AllocError>
+    requires first_lines { AreBareLines (F.trees first.now.forest.now) first.now.lines }
     requires first_index { IsIndexOf (F.trees first.now.forest.now) first.now.index.now }
     requires first_checked { Checked (F.trees first.now.forest.now) }
+    requires second_lines { AreBareLines (G.trees second.now.forest.now) second.now.lines }
     requires second_index { IsIndexOf (G.trees second.now.forest.now) second.now.index.now }
     requires second_checked { Checked (G.trees second.now.forest.now) }
     ensures { IfOk result (λ same. IsTrue same ↔ Equivalent edition (F.trees first.now.forest.now) (G.trees second.now.forest.now)) }
@@ -112,16 +115,24 @@ pub fn have_same_form<F: Forest, G: Forest>(
         edition,
         index: first.index,
         numbers: numbers.as_slice(),
-        file: first.file,
+        file: first.lines.text(),
     };
-    let writer = Writer::new(first.forest, plan);
+    let writer = Writer {
+        forest: first.forest,
+        plan,
+        lines: first.lines,
+    };
     let other_plan = Plan {
         alloc,
         edition,
         index: second.index,
         numbers: other_numbers.as_slice(),
-        file: second.file,
+        file: second.lines.text(),
     };
-    let other_writer = Writer::new(second.forest, other_plan);
+    let other_writer = Writer {
+        forest: second.forest,
+        plan: other_plan,
+        lines: second.lines,
+    };
     are_alike(&writer, siblings, &other_writer, others)
 }

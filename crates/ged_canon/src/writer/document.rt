@@ -5,6 +5,7 @@ ghost use Rattle.ged_line.specs.Bytes.{Bytes};
 ghost use Rattle.ged_tree.specs.Trees.{Trees, trees_count, records_of};
 ghost use Rattle.ged_tree.specs.Documents.{is_document};
 ghost use Rattle.ged_tree.specs.Places.{structure_at};
+ghost use Rattle.ged_tree.specs.BareLines.{AreBareLines};
 ghost use Rattle.ged_link.specs.Links.{identifiers};
 ghost use Rattle.ged_link.specs.Indexes.{IsIndexOf};
 ghost use Rattle.ged_schema.specs.Checked.{Checked};
@@ -29,7 +30,7 @@ use crate::writer::siblings::{Sibling, numbers_in_order, push_sorted, ranked_sib
 use ged_line::ValueView;
 use ged_link::{Index, RecordCursor};
 use ged_schema::{Context, ContextRows, Rule, context_below};
-use ged_tree::{Forest, end_of_all, next_in_run};
+use ged_tree::{BareLines, Forest, end_of_all, next_in_run};
 use std::alloc::{AllocError, Global};
 
 /// How many structures a record has, at least, in an ordinary document of more than a few records. The vector of records grows where
@@ -131,11 +132,10 @@ impl<F: Forest> Writer<'_, '_, F> {
         let end = self.forest.after(place);
         let own = Sibling { tag, place };
         let number = self.own_number(place, &mut work.records);
-        let writer = self.within(place, end);
         if number == 0 {
-            return writer.write_tree(rule, 0, None, own, end, work);
+            return self.write_tree(rule, 0, None, own, end, work);
         }
-        writer.write_named(rule, number, own, end, name, work)
+        self.write_named(rule, number, own, end, name, work)
     }
 
     /// Appends the lines of HEAD and the records, and of what stands below them.
@@ -155,16 +155,17 @@ impl<F: Forest> Writer<'_, '_, F> {
 /// normal form. No tree is made. A payload that is respelt is made in a text of its own first; any other is copied only into what is
 /// answered.
 ///
-/// The file is the one that the document was read from, behind a byte order mark. Lines that stand in it as the form has them are
-/// slices of it: any other bytes give the same form, with fewer slices or none. Grows (FamilySearch GEDCOM 7.0, "Lines",
-/// "Structures", "Date" and "Integer").
+/// The lines are those of the document that stand in a text as they are written: of a table, what [`ged_tree::Flat::bare_lines`] answers.
+/// Lines that stand in that text as the form has them are slices of it: [`BareLines::none`] gives the same form without slices. Grows
+/// (FamilySearch GEDCOM 7.0, "Lines", "Structures", "Date" and "Integer").
 pub fn spell_canonical_in<'f, F: Forest>(
     alloc: Global,
     edition: Edition,
     forest: &F,
     index: &Index,
-    file: &'f [u8],
+    lines: BareLines<'f, '_>,
 ) -> Result<SpelledForm<'f>, AllocError>
+    requires lines { AreBareLines (F.trees forest.now) lines }
     requires index { IsIndexOf (F.trees forest.now) index.now }
     requires checked { Checked (F.trees forest.now) }
     ensures normal_form { IfOk result (λ text. (e : Trees) × IsNormalForm edition (F.trees forest.now) e × CanonText e text) }
@@ -174,6 +175,7 @@ pub fn spell_canonical_in<'f, F: Forest>(
     let records = siblings.as_slice();
     let counted = numbers_in_order(alloc, forest, index, records)?;
     let numbers = counted.as_slice();
+    let file = lines.text();
     let plan = Plan {
         alloc,
         edition,
@@ -181,7 +183,11 @@ pub fn spell_canonical_in<'f, F: Forest>(
         numbers,
         file,
     };
-    let writer = Writer::new(forest, plan);
+    let writer = Writer {
+        forest,
+        plan,
+        lines,
+    };
     let answer = Answer::start(alloc, forest.size(), file.len())?;
     let mut work = Work::new(alloc, answer);
     writer.write_records(records, &mut work)?;
@@ -203,7 +209,7 @@ pub fn canonical_bytes_in<F: Forest>(
     ensures normal_form { IfOk result (λ text. (e : Trees) × IsNormalForm edition (F.trees forest.now) e × CanonText e text.items) }
     ensures only { (e : Trees) → IsNormalForm edition (F.trees forest.now) e → IfOk result (λ text. CanonText e text.items) }
 {
-    spell_canonical_in(alloc, edition, forest, index, &[])?.into_bytes(alloc)
+    spell_canonical_in(alloc, edition, forest, index, BareLines::none())?.into_bytes(alloc)
 }
 
 /// The bytes of the canonical form of the first edition, as [`canonical_bytes_in`] gives them. Grows.

@@ -3,11 +3,11 @@ ghost use Rattle.std.specs.Prelude.{◌<◌, ◌↔◌, Some, IsTrue};
 ghost use Rattle.ged_tree.specs.Runs.{IsRunOfTrees, trees_between};
 ghost use Rattle.ged_canon.specs.Normal.{InOrder};
 
-use crate::writer::rank::{rank_of, ranked_order};
+use crate::writer::rank::{may_precede, rank_of};
 use ged_tree::{Forest, next_in_run};
-use std::cmp::Ordering;
 
 /// Whether the structures of a run stand in the order of their tags.
+#[inline(always)]
 pub(crate) fn are_in_order<F: Forest>(forest: &F, start: usize, end: usize) -> bool
     requires { IsRunOfTrees (F.trees forest.now) start end }
     ensures { IsTrue result ↔ InOrder (trees_between (F.trees forest.now) start end) }
@@ -23,7 +23,7 @@ pub(crate) fn are_in_order<F: Forest>(forest: &F, start: usize, end: usize) -> b
     while let Some(after) = next_in_run(forest, place, end) {
         let tag = forest.tag(place);
         let next = rank_of(tag);
-        if ranked_order(rank, before, next, tag) == Ordering::Greater {
+        if !may_precede(rank, before, next, tag) {
             return false;
         }
         before = tag;
@@ -31,4 +31,23 @@ pub(crate) fn are_in_order<F: Forest>(forest: &F, start: usize, end: usize) -> b
         place = after;
     }
     true
+}
+
+/// How many structures a record has, at least, whose run is put in order without a look at whether it is already.
+const FEW: usize = 8;
+
+/// For so many and more it is looked at.
+const MANY: usize = 256;
+
+/// Whether the structures of a run at a level are told to stand in the order of their tags. Those right below a record seldom do, as
+/// programs write them, so it is not looked at for a record of ordinary size.
+#[inline(always)]
+pub(crate) fn are_told_in_order<F: Forest>(forest: &F, level: u8, start: usize, end: usize) -> bool
+    requires { IsRunOfTrees (F.trees forest.now) start end }
+    ensures { IsTrue result → InOrder (trees_between (F.trees forest.now) start end) }
+{
+    if level == 1 && (FEW..MANY).contains(&(end - start)) {
+        return false;
+    }
+    are_in_order(forest, start, end)
 }

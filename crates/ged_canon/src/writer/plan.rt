@@ -1,5 +1,5 @@
 // What a document is written by, and what changes while it is written.
-ghost use Rattle.std.specs.Prelude.{◌≡◌, IfOk, slice_range};
+ghost use Rattle.std.specs.Prelude.{◌≡◌, IfOk};
 ghost use Rattle.ged_tree.specs.BareLines.{AreBareLines, lines_text};
 
 use crate::edition::Edition;
@@ -21,40 +21,15 @@ pub(crate) struct Plan<'a> {
     pub(crate) file: &'a [u8],
 }
 
-/// From where up to where two texts have the same bytes.
-#[derive(Clone, Copy)]
-pub(crate) struct Window {
-    pub(crate) start: usize,
-    pub(crate) end: usize,
-}
-
 /// Writes the structures of a record, or of a document record by record, by a plan. It stays the same meanwhile; what changes is its work.
 #[derive(Drop)]
 pub(crate) struct Writer<'a, 'p, F: Forest> {
     pub(crate) forest: &'a F,
     pub(crate) plan: Plan<'p>,
-    /// The lines of the forest that may stand in the file as they are written.
-    pub(crate) lines: BareLines<'a>,
-    /// Where the file and the text of these lines are known to be the same.
-    pub(crate) window: Window,
+    /// The lines of the forest that stand in the file as they are written.
+    pub(crate) lines: BareLines<'p, 'a>,
     ghost told: { AreBareLines (F.trees forest.now) lines },
-    ghost same: { slice_range plan.file.now window.start window.end ≡ slice_range (lines_text lines) window.start window.end },
-}
-
-impl<'a, 'p, F: Forest> Writer<'a, 'p, F> {
-    /// Writes the structures of a forest by a plan. No line of the file is known to be one of the forest's yet.
-    #[inline(always)]
-    pub(crate) fn new(forest: &'a F, plan: Plan<'p>) -> Self
-        ensures forest { result.forest.now ≡ forest.now }
-        ensures plan { result.plan ≡ plan.entry }
-    {
-        Writer {
-            forest,
-            plan,
-            lines: forest.bare_lines(),
-            window: Window { start: 0, end: 0 },
-        }
-    }
+    ghost same: { plan.file.now ≡ lines_text lines },
 }
 
 /// What a writer has done: its answer; where the index looks for the next pointer and for the next record; and the siblings of

@@ -1,5 +1,5 @@
 // The ranks of tags, which are compared in place of the tags.
-ghost use Rattle.std.specs.Prelude.{◌≡◌, ◌<◌, ◌+◌, ℕ, slice_index_or};
+ghost use Rattle.std.specs.Prelude.{◌≡◌, ◌<◌, ◌+◌, ◌↔◌, ℕ, IsTrue, slice_index_or};
 ghost use Rattle.ged_line.specs.Names.{tag_order as order_of_tags};
 ghost use Rattle.ged_canon.specs.inner.Ranks.{own_rank, tag_rank};
 
@@ -91,4 +91,17 @@ pub(crate) fn ranked_order(rank: u64, tag: &str, other_rank: u64, other: &str) -
         return order_of_long(tag, other);
     }
     rank.cmp(&other_rank)
+}
+
+/// Whether a tag of this rank may stand before another one of that rank in the order of tags, or is the same. Mostly the ranks alone tell it.
+#[inline(always)]
+pub(crate) fn may_precede(rank: u64, tag: &str, other_rank: u64, other: &str) -> bool
+    requires first { rank ≡ tag_rank tag.now }
+    requires second { other_rank ≡ tag_rank other.now }
+    ensures { IsTrue result ↔ ¬ (order_of_tags tag.now other.now ≡ Ordering.Greater) }
+{
+    if rank < other_rank {
+        return true;
+    }
+    ranked_order(rank, tag, other_rank, other) != Ordering::Greater
 }

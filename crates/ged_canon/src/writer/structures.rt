@@ -11,7 +11,7 @@ ghost use Rattle.ged_canon.specs.inner.Written.{Appends};
 ghost use Rattle.ged_canon.specs.inner.Writing.{row_of, brief_sibling, renamed_sibling, sibling_at, sibling_lines, run_lines, further_at, CanWriteFurther, CanWriteTree, CanWriteRun, Writes};
 
 use crate::writer::answer::{Answer, text_value};
-use crate::writer::order::are_in_order;
+use crate::writer::order::are_told_in_order;
 use crate::writer::plan::{Work, Writer};
 use crate::writer::siblings::{Sibling, push_sorted};
 use ged_schema::{Context, ContextRows, Rule, context_below};
@@ -145,6 +145,9 @@ impl<F: Forest> Writer<'_, '_, F> {
         if start >= end {
             return Ok(());
         }
+        if let Some((first, last)) = self.leaves_run(level + 1, start, end) {
+            return work.answer.push_run(self.plan.file, first, last);
+        }
         let rule = ContextRows::of(context).row(self.forest.tag(place));
         self.write_run(context_below(rule), level + 1, start, end, work)
     }
@@ -165,7 +168,7 @@ impl<F: Forest> Writer<'_, '_, F> {
         ensures lines { Writes (F.trees self.now.forest.now) self.now.plan result work.old.answer work.new.answer
             (λ new. run_lines new self.now.plan.edition context level (F.trees self.now.forest.now) start end) }
     {
-        if !are_in_order(self.forest, start, end) {
+        if !are_told_in_order(self.forest, level, start, end) {
             return self.write_sorted(context, level, start, end, work);
         }
         let mut place = start;

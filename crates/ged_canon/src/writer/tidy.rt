@@ -2,6 +2,7 @@
 ghost use Rattle.std.specs.Prelude.{◌∷◌, [], IfOk};
 ghost use Rattle.ged_link.specs.Indexes.{IsIndexOf};
 ghost use Rattle.ged_tree.specs.Trees.{Trees};
+ghost use Rattle.ged_tree.specs.BareLines.{AreBareLines};
 ghost use Rattle.ged_schema.specs.Checked.{Checked};
 ghost use Rattle.ged_canon.specs.Tidy.{IsTidyForm};
 ghost use Rattle.ged_canon.specs.CanonText.{CanonText};
@@ -18,7 +19,7 @@ use crate::writer::siblings::Sibling;
 use ged_line::ValueView;
 use ged_link::Index;
 use ged_schema::{Context, ContextRows};
-use ged_tree::Forest;
+use ged_tree::{BareLines, Forest};
 use std::alloc::{AllocError, Global};
 
 impl<F: Forest> Writer<'_, '_, F> {
@@ -34,8 +35,7 @@ impl<F: Forest> Writer<'_, '_, F> {
         let end = self.forest.after(place);
         let xref = self.forest.xref(place);
         let own = Sibling { tag, place };
-        let writer = self.within(place, end);
-        writer.write_tree(rule, 0, xref, own, end, work)
+        self.write_tree(rule, 0, xref, own, end, work)
     }
 
     /// Appends the lines of HEAD and the records with their own identifiers, and of what stands below them.
@@ -56,15 +56,16 @@ impl<F: Forest> Writer<'_, '_, F> {
 
 /// The tidy form of a document that is as the structure tables ask, where the index is the document's: that of
 /// [`crate::spell_canonical_in`], but each record has the identifier that it has in the document, or none, and each pointer
-/// names the record that it names there. The file is what it is there. Grows (FamilySearch GEDCOM 7.0, "Lines", "Structures",
+/// names the record that it names there. The lines are what they are there. Grows (FamilySearch GEDCOM 7.0, "Lines", "Structures",
 /// "Date" and "Integer").
 pub fn spell_tidy_in<'f, F: Forest>(
     alloc: Global,
     edition: Edition,
     forest: &F,
     index: &Index,
-    file: &'f [u8],
+    lines: BareLines<'f, '_>,
 ) -> Result<SpelledForm<'f>, AllocError>
+    requires lines { AreBareLines (F.trees forest.now) lines }
     requires index { IsIndexOf (F.trees forest.now) index.now }
     requires checked { Checked (F.trees forest.now) }
     ensures tidy_form { IfOk result (λ text. (e : Trees) × IsTidyForm edition (F.trees forest.now) e × CanonText e text) }
@@ -72,6 +73,7 @@ pub fn spell_tidy_in<'f, F: Forest>(
 {
     let siblings = document_siblings(alloc, forest)?;
     let records = siblings.as_slice();
+    let file = lines.text();
     // No record has a new number, so that each pointer keeps its name.
     let plan = Plan {
         alloc,
@@ -80,7 +82,11 @@ pub fn spell_tidy_in<'f, F: Forest>(
         numbers: &[],
         file,
     };
-    let writer = Writer::new(forest, plan);
+    let writer = Writer {
+        forest,
+        plan,
+        lines,
+    };
     let answer = Answer::start(alloc, forest.size(), file.len())?;
     let mut work = Work::new(alloc, answer);
     writer.write_kept_records(records, &mut work)?;
@@ -102,5 +108,5 @@ pub fn tidy_bytes_in<F: Forest>(
     ensures tidy_form { IfOk result (λ text. (e : Trees) × IsTidyForm edition (F.trees forest.now) e × CanonText e text.items) }
     ensures only { (e : Trees) → IsTidyForm edition (F.trees forest.now) e → IfOk result (λ text. CanonText e text.items) }
 {
-    spell_tidy_in(alloc, edition, forest, index, &[])?.into_bytes(alloc)
+    spell_tidy_in(alloc, edition, forest, index, BareLines::none())?.into_bytes(alloc)
 }

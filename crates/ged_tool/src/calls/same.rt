@@ -13,7 +13,7 @@ use crate::comparison::{Comparison, Form};
 use crate::settings::Settings;
 use ged_canon::{Edition, IndexedDocument, SpelledForm, have_same_form};
 use ged_faults::{Fault, Which};
-use ged_line::{behind_mark, split_pieces};
+use ged_line::split_pieces;
 use ged_schema::Profile;
 use std::alloc::Global;
 
@@ -179,15 +179,16 @@ fn compare_documents(
         Ok(accepted) => accepted,
         Err(fault) => return Err(fault_of(Which::Second, fault)),
     };
+    let (flat, other_flat) = (one.flat(), other.flat());
     let one = IndexedDocument {
-        forest: one.flat(),
+        forest: flat,
         index: one.index(),
-        file: behind_mark(first.bytes()),
+        lines: flat.bare_lines(),
     };
     let other = IndexedDocument {
-        forest: other.flat(),
+        forest: other_flat,
         index: other.index(),
-        file: behind_mark(second.bytes()),
+        lines: other_flat.bare_lines(),
     };
     match have_same_form(alloc, settings.edition, &one, &other) {
         Ok(same) => Ok(same),

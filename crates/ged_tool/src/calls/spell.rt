@@ -14,7 +14,6 @@ use crate::settings::Settings;
 use ged_accept::Accepted;
 use ged_canon::{Edition, SpelledForm, spell_canonical_in, spell_tidy_in};
 use ged_faults::Fault;
-use ged_line::behind_mark;
 use std::alloc::Global;
 
 /// A file that is accepted under the profile of the settings, in a form and in their edition, or why it is not accepted. What
@@ -30,34 +29,26 @@ pub(crate) fn spell_form(
         (IsRefusal (FileFaultAt (profile_of settings) (file_bytes file.entry))) }
 {
     match accept_file(alloc, settings, file) {
-        Ok(accepted) => {
-            spell_accepted(
-                alloc,
-                settings.edition,
-                form,
-                &accepted,
-                behind_mark(file.bytes()),
-            )
-        }
+        Ok(accepted) => spell_accepted(alloc, settings.edition, form, &accepted),
         Err(fault) => Err(fault),
     }
 }
 
-/// An accepted document in a form, of which slices of `file` are not copied.
+/// An accepted document in a form, of which slices of its file are not copied.
 fn spell_accepted<'f>(
     alloc: Global,
     edition: Edition,
     form: Form,
-    accepted: &Accepted<'_>,
-    file: &'f [u8],
+    accepted: &Accepted<'f>,
 ) -> Result<SpelledForm<'f>, Fault>
     ensures form { IfOk result (IsFormOf form edition accepted.now) }
     ensures memory { IfErr result (λ fault. fault ≡ Fault.Memory alloc_error) }
 {
     let (flat, index) = (accepted.flat(), accepted.index());
+    let lines = flat.bare_lines();
     made_or_memory(match form {
-        Form::Canonical => spell_canonical_in(alloc, edition, flat, index, file),
-        Form::Tidy => spell_tidy_in(alloc, edition, flat, index, file),
+        Form::Canonical => spell_canonical_in(alloc, edition, flat, index, lines),
+        Form::Tidy => spell_tidy_in(alloc, edition, flat, index, lines),
     })
 }
 

@@ -12,14 +12,14 @@ use crate::table::packed::KeptStructure;
 /// The own lines of structures without an identifier, where they stand in a text as the canonical spelling has them, each with a line
 /// feed behind it.
 #[derive(Clone, Copy)]
-pub struct BareLines<'a> {
-    pub(crate) text: &'a [u8],
-    pub(crate) structures: &'a [KeptStructure],
+pub struct BareLines<'f, 't> {
+    pub(crate) text: &'f [u8],
+    pub(crate) structures: &'t [KeptStructure],
 }
 
-impl<'a> BareLines<'a> {
+impl<'f, 't> BareLines<'f, 't> {
     /// No lines.
-    pub fn none() -> BareLines<'a>
+    pub fn none() -> BareLines<'f, 't>
         ensures { (d : Trees) → AreBareLines d result }
     {
         BareLines {
@@ -30,7 +30,7 @@ impl<'a> BareLines<'a> {
 
     /// The text in which the lines stand.
     #[inline(always)]
-    pub fn text(&self) -> &'a [u8]
+    pub fn text(&self) -> &'f [u8]
         ensures { result.now ≡ lines_text self.now }
     {
         self.text

@@ -126,8 +126,8 @@ impl<'a> Flat<'a> {
         })
     }
 
-    /// The own lines of structures that stand in the file as they are written.
-    fn lines_in_file(&self) -> BareLines<'_>
+    /// The own lines of structures that stand in the file as they are written. Takes no memory.
+    pub fn bare_lines(&self) -> BareLines<'a, '_>
         ensures { AreBareLines self.now result }
     {
         BareLines {
@@ -268,10 +268,6 @@ impl<'a> Forest for Flat<'a> {
     #[inline(always)]
     fn own_line(&self, place: usize) -> Option<OwnLine<'_>> {
         self.own_line_at(place)
-    }
-
-    fn bare_lines(&self) -> BareLines<'_> {
-        self.lines_in_file()
     }
 
     fn further(&self, place: usize) -> usize {

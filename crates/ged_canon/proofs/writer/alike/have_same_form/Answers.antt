@@ -67,12 +67,11 @@ are_alike-requires-clause-first g c =
     let edition = c.args.edition in
     let xs = c.as_slice-siblings.result.now in
     let listed = ap (sibling_trees (is_named d) edition File d) c.as_slice-siblings.ensures.value ∙ c.in_ok-siblings.ensures.trees (is_named d) edition in
-    rw (c.new-writer.ensures.forest, c.new-writer.ensures.plan)
-    (record {
+    record {
       document = c.document_siblings.ensures.document;
       within = subst (λ (zs : List RankedSibling). AllByRecursion (StandsRanked d) zs) (sym c.as_slice-siblings.ensures.value) c.in_ok-siblings.ensures.within;
       stand = siblings_stand (is_named d) edition d (sorted_document edition (used_document d)) xs (sorted_is_document edition d c.document_siblings.ensures.document c.requires.first_index.resolved c.requires.first_checked) listed;
-    })
+    }
 
 pub are_alike-requires-clause-second : goal.are_alike-requires-clause-second
 are_alike-requires-clause-second g c =
@@ -80,12 +79,11 @@ are_alike-requires-clause-second g c =
     let edition = c.args.edition in
     let ys = c.as_slice-others.result.now in
     let listed = ap (sibling_trees (is_named e) edition File e) c.as_slice-others.ensures.value ∙ c.in_ok-others.ensures.trees (is_named e) edition in
-    rw (c.new-other_writer.ensures.forest, c.new-other_writer.ensures.plan)
-    (record {
+    record {
       document = c.document_siblings-2.ensures.document;
       within = subst (λ (zs : List RankedSibling). AllByRecursion (StandsRanked e) zs) (sym c.as_slice-others.ensures.value) c.in_ok-others.ensures.within;
       stand = siblings_stand (is_named e) edition e (sorted_document edition (used_document e)) ys (sorted_is_document edition e c.document_siblings-2.ensures.document c.requires.second_index.resolved c.requires.second_checked) listed;
-    })
+    }
 
 pub returns : goal.returns
 returns g c =
@@ -112,4 +110,4 @@ returns g c =
       (λ told. same_lines edition d e xs ys own other (lines told)),
       (λ steps. equal (same_siblings edition d e xs ys own other steps)),
     ))
-    (rw (c.new-writer.ensures.forest, c.new-writer.ensures.plan, c.new-other_writer.ensures.forest, c.new-other_writer.ensures.plan) at c.are_alike.ensures)
+    c.are_alike.ensures

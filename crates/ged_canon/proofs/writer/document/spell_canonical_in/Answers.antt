@@ -40,12 +40,11 @@ write_records-requires g c =
     let edition = c.args.edition in
     let xs = c.as_slice-records.result.now in
     let listed = ap (sibling_trees (is_named d) edition File d) c.as_slice-records.ensures.value ∙ c.in_ok-siblings.ensures.trees (is_named d) edition in
-    rw (c.new-writer.ensures.forest, c.new-writer.ensures.plan)
-    (record {
+    record {
       document = c.document_siblings.ensures.document;
       within = subst (λ (xs : List RankedSibling). AllByRecursion (StandsRanked d) xs) (sym c.as_slice-records.ensures.value) c.in_ok-siblings.ensures.within;
       stand = siblings_stand (is_named d) edition d (sorted_document edition (used_document d)) xs (sorted_is_document edition d c.document_siblings.ensures.document c.requires.index.resolved c.requires.checked) listed;
-    })
+    }
 
 pub returns-clause-normal_form : goal.returns-clause-normal_form
 returns-clause-normal_form g c =
@@ -57,8 +56,8 @@ returns-clause-normal_form g c =
     let numbering : IsNumberingOf d names c.args.index.now c.as_slice-numbers.result.now =
     (c.requires.index, subst (λ (ns : List ℕ). AreNumbersOf d names ns) (sym c.as_slice-numbers.ensures.value) c.in_ok-counted.ensures) in
     let named = sorted_named edition d names c.requires.index.resolved (names_listed edition d xs listed) in
-    let lines = rw (c.new-writer.ensures.forest, c.new-writer.ensures.plan) at c.in_ok-write_records.ensures in
-    let told = file_spelled (is_named d) edition names d (canon edition d) xs (written c.args.file.now c.new-work.result.answer) (written c.args.file.now c.write_records.new.work.answer) c.in_ok-form.form (numbered_document_of edition d xs listed) (ap (written c.args.file.now) c.new-work.ensures ∙ c.in_ok-answer.ensures c.args.file.now) (lines names numbering named) (c.in_ok-form.ensures ∙ c.in_ok-push_parts.ensures) in
+    let lines = c.in_ok-write_records.ensures in
+    let told = file_spelled (is_named d) edition names d (canon edition d) xs (written c.text-file.result.now c.new-work.result.answer) (written c.text-file.result.now c.write_records.new.work.answer) c.in_ok-form.form (numbered_document_of edition d xs listed) (ap (written c.text-file.result.now) c.new-work.ensures ∙ c.in_ok-answer.ensures c.text-file.result.now) (lines names numbering named) (c.in_ok-form.ensures ∙ c.in_ok-push_parts.ensures) in
     (canon edition d, canon_is_normal_form edition d c.document_siblings.ensures.document c.requires.index.resolved c.requires.checked, told)
 
 pub returns-clause-only : goal.returns-clause-only
@@ -71,6 +70,6 @@ returns-clause-only g c = λ e form.
     let numbering : IsNumberingOf d names c.args.index.now c.as_slice-numbers.result.now =
     (c.requires.index, subst (λ (ns : List ℕ). AreNumbersOf d names ns) (sym c.as_slice-numbers.ensures.value) c.in_ok-counted.ensures) in
     let named = sorted_named edition d names c.requires.index.resolved (names_listed edition d xs listed) in
-    let lines = rw (c.new-writer.ensures.forest, c.new-writer.ensures.plan) at c.in_ok-write_records.ensures in
-    let told = file_spelled (is_named d) edition names d (canon edition d) xs (written c.args.file.now c.new-work.result.answer) (written c.args.file.now c.write_records.new.work.answer) c.in_ok-form.form (numbered_document_of edition d xs listed) (ap (written c.args.file.now) c.new-work.ensures ∙ c.in_ok-answer.ensures c.args.file.now) (lines names numbering named) (c.in_ok-form.ensures ∙ c.in_ok-push_parts.ensures) in
+    let lines = c.in_ok-write_records.ensures in
+    let told = file_spelled (is_named d) edition names d (canon edition d) xs (written c.text-file.result.now c.new-work.result.answer) (written c.text-file.result.now c.write_records.new.work.answer) c.in_ok-form.form (numbered_document_of edition d xs listed) (ap (written c.text-file.result.now) c.new-work.ensures ∙ c.in_ok-answer.ensures c.text-file.result.now) (lines names numbering named) (c.in_ok-form.ensures ∙ c.in_ok-push_parts.ensures) in
     only_form edition d e c.in_ok-form.form told form

@@ -16,12 +16,11 @@ write_kept_records-requires g c =
     let edition = c.args.edition in
     let xs = c.as_slice-records.result.now in
     let listed = ap (sibling_trees each_used edition File d) c.as_slice-records.ensures.value ∙ c.in_ok-siblings.ensures.trees each_used edition in
-    rw (c.new-writer.ensures.forest, c.new-writer.ensures.plan)
-    (record {
+    record {
       document = c.document_siblings.ensures.document;
       within = subst (λ (xs : List RankedSibling). AllByRecursion (StandsRanked d) xs) (sym c.as_slice-records.ensures.value) c.in_ok-siblings.ensures.within;
       stand = siblings_stand each_used edition d (sorted_document edition d) xs (sorted_stands edition d c.document_siblings.ensures.document c.requires.checked) (kept_listed edition d xs listed);
-    })
+    }
 
 pub returns-clause-tidy_form : goal.returns-clause-tidy_form
 returns-clause-tidy_form g c =
@@ -29,8 +28,8 @@ returns-clause-tidy_form g c =
     let edition = c.args.edition in
     let xs = c.as_slice-records.result.now in
     let listed = ap (sibling_trees each_used edition File d) c.as_slice-records.ensures.value ∙ c.in_ok-siblings.ensures.trees each_used edition in
-    let lines = rw (c.new-writer.ensures.forest, c.new-writer.ensures.plan) at c.in_ok-write_kept_records.ensures in
-    let told = file_spelled each_used edition [] d (sorted_document edition d) xs (written c.args.file.now c.new-work.result.answer) (written c.args.file.now c.write_kept_records.new.work.answer) c.in_ok-form.form (kept_document edition d xs listed) (ap (written c.args.file.now) c.new-work.ensures ∙ c.in_ok-answer.ensures c.args.file.now) (lines (unnumbered d c.args.index.now c.requires.index)) (c.in_ok-form.ensures ∙ c.in_ok-push_parts.ensures) in
+    let lines = c.in_ok-write_kept_records.ensures in
+    let told = file_spelled each_used edition [] d (sorted_document edition d) xs (written c.text-file.result.now c.new-work.result.answer) (written c.text-file.result.now c.write_kept_records.new.work.answer) c.in_ok-form.form (kept_document edition d xs listed) (ap (written c.text-file.result.now) c.new-work.ensures ∙ c.in_ok-answer.ensures c.text-file.result.now) (lines (unnumbered d c.args.index.now c.requires.index)) (c.in_ok-form.ensures ∙ c.in_ok-push_parts.ensures) in
     (sorted_document edition d, sorted_is_tidy_form edition d c.document_siblings.ensures.document c.requires.checked, told)
 
 pub returns-clause-only : goal.returns-clause-only
@@ -39,6 +38,6 @@ returns-clause-only g c = λ e form.
     let edition = c.args.edition in
     let xs = c.as_slice-records.result.now in
     let listed = ap (sibling_trees each_used edition File d) c.as_slice-records.ensures.value ∙ c.in_ok-siblings.ensures.trees each_used edition in
-    let lines = rw (c.new-writer.ensures.forest, c.new-writer.ensures.plan) at c.in_ok-write_kept_records.ensures in
-    let told = file_spelled each_used edition [] d (sorted_document edition d) xs (written c.args.file.now c.new-work.result.answer) (written c.args.file.now c.write_kept_records.new.work.answer) c.in_ok-form.form (kept_document edition d xs listed) (ap (written c.args.file.now) c.new-work.ensures ∙ c.in_ok-answer.ensures c.args.file.now) (lines (unnumbered d c.args.index.now c.requires.index)) (c.in_ok-form.ensures ∙ c.in_ok-push_parts.ensures) in
+    let lines = c.in_ok-write_kept_records.ensures in
+    let told = file_spelled each_used edition [] d (sorted_document edition d) xs (written c.text-file.result.now c.new-work.result.answer) (written c.text-file.result.now c.write_kept_records.new.work.answer) c.in_ok-form.form (kept_document edition d xs listed) (ap (written c.text-file.result.now) c.new-work.ensures ∙ c.in_ok-answer.ensures c.text-file.result.now) (lines (unnumbered d c.args.index.now c.requires.index)) (c.in_ok-form.ensures ∙ c.in_ok-push_parts.ensures) in
     only_tidy edition d e c.in_ok-form.form told form

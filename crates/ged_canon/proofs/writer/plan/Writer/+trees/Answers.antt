@@ -127,6 +127,23 @@ write_sibling-returns-clause-lines g t c = λ names h.
     ∙ written_below (written c.args.self.now.plan.file.now c.args.work.now.answer) (written c.args.self.now.plan.file.now c.write_at_once.new.work.answer) own (lines_of (c.args.level + 1) (renamed new (sorted edition (below_row r) (below_at d c.args.place)))) (c.in_ok-write_at_once.ensures.lines names h c.if-not-branch.false))
     (c.write_run.ensures.lines names h)
 
+-- the leaves below it stand together
+pub write_sibling-returns-in-Some-clause-lines : goal.write_sibling-returns-in-Some-clause-lines
+write_sibling-returns-in-Some-clause-lines g t c = λ names h.
+    let d = g.F.Forest.trees c.args.self.now.forest.now in
+    let file = c.args.self.now.plan.file.now in
+    let edition = c.args.self.now.plan.edition in
+    let new = number_of 1 names in
+    let r = row c.args.context (structure_at d c.args.place).tag in
+    let own = structure_lines c.args.level (renamed_sibling new edition r None d (sibling_at d c.args.place)) in
+    let before = written file c.write_at_once.new.work.answer in
+    let stand = (λ i. are_at (c.args.level + 1) (sorted edition (below_row r) (c.requires.deeper i))) ∙ c.requires.below in
+    subst (λ text. OnOk c.push_run.result (written file c.push_run.new.self ≡ text))
+    (ap (λ bytes. before ++ bytes) (c.in-Some.ensures.1 new (below_row r) stand)
+    ∙ (λ i. before ++ spelled_lines (lines_of (c.args.level + 1) (renamed new (sorted edition (below_row r) (c.requires.deeper i)))))
+    ∙ written_below (written file c.args.work.now.answer) before own (lines_of (c.args.level + 1) (renamed new (sorted edition (below_row r) (below_at d c.args.place)))) (c.in_ok-write_at_once.ensures.lines names h c.if-not-branch.false))
+    c.push_run.ensures
+
 pub write_sibling-returns-then-start-end-clause-lines : goal.write_sibling-returns-then-start-end-clause-lines
 write_sibling-returns-then-start-end-clause-lines g t c = λ names h.
     let d = g.F.Forest.trees c.args.self.now.forest.now in
@@ -147,7 +164,7 @@ write_run-loop-after-init g t c =
     let d = g.F.Forest.trees c.args.self.now.forest.now in
     let edition = c.args.self.now.plan.edition in
     let run = trees_between d c.args.start c.args.end in
-    let same : each_sorted edition c.args.context run ≡ sorted edition c.args.context run = sym (in_order_sorted edition c.args.context run (c.are_in_order.ensures.0 c.if-not-are_in_order.false)) in
+    let same : each_sorted edition c.args.context run ≡ sorted edition c.args.context run = sym (in_order_sorted edition c.args.context run (c.are_told_in_order.ensures c.if-not-are_told_in_order.false)) in
     record {
       run = c.requires.run;
       kept = refl;

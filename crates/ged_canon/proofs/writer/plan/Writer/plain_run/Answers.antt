@@ -3,16 +3,12 @@ use Rattle.ged_line.specs.Bytes.{Bytes}
 use Rattle.ged_line.specs.Spelling.{value_part}
 use Rattle.ged_tree.specs.Places.{structure_at}
 use Rattle.ged_tree.specs.DocumentLines.{first_value}
-use Rattle.ged_tree.specs.BareLines.{lines_text}
-use Rattle.ged_canon.proofs.writer.RunsKept.{same_run}
 use Rattle.ged_canon.proofs.writer.plan.Writer.plain_run.Goals as goal
 
 pub returns-clause-line : goal.returns-clause-line
 returns-clause-line g c =
     let writer = c.args.self.now in
-    let inside = c.if-not-has.ensures refl in
-    same_run writer.plan.file.now (lines_text writer.lines) writer.window.start writer.window.end c.in_ok-start.start c.in_ok-start.end
-    inside.0 c.in_ok-start.ensures.order.0 inside.1 writer.same
+    ap (λ (bytes : Bytes). slice_range bytes c.in_ok-start.start c.in_ok-start.end) writer.same
     ∙ c.in_ok-start.ensures.line (g.F.Forest.trees writer.forest.now) writer.told
 
 pub returns-clause-plain : goal.returns-clause-plain

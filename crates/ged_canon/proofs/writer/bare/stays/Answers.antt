@@ -1,6 +1,6 @@
 use Rattle.std.proofs.Common.{rules, ◌≡◌, false, inl}
 use Rattle.ged_canon.proofs.writer.PlainLines.{undated}
-use Rattle.ged_canon.proofs.writer.windows.stays.Goals as goal
+use Rattle.ged_canon.proofs.writer.bare.stays.Goals as goal
 
 pub returns-then-not-may_begin_dated : goal.returns-then-not-may_begin_dated
 returns-then-not-may_begin_dated c = λ told level tag rest digit is.

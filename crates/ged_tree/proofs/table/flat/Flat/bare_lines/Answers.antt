@@ -6,7 +6,7 @@ use Rattle.ged_tree.specs.BareLines.{IsBare, TellsOwnLine}
 use Rattle.ged_tree.specs.Rows.{flat_trees, shown_from, further_of}
 use Rattle.ged_tree.specs.declared.table.packed.KeptStructure.{KeptStructure}
 use Rattle.ged_tree.proofs.table.BareTexts.{bare_in_file}
-use Rattle.ged_tree.proofs.table.flat.Flat.lines_in_file.Goals as goal
+use Rattle.ged_tree.proofs.table.flat.Flat.bare_lines.Goals as goal
 
 pub returns : goal.returns
 returns c = λ place s stands bare.
