@@ -1,9 +1,10 @@
 // Where the pointers of a document lead: the records that they name, and the links between records.
-ghost use Rattle.std.specs.Prelude.{◌≡◌, ◌<◌, ◌≤◌, ◌+◌, ◌⊎◌, ℕ, false, IsTrue, ◌↔◌, IfOk, IfErr, IfSome, OnOk, length, nat_eq, ◌==◌, ◌&&◌, ◌||◌, option_map, alloc_error};
+ghost use Rattle.std.specs.Prelude.{◌≡◌, ◌<◌, ◌≤◌, ◌+◌, ◌⊎◌, ℕ, true, false, Some, IsTrue, ◌↔◌, IfOk, IfErr, IfSome, OnOk, length, nat_eq, ◌==◌, ◌&&◌, ◌||◌, option_map, alloc_error};
 ghost use Rattle.ged_line.specs.Bytes.{Bytes};
 ghost use Rattle.ged_tree.specs.Trees.{records_of, trees_count};
 ghost use Rattle.ged_tree.specs.Places.{structure_at, level_at};
 ghost use Rattle.ged_tree.specs.Runs.{trees_between, IsRunOfTrees};
+ghost use Rattle.ged_tree.specs.Views.{is_pointer};
 ghost use Rattle.ged_tree.specs.declared.payload.Payload.TheVariants.{Pointer};
 ghost use Rattle.ged_link.specs.Links.{identifiers};
 ghost use Rattle.ged_link.specs.LinkFaults.{HasLinkFault, IsRepeated, IsDangling};
@@ -107,27 +108,25 @@ fn look_up<F: Forest>(
     Some(Pointed { to, told })
 }
 
-/// Marks the record that the structure at a place points to, and answers where it stands, with what the structure's tag tells, or `None`
-/// where no pointer stands; or the fault of a pointer that names no record.
+/// Marks the record that the pointer at a place names, and answers where it stands, with what the pointer's tag tells; or the fault of a
+/// pointer that names no record.
 #[inline(always)]
 fn follow<F: Forest>(
     forest: &F,
     records: &Records<'_>,
     place: usize,
     followed: &mut Following,
-) -> Result<Option<Pointed>, LinkFault>
+) -> Result<Pointed, LinkFault>
     requires within { place < trees_count (F.trees forest.now) }
+    requires pointer { is_pointer (structure_at (F.trees forest.now) place).payload ≡ true }
     requires records { AreKnown (F.trees forest.now) records.now }
     requires distinct { (place : ℕ) → IsRepeated (F.trees forest.now) place → ⊥ }
     requires used { AreFollowed (F.trees forest.now) place followed.old }
     ensures used { OnOk result (AreFollowed (F.trees forest.now) (place + 1) followed.new) }
-    ensures tag { IfOk result (λ found. IfSome found (λ pointed. IsTold pointed.told (structure_at (F.trees forest.now) place).tag)) }
-    ensures target { IfOk result (λ found. option_map (λ (pointed : Pointed). pointed.to.place) found ≡ target (place_in records.now.names.now) (structure_at (F.trees forest.now) place).payload) }
+    ensures tag { IfOk result (λ pointed. IsTold pointed.told (structure_at (F.trees forest.now) place).tag) }
+    ensures target { IfOk result (λ pointed. target (place_in records.now.names.now) (structure_at (F.trees forest.now) place).payload ≡ Some pointed.to.place) }
     ensures fault { IfErr result (λ fault. (fault ≡ Memory alloc_error) ⊎ HasLinkFault (F.trees forest.now) fault) }
 {
-    if !forest.points(place) {
-        return Ok(None);
-    }
     let listed = followed.list.take_next();
     let Some(pointed) = look_up(forest, records, place, listed) else {
         return Err(LinkFault::Dangling(forest.line(place)));
@@ -138,7 +137,7 @@ fn follow<F: Forest>(
         return Err(LinkFault::Memory(AllocError));
     };
     followed.led &= leads_as_tagged(records.types, pointed.told, found.number);
-    Ok(Some(pointed))
+    Ok(pointed)
 }
 
 /// Marks the record that a structure in another record points to, and adds the link of both where it is one: only structures directly
@@ -164,9 +163,10 @@ fn follow_link<F: Forest>(
         || lists_have lists.old role pair)) }
     ensures fault { IfErr result (λ fault. (fault ≡ Memory alloc_error) ⊎ HasLinkFault (F.trees forest.now) fault) }
 {
-    let Some(pointed) = follow(forest, records, place, followed)? else {
+    if !forest.points(place) {
         return Ok(());
-    };
+    }
+    let pointed = follow(forest, records, place, followed)?;
     if forest.level(place) != 1 {
         return Ok(());
     }

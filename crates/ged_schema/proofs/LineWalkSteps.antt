@@ -37,7 +37,7 @@ walks_apart (line ∷ a) b s u (m, takes, rest) = let (n, first, second) = walks
 
 -- the further lines of a payload change nothing, and come only where they may
 pub further_read : (level : ℕ) (texts : List Bytes) (s u : LineWalk) → Walks s (map (λ line. line_parts (level + 1) None (codes "CONT") (line_value line)) texts) u
-    → (u ≡ s) × ((texts ≡ []) ⊎ (s.goes_on ≡ true))
+    → (u ≡ s) × ((texts ≡ []) ⊎ (takes_lines s.last ≡ true))
 further_read level [] s u walks = (walks, inl refl)
 further_read level (text ∷ texts) s u (m, goes_on cont may same, rest) = ((further_read level texts m u rest).0 ∙ same, inr may)
 further_read level (text ∷ texts) s u (m, ends other trailer same, rest) = cc

@@ -46,8 +46,8 @@ pub(crate) struct Open {
 pub struct LineWalk {
     /// What stands open at each level, and below the deepest.
     pub(crate) open: [Open; LEVELS],
-    /// Whether a CONT may go on with the payload of the last structure.
-    pub(crate) goes_on: bool,
+    /// The kind of the last structure's payload: it tells whether a CONT may go on with it, which few lines ask.
+    pub(crate) last: Kind,
     /// Whether a structure gave a notice.
     pub(crate) noted: bool,
     /// Whether each line so far was as the tables ask.
@@ -111,7 +111,7 @@ impl LineWalk {
         open[0].context = Context::File;
         LineWalk {
             open,
-            goes_on: false,
+            last: Kind::Nothing,
             noted: false,
             holds: true,
         }
@@ -161,7 +161,7 @@ impl LineWalk {
             context: rule.below,
             marks: 0,
         };
-        self.goes_on = takes_any_text(rule.kind);
+        self.last = rule.kind;
         true
     }
 
@@ -179,7 +179,7 @@ impl LineWalk {
             context: Context::Unchecked,
             marks: 0,
         };
-        self.goes_on = true;
+        self.last = Kind::Free;
     }
 
     /// Takes the line of a structure.
@@ -208,7 +208,7 @@ impl LineWalk {
         ensures { OnTrue result (Takes line.now self.old self.new) }
     {
         if is_same_tag(line.tag(), "CONT") {
-            return self.goes_on;
+            return takes_any_text(self.last);
         }
         if line.level() == 0 && line.tag() == "TRLR" {
             return true;
@@ -244,7 +244,7 @@ impl LineWalk {
         ensures { (lines : List LineParts) (line : LineParts) → is_cont line ≡ true → HasWalked self.old lines → HasWalked self.new (lines ++ line ∷ []) }
     {
         if self.holds {
-            self.holds = self.goes_on;
+            self.holds = takes_any_text(self.last);
         }
     }
 

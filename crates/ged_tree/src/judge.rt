@@ -122,8 +122,8 @@ impl Judge {
         self.has_ended
     }
 
-    // Whether the line begins a structure below another one, and follows one that is no CONT, as nearly all do: then it has no
-    // fault, and is neither CONT nor TRLR.
+    // Whether the line begins a structure below another one, as nearly all do, and not below a CONT: then it has no fault, and is neither
+    // CONT nor TRLR.
     #[inline(always)]
     fn is_plain(&self, line: &LineView<'_>) -> bool
         ensures faultless { (lines : List LineParts) → StandsFor self.now lines → OnTrue result (fault_after lines line.now ≡ None) }
@@ -134,8 +134,7 @@ impl Judge {
             None => false,
             Some(previous) => {
                 line.level() > 0
-                    && line.level() <= previous.level + 1
-                    && !previous.is_cont
+                    && line.level() <= previous.level + u8::from(!previous.is_cont)
                     && !self.has_ended
                     && line.xref().is_none()
                     && !is_cont(line)

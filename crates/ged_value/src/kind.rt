@@ -8,7 +8,9 @@ ghost use Rattle.ged_value.specs.Names.{NameParts, NameText};
 ghost use Rattle.ged_value.specs.Kinds.{IsVersion, FitsLine, Fits, kind_word, takes_lines as tests_lines, takes_links as tests_links};
 
 use crate::age::read_age;
-use crate::enumerations::{is_name_type, is_of_any_set, is_pedigree, is_sex, is_status};
+use crate::enumerations::{
+    is_name_type_or_tag, is_of_any_set, is_pedigree_or_tag, is_sex_or_tag, is_status_or_tag,
+};
 use crate::exact::read_exact_date;
 use crate::name::{is_plain_name, read_name};
 use crate::quick::{is_plain_exact, is_plain_value};
@@ -16,7 +18,7 @@ use crate::quick_time::is_plain_time;
 use crate::restrictions::are_restrictions;
 use crate::time::read_time;
 use crate::value::{read_date, read_period};
-use crate::words::{is_extension_tag, is_integer};
+use crate::words::is_integer;
 
 /// What a payload may be. Unless a kind says otherwise, its payloads are texts of one line, and neither pointers nor
 /// texts of several lines (FamilySearch GEDCOM 7.0, "Data types").
@@ -120,6 +122,7 @@ pub enum Given<'a> {
     Many,
 }
 
+#[inline(never)]
 fn is_version(text: &str) -> bool
     ensures { IsTrue result ↔ IsVersion text.now }
 {
@@ -178,6 +181,7 @@ fn reads_name(text: &str) -> bool
 }
 
 /// Whether a text is the name of a person. Most pass the quick test.
+#[inline(never)]
 fn is_name(text: &str) -> bool
     ensures { IsTrue result ↔ ((name : NameParts) × NameText name text.now) }
 {
@@ -185,6 +189,7 @@ fn is_name(text: &str) -> bool
 }
 
 /// Whether a text is a date value. Most pass the quick test.
+#[inline(never)]
 fn is_date_value(text: &str) -> bool
     ensures { IsTrue result ↔ ((value : ValueParts) × DateValueText value text.now) }
 {
@@ -192,6 +197,7 @@ fn is_date_value(text: &str) -> bool
 }
 
 /// Whether a text is an exact date. Most pass the quick test.
+#[inline(never)]
 fn is_exact_date(text: &str) -> bool
     ensures { IsTrue result ↔ ((date : ExactParts) × ExactText date text.now) }
 {
@@ -199,6 +205,7 @@ fn is_exact_date(text: &str) -> bool
 }
 
 /// Whether a text is a time. Most pass the quick test.
+#[inline(never)]
 fn is_time(text: &str) -> bool
     ensures { IsTrue result ↔ ((time : TimeParts) × TimeText time text.now) }
 {
@@ -227,6 +234,8 @@ fn takes_links(kind: Kind) -> bool
     )
 }
 
+/// Whether a text of one line is of a kind. It hands the text on to one reader in each case, and has no work of its own to save values for.
+#[inline(never)]
 fn fits_line(kind: Kind, text: &str) -> bool
     ensures { IsTrue result ↔ FitsLine kind text.now }
 {
@@ -243,10 +252,10 @@ fn fits_line(kind: Kind, text: &str) -> bool
         Kind::Age => reads_age(text),
         Kind::Name => is_name(text),
         Kind::EnumAny => is_of_any_set(text),
-        Kind::SexEnum => is_sex(text) || is_extension_tag(text),
-        Kind::PediEnum => is_pedigree(text) || is_extension_tag(text),
-        Kind::StatEnum => is_status(text) || is_extension_tag(text),
-        Kind::NameTypeEnum => is_name_type(text) || is_extension_tag(text),
+        Kind::SexEnum => is_sex_or_tag(text),
+        Kind::PediEnum => is_pedigree_or_tag(text),
+        Kind::StatEnum => is_status_or_tag(text),
+        Kind::NameTypeEnum => is_name_type_or_tag(text),
         Kind::ResnList => are_restrictions(text),
         Kind::ToFam | Kind::ToIndi | Kind::ToSubm | Kind::ToSnote | Kind::ToSour | Kind::ToObje =>
             false,
@@ -254,6 +263,7 @@ fn fits_line(kind: Kind, text: &str) -> bool
 }
 
 /// Whether a payload is of a kind. The record that a pointer names isn't looked at. Takes no memory.
+#[inline(always)]
 pub fn fits(kind: Kind, given: Given<'_>) -> bool
     ensures { IsTrue result ↔ Fits kind given.entry }
 {

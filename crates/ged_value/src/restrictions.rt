@@ -29,6 +29,7 @@ fn is_item(word: &str) -> bool
 
 /// Whether a text is one or more items, separated by commas with any number of spaces before and after each
 /// (FamilySearch GEDCOM 7.0, "List").
+#[inline(never)]
 pub(crate) fn are_restrictions(text: &str) -> bool
     ensures { IsTrue result ↔ AreRestrictions text.now }
 {

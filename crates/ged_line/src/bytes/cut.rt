@@ -27,7 +27,10 @@ fn text_after_end(text: &str) -> &str
     ensures { (end : Bytes) × IsEnd end result.now × (text.now ≡ end ++ result.now) }
 {
     let bytes = text.as_bytes();
-    if bytes[0] == b'\r' && bytes.len() > 1 && bytes[1] == b'\n' {
+    if bytes[0] == b'\n' {
+        return &text[1..];
+    }
+    if bytes.len() > 1 && bytes[1] == b'\n' {
         return &text[2..];
     }
     &text[1..]

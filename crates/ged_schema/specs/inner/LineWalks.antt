@@ -55,7 +55,7 @@ pub record Opens (context : Context) (level : ℕ) (line : LineParts) (old new :
   pub marked : MarksTag (rows context) line.tag (open_at old level).marks (open_at new level).marks
   pub below : open_at new (level + 1) ≡ record { context = context_below context line.tag; marks = 0 }
   pub fits : IfSome (row context line.tag) (λ r. FitsValue r.kind line.value)
-  pub goes_on : new.goes_on ≡ option_map_or (λ r. takes_lines r.kind) (row context line.tag) true
+  pub goes_on : takes_lines new.last ≡ option_map_or (λ r. takes_lines r.kind) (row context line.tag) true
   pub noted : (new.noted ≡ true) ↔ ((old.noted ≡ true) ⊎ IsUnlisted context line.tag)
 
 -- the line of a structure whose row among those of its context is this one, with this number
@@ -66,19 +66,19 @@ pub record OpensListed (r : Row) (number level : ℕ) (value : Value) (old new :
   pub free : (r.most ≡ None) ⊎ (bit_at (open_at old level).marks number ≡ 0)
   pub below : open_at new (level + 1) ≡ record { context = r.below; marks = 0 }
   pub fits : FitsValue r.kind value
-  pub goes_on : new.goes_on ≡ takes_lines r.kind
+  pub goes_on : takes_lines new.last ≡ takes_lines r.kind
   pub noted : new.noted ≡ old.noted
 
 -- the line of a structure with this tag, which has no row in its context
 pub record OpensUnlisted (context : Context) (level : ℕ) (tag : Bytes) (old new : LineWalk) : Type 0 where
   pub others : (other : ℕ) → other ≢ level + 1 → open_at new other ≡ open_at old other
   pub below : open_at new (level + 1) ≡ record { context = Unchecked; marks = 0 }
-  pub goes_on : new.goes_on ≡ true
+  pub goes_on : takes_lines new.last ≡ true
   pub noted : (new.noted ≡ true) ↔ ((old.noted ≡ true) ⊎ ((is_standard_tag tag ≡ true) × (context ≢ Unchecked)))
 
 -- one line more: a CONT goes on with a payload of several lines, TRLR asks for nothing, and any other line is a structure's
 pub data Takes (line : LineParts) (old new : LineWalk) : Type 0 where
-  goes_on : is_cont line ≡ true → old.goes_on ≡ true → new ≡ old → Takes line old new
+  goes_on : is_cont line ≡ true → takes_lines old.last ≡ true → new ≡ old → Takes line old new
   ends : is_cont line ≡ false → is_trailer line ≡ true → new ≡ old → Takes line old new
   opens : is_cont line ≡ false → is_trailer line ≡ false → Opens (open_at old line.level).context line.level line old new
       → Takes line old new

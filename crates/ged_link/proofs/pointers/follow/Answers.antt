@@ -1,35 +1,15 @@
-use Rattle.std.proofs.Common.{◌≡◌, ◌<◌, ◌+◌, Some, inr, None, sym, ap, ◌∙◌, arith, option_map, length, true, false, subst}
+use Rattle.std.proofs.Common.{◌≡◌, ◌<◌, ◌+◌, Some, inr, None, sym, ap, ◌∙◌, arith, option_map, length, true, subst}
 use Rattle.std.proofs.Math.ListN.{length-set}
 use Rattle.ged_tree.specs.Places.{structure_at}
-use Rattle.ged_tree.specs.Views.{is_pointer}
 use Rattle.ged_link.specs.declared.index.RecordPlace.{RecordPlace}
 use Rattle.ged_link.specs.declared.pointers.Pointed.{Pointed}
 use Rattle.ged_link.specs.Indexes.{found_in, number_in, place_in}
 use Rattle.ged_link.specs.inner.LinkWalks.{target}
 use Rattle.ged_link.specs.inner.PointerLists.{pointers_from, IsPointerList}
-use Rattle.ged_link.proofs.UseLemmas.{told_not_pointer, told_no_target, used_kept, dangles_kept, used_more, dangles_more, first_dangling, number_inside}
-use Rattle.ged_link.proofs.LedLemmas.{led_here, tells_more, tells_on}
-use Rattle.ged_link.proofs.PointerLemmas.{from_pointer, from_other, name_of}
+use Rattle.ged_link.proofs.UseLemmas.{used_more, dangles_more, first_dangling, number_inside}
+use Rattle.ged_link.proofs.LedLemmas.{led_here, tells_more}
+use Rattle.ged_link.proofs.PointerLemmas.{from_pointer, name_of}
 use Rattle.ged_link.proofs.pointers.follow.Goals as goal
-
-pub returns-then-not-points : goal.returns-then-not-points
-returns-then-not-points g c =
-    let w = g.F.Forest.trees c.args.forest.now in
-    let s = structure_at w c.args.place in
-    let denied : is_pointer s.payload ≡ false = sym c.points.ensures ∙ c.if-not-points.true in
-    let other = told_not_pointer s.payload denied in
-    record {
-      used = record {
-        long = c.requires.used.long;
-        marked = used_kept w c.args.place c.requires.within c.args.followed.now.used.items other c.requires.used.marked;
-        list = subst (λ left. IsPointerList w left c.args.followed.now.list) (from_other w c.args.place c.requires.within denied) c.requires.used.list;
-        found = dangles_kept w c.args.place c.requires.within other c.requires.used.found;
-        led = tells_on w c.args.place c.args.followed.now.led other c.requires.used.led;
-      };
-      tag = tt;
-      target = sym (told_no_target (place_in c.args.records.now.names.now) s.payload denied);
-      fault = tt;
-    }
 
 pub look_up-requires-clause-listed : goal.look_up-requires-clause-listed
 look_up-requires-clause-listed g c name here =
@@ -42,7 +22,7 @@ pub returns-in_default-clause-fault : goal.returns-in_default-clause-fault
 returns-in_default-clause-fault g c =
     let w = g.F.Forest.trees c.args.forest.now in
     let records = c.args.records.now.names.now in
-    let (name, here) = name_of (structure_at w c.args.place).payload (sym c.points.ensures ∙ c.if-not-points.false) in
+    let (name, here) = name_of (structure_at w c.args.place).payload c.requires.pointer in
     let found : None ≡ found_in records name = sym (ap (option_map (λ (pointed : Pointed). pointed.to)) c.in_default.is) ∙ (c.look_up.ensures name here).0 in
     let missing : number_in records name ≡ None = ap (option_map (λ (r : RecordPlace). r.number)) (sym found) in
     inr (c.requires.distinct, (c.args.place, first_dangling w c.args.place c.requires.within records name c.requires.records.named here missing c.requires.used.found, c.line.ensures))
@@ -51,7 +31,7 @@ pub index_mut-requires : goal.index_mut-requires
 index_mut-requires g c =
     let w = g.F.Forest.trees c.args.forest.now in
     let records = c.args.records.now.names.now in
-    let (name, here) = name_of (structure_at w c.args.place).payload (sym c.points.ensures ∙ c.if-not-points.false) in
+    let (name, here) = name_of (structure_at w c.args.place).payload c.requires.pointer in
     let found : Some c.in-Some.pointed.to ≡ found_in records name = sym (ap (option_map (λ (pointed : Pointed). pointed.to)) c.in-Some.is) ∙ (c.look_up.ensures name here).0 in
     let named : number_in records name ≡ Some c.in-Some.pointed.to.number = ap (option_map (λ (r : RecordPlace). r.number)) (sym found) in
     omega (arith, number_inside w records name c.in-Some.pointed.to.number c.requires.records.named named, c.requires.used.long)
@@ -60,7 +40,7 @@ pub put_target-requires : goal.put_target-requires
 put_target-requires g c =
     let w = g.F.Forest.trees c.args.forest.now in
     let p = c.args.place in
-    let (name, here) = name_of (structure_at w p).payload (sym c.points.ensures ∙ c.if-not-points.false) in
+    let (name, here) = name_of (structure_at w p).payload c.requires.pointer in
     (c.take_next-listed.ensures w (structure_at w p).tag name (pointers_from w (p + 1))
     (subst (λ left. IsPointerList w left c.args.followed.now.list) (from_pointer w p name c.requires.within here) c.requires.used.list)).1.0
 
@@ -72,7 +52,7 @@ returns-clause-used g c =
     let used = c.args.followed.now.used.items in
     let number = c.in-Some.pointed.to.number in
     let s = structure_at w p in
-    let (name, here) = name_of s.payload (sym c.points.ensures ∙ c.if-not-points.false) in
+    let (name, here) = name_of s.payload c.requires.pointer in
     let looked = c.look_up.ensures name here in
     let found : found_in records name ≡ Some c.in-Some.pointed.to = sym looked.0 ∙ ap (option_map (λ (pointed : Pointed). pointed.to)) c.in-Some.is in
     let named : number_in records name ≡ Some number = ap (option_map (λ (r : RecordPlace). r.number)) found in
@@ -92,13 +72,13 @@ returns-clause-used g c =
 pub returns-clause-tag : goal.returns-clause-tag
 returns-clause-tag g c =
     let w = g.F.Forest.trees c.args.forest.now in
-    let (name, here) = name_of (structure_at w c.args.place).payload (sym c.points.ensures ∙ c.if-not-points.false) in
+    let (name, here) = name_of (structure_at w c.args.place).payload c.requires.pointer in
     rw c.in-Some.is at (c.look_up.ensures name here).1
 
 pub returns-clause-target : goal.returns-clause-target
 returns-clause-target g c =
     let w = g.F.Forest.trees c.args.forest.now in
     let find = place_in c.args.records.now.names.now in
-    let (name, here) = name_of (structure_at w c.args.place).payload (sym c.points.ensures ∙ c.if-not-points.false) in
+    let (name, here) = name_of (structure_at w c.args.place).payload c.requires.pointer in
     let found : Some c.in-Some.pointed.to ≡ found_in c.args.records.now.names.now name = sym (ap (option_map (λ (pointed : Pointed). pointed.to)) c.in-Some.is) ∙ (c.look_up.ensures name here).0 in
-    ap (option_map (λ (r : RecordPlace). r.place)) found ∙ sym (ap (target find) here)
+    ap (target find) here ∙ sym (ap (option_map (λ (r : RecordPlace). r.place)) found)

@@ -1,4 +1,4 @@
-use Rattle.std.proofs.Common.{refl, sym, subst, ◌∙◌, Bool, false}
+use Rattle.std.proofs.Common.{refl, subst, Bool, false}
 use Rattle.std.specs.Prelude.{IsTrue}
 use Rattle.ged_schema.proofs.LineOpening.{has_walked_on, takes_below}
 use Rattle.ged_schema.proofs.Marking.{on_true}
