@@ -5,6 +5,7 @@ pub mod BriefWords
 pub mod DatedRows
 pub mod KeptNames
 pub mod KeptLines
+pub mod LetterRuns
 pub mod NewNames
 pub mod NewNumbers
 pub mod OwnLines

@@ -8,6 +8,7 @@ pub(crate) mod document;
 pub(crate) mod gathered;
 pub(crate) mod kept;
 pub(crate) mod leaves;
+pub(crate) mod letters;
 pub(crate) mod lines;
 pub(crate) mod numbered;
 pub(crate) mod numbers;

@@ -24,8 +24,9 @@ pub(crate) struct ListedPointer {
 }
 
 /// What is listed of a pointer with a tag to a name, in the two words of the target that is to take its place: the bits of the name's
-/// number, the code of the tag above them, and a bit above that, which says that something is listed.
-#[inline(always)]
+/// number, the code of the tag above them, and a bit above that, which says that something is listed. A function of its own, so that the
+/// line stays in registers.
+#[inline(never)]
 pub(crate) fn list_pointer(tag: &str, name: &str) -> Target
     ensures told { IsListedPointer result tag.now name.now }
     ensures found { (bits : ℕ) → counted_number name.now ≡ Some (2 ^ 63 + bits) → bits < 2 ^ 44 → 0 < entry_in result }

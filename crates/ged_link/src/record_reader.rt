@@ -52,8 +52,8 @@ impl RecordReader {
         Ok(())
     }
 
-    /// Lists one more pointer, by the tag on its line and the name. A function of its own for the same reason.
-    #[inline(never)]
+    /// Lists one more pointer, by the tag on its line and the name.
+    #[inline(always)]
     fn list_pointer(&mut self, tag: &str, name: &str) -> Result<(), AllocError>
         ensures records { OnOk result (self.new.list ≡ self.old.list) }
         ensures pointers { OnOk result ((all : List (Bytes × Bytes)) → AreListedPointers self.old.pointers.items all

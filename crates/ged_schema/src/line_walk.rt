@@ -233,8 +233,8 @@ impl LineWalk {
         requires no_cont { is_cont line.now ≡ false }
         ensures { (lines : List LineParts) → HasWalked self.old lines → HasWalked self.new (lines ++ line.now ∷ []) }
     {
-        if self.holds {
-            self.holds = self.open_structure(line);
+        if self.holds && !self.open_structure(line) {
+            self.holds = false;
         }
     }
 

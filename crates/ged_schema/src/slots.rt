@@ -4,7 +4,7 @@ ghost use Rattle.std.specs.Option.{option_copied};
 ghost use Rattle.ged_schema.specs.Rows.{Row, as_row};
 ghost use Rattle.ged_schema.specs.Tables.{row, rows as rows_of};
 ghost use Rattle.ged_schema.specs.inner.Lookups.{row_of, TellsNumber};
-ghost use Rattle.ged_schema.specs.Slots.{are_numbered, kept_number, slot_from};
+ghost use Rattle.ged_schema.specs.Slots.{are_numbered, kept_number, slot_by, slot_from};
 
 use crate::context::Context;
 use crate::rule::Rule;
@@ -13,35 +13,35 @@ use ged_line::is_same_tag;
 
 /// At the slot of each row's tag, the number of the row in its context; 0 at the slots that no row has.
 ///
-/// A slot is the sum of the context's seed and of four bytes of the tag, each times a weight. The script crates/ged_schema/tools/slots.py
-/// found weights and seeds: the contexts with the most rows first, each gets the least seed that puts none of its rows on
-/// a slot which keeps another number. Nothing rests on how they were found: `seed_of` promises that each row's number is
-/// kept at its slot, and the proof computes every one.
+/// A slot is the sum of the context's seed and of the highest bits of a product: of four bytes of the tag, read as one number, and of
+/// [`FACTOR`]. The script crates/ged_schema/tools/slots.py found the factor and the seeds: the contexts with the most rows first, each
+/// gets the least seed that puts none of its rows on a slot which keeps another number. Nothing rests on how they were found: `seed_of`
+/// promises that each row's number is kept at its slot, and the proof computes every one.
 static SLOTS: [u8; 512] = [
-    0, 0, 0, 23, 0, 45, 1, 0, 0, 0, 0, 17, 0, 0, 0, 0, 0, 0, 0, 0, 0, 0, 0, 0, 0, 0, 0, 0, 0, 0, 0,
-    0, 0, 0, 0, 0, 0, 0, 0, 0, 0, 0, 0, 18, 0, 2, 20, 1, 1, 9, 0, 24, 0, 30, 0, 0, 16, 27, 0, 0, 0,
-    0, 0, 0, 0, 0, 0, 0, 0, 46, 0, 0, 0, 0, 0, 41, 0, 1, 0, 0, 7, 0, 1, 0, 0, 35, 0, 0, 0, 0, 0, 0,
-    0, 22, 0, 0, 0, 0, 0, 0, 15, 0, 0, 0, 38, 0, 0, 0, 0, 0, 7, 28, 0, 0, 0, 0, 0, 0, 0, 0, 0, 40,
-    33, 0, 0, 17, 0, 0, 0, 0, 0, 0, 0, 0, 0, 17, 0, 0, 0, 0, 0, 0, 56, 0, 0, 10, 3, 5, 2, 0, 0, 11,
-    23, 2, 1, 0, 0, 0, 29, 0, 0, 0, 0, 1, 8, 0, 6, 0, 0, 0, 0, 0, 60, 0, 5, 0, 9, 0, 8, 0, 0, 0, 0,
-    0, 3, 0, 20, 8, 0, 18, 0, 0, 0, 21, 0, 59, 5, 26, 0, 0, 0, 0, 0, 0, 9, 0, 0, 0, 0, 0, 0, 0, 0,
-    0, 49, 0, 3, 50, 1, 0, 37, 19, 2, 0, 0, 36, 1, 0, 0, 0, 10, 0, 4, 4, 0, 0, 0, 0, 0, 0, 0, 0, 0,
-    47, 0, 25, 0, 0, 0, 0, 0, 0, 0, 3, 0, 2, 0, 0, 61, 0, 5, 0, 0, 0, 3, 16, 0, 4, 0, 14, 0, 0, 0,
-    10, 42, 29, 0, 51, 0, 3, 5, 0, 0, 55, 7, 6, 9, 2, 4, 1, 3, 5, 9, 0, 1, 0, 10, 0, 28, 0, 0, 53,
-    0, 3, 0, 34, 25, 7, 0, 7, 2, 0, 0, 0, 1, 5, 0, 8, 0, 0, 20, 0, 39, 15, 15, 2, 32, 2, 0, 12, 0,
-    0, 11, 31, 0, 0, 0, 0, 0, 0, 0, 5, 0, 0, 0, 0, 19, 0, 0, 0, 0, 0, 0, 0, 0, 0, 12, 0, 6, 2, 13,
-    30, 0, 0, 0, 3, 0, 0, 3, 0, 0, 0, 48, 0, 0, 0, 2, 2, 0, 0, 20, 0, 0, 2, 0, 0, 24, 57, 44, 52,
-    2, 4, 3, 4, 0, 0, 0, 0, 3, 0, 0, 0, 19, 0, 22, 0, 1, 0, 7, 0, 1, 0, 54, 27, 0, 13, 0, 0, 0, 6,
-    0, 10, 0, 0, 13, 14, 0, 0, 0, 8, 0, 0, 0, 0, 1, 0, 19, 6, 0, 0, 0, 0, 0, 0, 0, 0, 0, 0, 0, 0,
-    43, 0, 0, 4, 4, 0, 0, 0, 1, 0, 0, 6, 0, 0, 14, 0, 58, 0, 0, 0, 0, 6, 6, 0, 12, 0, 0, 0, 4, 0,
-    16, 0, 18, 0, 0, 1, 0, 0, 0, 0, 26, 0, 21, 0, 11, 0, 0, 1, 3, 0, 0, 0, 0, 0, 0, 0, 0, 0, 0, 0,
-    0, 0,
+    0, 0, 0, 0, 0, 0, 0, 0, 2, 11, 0, 0, 0, 1, 0, 0, 0, 0, 0, 0, 24, 0, 0, 0, 0, 0, 0, 0, 0, 0, 50,
+    0, 11, 0, 0, 0, 0, 0, 0, 0, 18, 0, 0, 0, 0, 0, 0, 18, 5, 0, 39, 2, 0, 58, 6, 12, 0, 0, 15, 0,
+    3, 0, 0, 2, 0, 0, 0, 0, 0, 0, 3, 0, 6, 2, 0, 0, 0, 0, 0, 0, 25, 14, 0, 0, 27, 0, 57, 0, 2, 2,
+    0, 3, 42, 6, 2, 0, 61, 3, 0, 0, 0, 0, 4, 6, 2, 0, 7, 0, 27, 19, 0, 0, 0, 0, 0, 0, 0, 26, 0, 0,
+    0, 0, 13, 7, 1, 0, 0, 30, 22, 0, 10, 0, 1, 0, 0, 17, 3, 0, 0, 0, 0, 0, 5, 0, 51, 0, 5, 0, 0, 0,
+    0, 7, 0, 1, 0, 0, 7, 54, 9, 5, 23, 12, 1, 0, 0, 0, 0, 3, 16, 4, 0, 0, 34, 5, 47, 20, 0, 0, 8,
+    0, 0, 1, 0, 52, 0, 0, 0, 0, 23, 0, 46, 0, 0, 0, 0, 0, 0, 60, 3, 0, 7, 0, 0, 0, 0, 19, 0, 0, 44,
+    0, 0, 0, 0, 0, 21, 0, 0, 0, 17, 0, 0, 0, 4, 0, 0, 5, 0, 0, 29, 8, 0, 0, 0, 0, 20, 0, 13, 8, 0,
+    0, 10, 59, 0, 0, 0, 0, 32, 0, 0, 0, 0, 0, 4, 0, 0, 0, 13, 0, 3, 0, 0, 15, 40, 1, 0, 6, 0, 0,
+    41, 0, 0, 0, 28, 0, 0, 2, 0, 4, 0, 0, 12, 26, 0, 0, 0, 0, 0, 0, 0, 0, 4, 0, 0, 0, 0, 0, 0, 0,
+    0, 10, 0, 0, 0, 0, 0, 56, 5, 10, 4, 0, 2, 1, 5, 0, 0, 0, 21, 7, 35, 0, 0, 3, 55, 4, 9, 0, 29,
+    1, 0, 0, 2, 17, 1, 0, 0, 0, 25, 0, 2, 0, 0, 36, 0, 43, 14, 0, 0, 0, 0, 9, 0, 19, 0, 24, 0, 0,
+    0, 0, 1, 0, 0, 0, 0, 0, 0, 0, 8, 0, 0, 0, 0, 0, 28, 0, 0, 0, 38, 0, 0, 0, 0, 0, 45, 16, 0, 0,
+    0, 15, 0, 9, 16, 0, 1, 0, 0, 0, 0, 30, 8, 0, 0, 0, 0, 0, 14, 1, 0, 0, 0, 0, 0, 0, 19, 0, 3, 0,
+    0, 0, 0, 0, 4, 0, 0, 0, 0, 0, 1, 1, 10, 48, 0, 3, 0, 0, 0, 0, 37, 0, 0, 0, 0, 20, 0, 0, 0, 0,
+    0, 0, 0, 0, 0, 0, 0, 0, 0, 0, 0, 0, 0, 0, 0, 1, 0, 11, 20, 0, 0, 6, 0, 31, 53, 0, 9, 0, 0, 0,
+    6, 18, 0, 0, 0, 0, 0, 0, 0, 6, 0, 0, 0, 0, 0, 0, 0, 49, 0, 0, 0, 0, 0, 0, 0, 22, 33, 0, 0, 0,
+    0, 0, 0, 0, 0, 0,
 ];
 
 /// The seed of the slots of each context's tags, in the order of the contexts.
 static SEEDS: [u16; 34] = [
-    32, 3, 0, 0, 3, 0, 0, 1, 6, 3, 1, 0, 181, 181, 181, 181, 1, 42, 12, 34, 10, 103, 181, 181, 1,
-    11, 6, 0, 4, 5, 0, 5, 0, 0,
+    7, 2, 0, 0, 5, 0, 0, 1, 1, 2, 1, 0, 82, 82, 82, 82, 1, 16, 6, 44, 13, 31, 82, 82, 3, 5, 5, 0,
+    16, 1, 0, 11, 0, 0,
 ];
 
 /// The seed of the slots of a context's tags. It is read from a table rather than told by a match: a jump that hangs on the context is
@@ -68,24 +68,37 @@ fn count_of(context: Context) -> usize
     usize::from(COUNTS[context as usize])
 }
 
+/// By which four bytes of a tag are multiplied, so that the highest bits of the product depend on all of them.
+const FACTOR: u32 = 0x2E2A_C0EA;
+
 /// The slot of a tag by four of its bytes, the first three and the last one. They tell the tags of each context apart.
 #[inline(always)]
 fn slot_at(seed: usize, first: u8, second: u8, third: u8, last: u8) -> usize
     requires { seed < 512 }
     ensures small { result < 512 }
-    ensures told { result ≡ (seed + first * 4 + second + third * 32 + last * 4) % 512 }
+    ensures told { result ≡ slot_by seed first second third last }
 {
-    (seed
-        + usize::from(first) * 4
-        + usize::from(second)
-        + usize::from(third) * 32
-        + usize::from(last) * 4)
-        % 512
+    let four = u32::from_le_bytes([first, second, third, last]);
+    let spread = four.wrapping_mul(FACTOR) / 0x80_0000;
+    (seed + spread as usize) % 512
 }
 
-/// The slot of a tag. Nearly all tags have four bytes or more, so they are told from the others at once.
+/// The slot of a tag. Most tags have four bytes, which are read as one number.
 #[inline(always)]
 fn slot_of(seed: usize, tag: &[u8]) -> usize
+    requires { seed < 512 }
+    ensures small { result < 512 }
+    ensures told { result ≡ slot_from seed tag.now }
+{
+    match tag {
+        [first, second, third, last] => slot_at(seed, *first, *second, *third, *last),
+        _ => slot_of_other(seed, tag),
+    }
+}
+
+/// The same of a tag of any length. A function of its own, so that the path of the others stays short.
+#[inline(never)]
+fn slot_of_other(seed: usize, tag: &[u8]) -> usize
     requires { seed < 512 }
     ensures small { result < 512 }
     ensures told { result ≡ slot_from seed tag.now }

@@ -10,9 +10,9 @@ ghost use Rattle.ged_canon.specs.declared.edition.Edition.TheVariants.{First};
 ghost use Rattle.ged_canon.specs.inner.Writing.{may_be_dated};
 
 use crate::edition::Edition;
+use crate::writer::letters::has_g;
 use crate::writer::plan::Writer;
 use ged_tree::Forest;
-use memchr::memchr;
 
 /// Whether the tag of a line, which stands behind two bytes, may be DATE or SDATE: its first two letters tell enough.
 #[inline(always)]
@@ -29,14 +29,6 @@ fn may_begin_dated(line: &[u8]) -> bool
     first == b'S' && second == b'D'
 }
 
-/// Whether a byte stands nowhere among others.
-#[inline(always)]
-fn has_no(bytes: &[u8], byte: u8) -> bool
-    ensures { IsTrue result → list_any (λ b. b == byte) bytes.now ≡ false }
-{
-    memchr(byte, bytes).is_none()
-}
-
 /// Whether nothing can be left out in a line of the first edition, whatever the context: only the name of a calendar is left out there,
 /// which has a G, and only where the tag is DATE or SDATE.
 #[inline(always)]
@@ -44,7 +36,7 @@ fn stays(line: &[u8]) -> bool
     ensures { IsTrue result → (level : ℕ) (tag rest : Bytes) → level < 10 → line.now ≡ (decimal level ++ space ∷ (tag ++ rest)) ++ line_feed ∷ []
         → (may_be_dated tag ≡ false) ⊎ (list_any (λ b. b == 71) (tag ++ rest) ≡ false) }
 {
-    !may_begin_dated(line) || has_no(line, b'G')
+    !may_begin_dated(line) || !has_g(line)
 }
 
 impl<F: Forest> Writer<'_, '_, F> {

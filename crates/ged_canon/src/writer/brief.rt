@@ -15,6 +15,7 @@ ghost use Rattle.ged_tree.specs.Trees.{trees_count};
 ghost use Rattle.ged_tree.specs.Places.{structure_at};
 
 use crate::edition::Edition;
+use crate::writer::letters::has_g;
 use ged_schema::Rule;
 use ged_tree::{Forest, PayloadView};
 use ged_value::{Kind, first_word, trim_zeros};
@@ -92,7 +93,7 @@ fn are_brief_words(line: &str, left_out: LeftOut) -> bool
     if !left_out.calendar && !left_out.zeros {
         return true;
     }
-    if !left_out.zeros && !line.as_bytes().contains(&b'G') {
+    if !left_out.zeros && !has_g(line.as_bytes()) {
         return true;
     }
     let mut rest = Some(line);

@@ -25,6 +25,7 @@ ghost use Rattle.ged_canon.specs.inner.Writing.{may_be_dated as tests_dated, row
 use crate::edition::Edition;
 use crate::writer::answer::{Answer, text_value};
 use crate::writer::brief::{brief_line, is_brief_at, may_be_shortened};
+use crate::writer::letters::has_g;
 use crate::writer::numbers::{is_kept_name, is_numbered, new_number_at};
 use crate::writer::plan::{Plan, Work, Writer};
 use crate::writer::siblings::Sibling;
@@ -73,7 +74,7 @@ fn is_plain_line(edition: Edition, tag: &str, line: &str) -> bool
 {
     match edition {
         Edition::Second => false,
-        Edition::First => !may_be_dated(tag) || !line.as_bytes().contains(&b'G'),
+        Edition::First => !may_be_dated(tag) || !has_g(line.as_bytes()),
     }
 }
 

@@ -55,7 +55,15 @@ pub(crate) fn cut_line(text: &str) -> Cut<'_>
             has_banned: false,
         };
     };
-    if bytes[special] == b'\n' || bytes[special] == b'\r' {
+    if bytes[special] == b'\n' {
+        let (piece, _) = text.split_at(special);
+        return Cut {
+            piece,
+            after: &text[special + 1..],
+            has_banned: false,
+        };
+    }
+    if bytes[special] == b'\r' {
         let (piece, rest) = text.split_at(special);
         return Cut {
             piece,

@@ -174,14 +174,14 @@ impl<'a> TableBuilder<'a> {
         let line = &spelled.line;
         // Read for the proof alone: by its contract the parts are those of a line.
         let _level = line.level();
-        self.count += 1;
         let role = match self.judge.role(line) {
             Ok(role) => role,
             Err(fault) => {
-                let line = self.count;
+                let line = self.count + 1;
                 return Err(BuildFault::At(TreeAt { line, fault }));
             }
         };
+        self.count += 1;
         match self.put(spelled, start, role) {
             Ok(()) => Ok(role),
             Err(error) => Err(BuildFault::Memory(error)),

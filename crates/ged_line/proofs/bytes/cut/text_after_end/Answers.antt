@@ -1,4 +1,4 @@
-use Rattle.std.proofs.Common.{◌≡◌, ◌⊎◌, arith, get_or, inl, inr}
+use Rattle.std.proofs.Common.{◌≡◌, arith, get_or, inl, inr}
 use Rattle.std.proofs.lemmas.Str.{IsCharBoundary-after_ascii}
 use Rattle.ged_line.proofs.bytes.Cutting.{both_end_text, one_end_text, first_ascii}
 use Rattle.ged_line.proofs.bytes.cut.text_after_end.Goals as goal

@@ -1,15 +1,18 @@
-use Rattle.std.proofs.Common.{refl, subst, Bool, false}
+use Rattle.std.proofs.Common.{refl, sym, subst, false, ◌∙◌, ap, Bool}
 use Rattle.std.specs.Prelude.{IsTrue}
+use Rattle.ged_schema.specs.declared.line_walk.LineWalk.{LineWalk}
+use Rattle.ged_schema.specs.inner.LineWalks.{Takes}
 use Rattle.ged_schema.proofs.LineOpening.{has_walked_on, takes_below}
 use Rattle.ged_schema.proofs.Marking.{on_true}
 use Rattle.ged_schema.proofs.line_walk.LineWalk.keep_substructure.Goals as goal
-
-pub returns-then-self : goal.returns-then-self
-returns-then-self c lines walked held =
-    let line = c.args.line.now in
-    let old = c.args.self.now in
-    let opened = on_true c.open_structure-self.result c.open_structure-self.ensures (rw held refl) in
-    has_walked_on line lines old _ (rw c.if-self.true refl) walked (takes_below line old c.open_structure-self.new.self c.open_structure-self.result c.requires.below c.requires.no_cont opened) held
+use Rattle.ged_schema.proofs.line_walk.LineWalk.keep_substructure.Goals.{else-self-via-then-self+else-not-open_structure, else-self-via-else-self}
 
 pub returns-else-self : goal.returns-else-self
-returns-else-self c lines walked held = (let never : IsTrue false = subst (λ (b : Bool). IsTrue b) c.if-self.false held in cc)
+returns-else-self c lines walked held = elim c.else-self.branch [
+  | else-self-via-then-self+else-not-open_structure w ↦
+      let line = c.args.line.now in
+      let opened = on_true w.open_structure.result w.open_structure.ensures w.if-not-open_structure.false in
+      has_walked_on line lines c.args.self.now c.else-self.self (rw w.if-self.true refl) walked
+      (subst (λ (x : LineWalk). Takes line c.args.self.now x) (sym w.self-is) (takes_below line c.args.self.now w.open_structure.new.self w.open_structure.new.self.holds c.requires.below c.requires.no_cont opened)) held
+  | else-self-via-else-self w ↦ (let never : IsTrue false = subst (λ (b : Bool). IsTrue b) (ap (λ (x : LineWalk). x.holds) w.self-is ∙ w.if-self.false) held in cc)
+]
