@@ -13,7 +13,6 @@ With the word --compare it prints nothing of this, and tells instead whether the
 then 'N passed, M failed', and the status 0 where all passed.
 """
 
-import itertools
 import re
 import sys
 from pathlib import Path
@@ -24,6 +23,8 @@ SLOTS = 512
 WORD = 2**32
 # The factors are its multiples. It is the golden ratio's part of a word, by which hashes often multiply.
 GOLDEN = 0x9E3779B1
+# More than so many are not tried: where tables no longer fit, the script says so.
+FACTORS = 10_000
 WIDTH = 100
 
 
@@ -118,11 +119,13 @@ def main(words):
     rows = read_rows()
     tables = {context: [tag for _, tag in rows[context]] for context in rows}
     needed = {context: needed_rows(rows[context]) for context in rows}
-    for number in itertools.count(1):
+    for number in range(1, FACTORS):
         factor = GOLDEN * number % WORD
         found = find_slots(tables, factor)
         if found is not None:
             break
+    else:
+        raise SystemExit("no factor was found")
     if words[1:] == ["--compare"]:
         return compare(factor, *found, needed, tables)
     print_found(factor, *found, needed, tables)
