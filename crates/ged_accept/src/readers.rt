@@ -43,6 +43,12 @@ impl LineReader for Readers {
     }
 
     #[inline(always)]
+    fn record(&mut self, line: &LineView<'_>) -> Result<(), AllocError> {
+        self.walk.record(line)?;
+        self.records.record(line)
+    }
+
+    #[inline(always)]
     fn continuation(&mut self, line: &LineView<'_>) -> Result<(), AllocError> {
         self.walk.continuation(line)?;
         self.records.continuation(line)

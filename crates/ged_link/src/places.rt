@@ -5,6 +5,7 @@ ghost use Rattle.ged_link.specs.Places.{place_kept};
 ghost use Rattle.ged_link.specs.inner.Places.{IsKeptAt};
 
 use std::alloc::AllocError;
+use std::simd::prelude::*;
 
 /// Where an [`crate::Index`] looks for a record first: behind the one that it found last.
 #[derive(Clone, Copy, Debug)]
@@ -59,23 +60,35 @@ pub(crate) fn next_record(places: &[u32], place: usize, cursor: &mut RecordCurso
     Some(number)
 }
 
-/// How many records behind the cursor are passed one by one: records that are visited in another order than the file's seldom stand far
+/// How many records behind the cursor are looked at together: records that are visited in another order than the file's seldom stand far
 /// apart.
 const NEXT: usize = 8;
 
 /// How many records behind these are searched before all are.
 const NEAR: usize = 64;
 
+/// How many places, of the first few, stand before the first that is not lower than this one.
+#[inline(always)]
+fn lower_places(places: &[u32], place: u32) -> usize {
+    let Some(run) = places.get(..NEXT) else {
+        return 0;
+    };
+    let lower = u32x8::from_slice(run).simd_lt(u32x8::splat(place));
+    lower.to_bitmask().trailing_ones() as usize
+}
+
 /// Moves a cursor on to the first record near it that is not at a lower place than this one.
 #[inline(always)]
 fn move_on(places: &[u32], place: usize, cursor: &mut RecordCursor)
     ensures { cursor.old.next ≤ cursor.new.next }
 {
-    for _ in 0..NEXT {
-        match places.get(cursor.next) {
-            Some(kept) if (*kept as usize) < place => cursor.next += 1,
-            _ => return,
-        }
+    let Some(behind) = places.get(cursor.next..) else {
+        return;
+    };
+    let passed = lower_places(behind, kept_place(place));
+    cursor.next = cursor.next.saturating_add(passed);
+    if passed < NEXT {
+        return;
     }
     let end = places.len().min(cursor.next.saturating_add(NEAR));
     if let Some(near) = places.get(cursor.next..end) {

@@ -1,8 +1,9 @@
 // The records and the pointers of a document, read from its lines.
-ghost use Rattle.std.specs.Prelude.{◌≡◌, ◌++◌, ◌∷◌, [], List, IfOk, OnOk};
+ghost use Rattle.std.specs.Prelude.{◌≡◌, ◌++◌, ◌∷◌, [], List, IfOk, OnOk, false};
 ghost use Rattle.std.specs.Option.{option_copied};
 ghost use Rattle.ged_line.specs.Bytes.{Bytes};
 ghost use Rattle.ged_line.specs.Lines.{LineParts};
+ghost use Rattle.ged_tree.specs.TreeFaults.{is_header, is_trailer};
 ghost use Rattle.ged_link.specs.inner.PointerLists.{line_pointers, AreListedPointers};
 ghost use Rattle.ged_link.specs.inner.RecordLines.{record_lines, AreListed, is_record_tag as tests_record_tag};
 
@@ -77,6 +78,19 @@ impl RecordReader {
         }
     }
 
+    /// The same where one does.
+    #[inline(always)]
+    fn read_known_record(&mut self, line: &LineView<'_>) -> Result<(), AllocError>
+        requires top { line.now.level ≡ 0 }
+        requires no_header { is_header line.now ≡ false }
+        requires no_trailer { is_trailer line.now ≡ false }
+        ensures records { OnOk result ((lines : List LineParts) → AreListed self.old.list (record_lines lines)
+            → AreListed self.new.list (record_lines (lines ++ line.now ∷ []))) }
+        ensures pointers { OnOk result (self.new.pointers ≡ self.old.pointers) }
+    {
+        self.list_record(line.xref(), line.tag())
+    }
+
     /// Lists the pointer that stands on a line, if one does.
     #[inline(always)]
     fn read_pointer(&mut self, line: &LineView<'_>) -> Result<(), AllocError>
@@ -106,6 +120,13 @@ impl LineReader for RecordReader {
     /// Takes one more line, on which no record begins.
     #[inline(always)]
     fn substructure(&mut self, line: &LineView<'_>) -> Result<(), AllocError> {
+        self.read_pointer(line)
+    }
+
+    /// Takes one more line, on which a record begins.
+    #[inline(always)]
+    fn record(&mut self, line: &LineView<'_>) -> Result<(), AllocError> {
+        self.read_known_record(line)?;
         self.read_pointer(line)
     }
 

@@ -5,7 +5,7 @@ ghost use Rattle.std.specs.Int.{bit_at};
 ghost use Rattle.ged_line.specs.Lines.{LineParts, Value};
 ghost use Rattle.ged_line.specs.Names.{is_tag};
 ghost use Rattle.ged_line.specs.Views.{viewed_value};
-ghost use Rattle.ged_tree.specs.TreeFaults.{is_cont};
+ghost use Rattle.ged_tree.specs.TreeFaults.{is_cont, is_trailer};
 ghost use Rattle.ged_tree.specs.Trees.{Trees};
 ghost use Rattle.ged_tree.specs.Documents.{is_document};
 ghost use Rattle.ged_tree.specs.DocumentLines.{document_lines};
@@ -182,24 +182,38 @@ impl LineWalk {
         self.last = Kind::Free;
     }
 
-    /// Takes the line of a structure.
+    /// Takes the line of a structure, by what stands on it.
     #[inline(always)]
-    fn open_structure(&mut self, line: &LineView<'_>) -> bool
-        ensures { OnTrue result (Opens (open_at self.old line.now.level).context line.now.level line.now self.old self.new) }
+    fn open_by_parts(&mut self, level: u8, tag: &str, value: ValueView<'_>) -> bool
+        requires level { level ≤ 99 }
+        requires tag { is_tag tag.now ≡ true }
+        ensures { (line : LineParts) → line.level ≡ level → line.tag ≡ tag.now → line.value ≡ viewed_value value.entry
+            → OnTrue result (Opens (open_at self.old line.level).context line.level line self.old self.new) }
     {
-        let level = usize::from(line.level());
+        let level = usize::from(level);
         if !self.is_closed(level + 1) {
             return false;
         }
         let context = self.context_at(level);
-        let tag = line.tag();
         match row_number(context, tag) {
-            Some(number) => self.open_listed(&rows(context)[number], number, level, line.value()),
+            Some(number) => self.open_listed(&rows(context)[number], number, level, value),
             None => {
                 self.open_unlisted(context, level, tag);
                 true
             }
         }
+    }
+
+    /// The same of HEAD or a record, which are not like most structures. A function of its own, so that the path of the others
+    /// stays short.
+    #[inline(never)]
+    fn open_other(&mut self, level: u8, tag: &str, value: ValueView<'_>) -> bool
+        requires level { level ≤ 99 }
+        requires tag { is_tag tag.now ≡ true }
+        ensures { (line : LineParts) → line.level ≡ level → line.tag ≡ tag.now → line.value ≡ viewed_value value.entry
+            → OnTrue result (Opens (open_at self.old line.level).context line.level line self.old self.new) }
+    {
+        self.open_by_parts(level, tag, value)
     }
 
     /// Takes one more line, and tells whether it is as the tables ask.
@@ -213,7 +227,7 @@ impl LineWalk {
         if line.level() == 0 && line.tag() == "TRLR" {
             return true;
         }
-        self.open_structure(line)
+        self.open_other(line.level(), line.tag(), line.value())
     }
 
     /// Takes one more line, and keeps whether all lines so far are as the tables ask.
@@ -233,7 +247,19 @@ impl LineWalk {
         requires no_cont { is_cont line.now ≡ false }
         ensures { (lines : List LineParts) → HasWalked self.old lines → HasWalked self.new (lines ++ line.now ∷ []) }
     {
-        if self.holds && !self.open_structure(line) {
+        if self.holds && !self.open_by_parts(line.level(), line.tag(), line.value()) {
+            self.holds = false;
+        }
+    }
+
+    /// The same for a line that is known to begin a record.
+    #[inline(always)]
+    fn keep_record(&mut self, line: &LineView<'_>)
+        requires no_cont { is_cont line.now ≡ false }
+        requires no_trailer { is_trailer line.now ≡ false }
+        ensures { (lines : List LineParts) → HasWalked self.old lines → HasWalked self.new (lines ++ line.now ∷ []) }
+    {
+        if self.holds && !self.open_other(line.level(), line.tag(), line.value()) {
             self.holds = false;
         }
     }
@@ -297,6 +323,13 @@ impl LineReader for LineWalk {
     #[inline(always)]
     fn substructure(&mut self, line: &LineView<'_>) -> Result<(), AllocError> {
         self.keep_substructure(line);
+        Ok(())
+    }
+
+    /// The same for a line that begins a record.
+    #[inline(always)]
+    fn record(&mut self, line: &LineView<'_>) -> Result<(), AllocError> {
+        self.keep_record(line);
         Ok(())
     }
 

@@ -96,8 +96,8 @@ fn slot_of(seed: usize, tag: &[u8]) -> usize
     }
 }
 
-/// The same of a tag of any length. A function of its own, so that the path of the others stays short.
-#[inline(never)]
+/// The same of a tag of any length.
+#[inline(always)]
 fn slot_of_other(seed: usize, tag: &[u8]) -> usize
     requires { seed < 512 }
     ensures small { result < 512 }
@@ -116,7 +116,7 @@ fn slot_of_other(seed: usize, tag: &[u8]) -> usize
 
 /// The number of a tag's row among so many rows of a context, counted from 0, where the seed is that of the context.
 #[inline(always)]
-fn number_within(rules: &[Rule], count: usize, seed: usize, tag: &str) -> Option<usize>
+fn number_by_slot(rules: &[Rule], count: usize, seed: usize, tag: &str) -> Option<usize>
     requires count { count ≡ length rules.now }
     requires small { seed < 512 }
     requires few { length rules.now ≤ 64 }
@@ -128,6 +128,34 @@ fn number_within(rules: &[Rule], count: usize, seed: usize, tag: &str) -> Option
         Some(number)
     } else {
         None
+    }
+}
+
+/// The same of a tag that has not four bytes, as few have not. A function of its own, so that the path of the others stays short.
+#[inline(never)]
+fn number_of_other(rules: &[Rule], count: usize, seed: usize, tag: &str) -> Option<usize>
+    requires count { count ≡ length rules.now }
+    requires small { seed < 512 }
+    requires few { length rules.now ≤ 64 }
+    requires kept { are_numbered (kept_number seed) 0 (map as_row rules.now) ≡ true }
+    ensures { TellsNumber (map as_row rules.now) tag.now result }
+{
+    number_by_slot(rules, count, seed, tag)
+}
+
+/// The same of any tag. How many bytes it has is asked once.
+#[inline(always)]
+fn number_within(rules: &[Rule], count: usize, seed: usize, tag: &str) -> Option<usize>
+    requires count { count ≡ length rules.now }
+    requires small { seed < 512 }
+    requires few { length rules.now ≤ 64 }
+    requires kept { are_numbered (kept_number seed) 0 (map as_row rules.now) ≡ true }
+    ensures { TellsNumber (map as_row rules.now) tag.now result }
+{
+    if tag.len() == 4 {
+        number_by_slot(rules, count, seed, tag)
+    } else {
+        number_of_other(rules, count, seed, tag)
     }
 }
 

@@ -13,12 +13,12 @@ use Rattle.ged_tree.specs.declared.table.packed.KeptStructure.{KeptStructure}
 abbrev pub lines_text : BareLines → Bytes
 lines_text lines = lines.text.now
 
--- a structure keeps its line as a slice, its tag stands behind a level of one digit and a space, and no space stands alone behind the tag
+-- a structure keeps its line as a slice, its tag stands behind the level and a space, and no space stands alone behind the tag
 pub record KeepsBare (s : KeptStructure) : Type 0 where
   pub sliced : s.length < 255
   pub tagged : 0 < kept_tag_length s
-  pub front : s.tag_start ≡ 2
-  pub ends : ¬ (s.length ≡ kept_tag_length s + 3)
+  pub front : s.tag_start ≡ length (decimal (kept_level s)) + 1
+  pub ends : ¬ (s.length ≡ s.tag_start + kept_tag_length s + 1)
 
 -- a structure keeps such a line, and a line feed stands behind it in the text
 pub record IsBare (text : Bytes) (s : KeptStructure) : Type 0 where

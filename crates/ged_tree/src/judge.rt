@@ -1,5 +1,5 @@
 // The faults of a document's lines, found line by line.
-ghost use Rattle.std.specs.Prelude.{◌≡◌, ◌<◌, ◌++◌, ◌∷◌, [], List, Some, None, true, false, IfOk, IfErr, option_map, Option};
+ghost use Rattle.std.specs.Prelude.{◌≡◌, ◌<◌, ◌++◌, ◌∷◌, [], List, Some, None, true, false, IfOk, IfErr, MatchBool, option_map, Option};
 ghost use Rattle.std.specs.Bool.{OnTrue};
 ghost use Rattle.std.specs.List.{find};
 ghost use Rattle.ged_line.specs.Lines.{LineParts};
@@ -10,6 +10,8 @@ ghost use Rattle.ged_tree.specs.TreeFaults.{is_cont as tests_cont, is_header as 
 ghost use Rattle.ged_tree.specs.TreeFaults.{is_reference as tests_reference, is_empty as tests_empty, has_forbidden_xref as tests_forbidden_xref};
 ghost use Rattle.ged_tree.specs.Judging.{StandsFor, seen};
 ghost use Rattle.ged_tree.specs.inner.Judging.{HasRole, end_faults};
+ghost use Rattle.ged_tree.specs.declared.judge.LineRole.TheVariants.{Record};
+ghost use Rattle.ged_tree.specs.declared.judge.Before.TheVariants.{Structure, Reference};
 
 use crate::fault::TreeFault;
 use ged_line::{LineView, ValueView, is_same_tag};
@@ -22,35 +24,45 @@ pub(crate) enum LineRole {
     Substructure,
     /// It goes on with a payload: it is a CONT.
     Continuation,
+    /// It begins a record.
+    Record,
     /// It is no CONT. Some of these lines begin a structure below another one too.
     Other,
 }
 
-/// What a judge keeps of a line.
+/// What a line is to the one behind it.
 #[derive(Clone, Copy)]
-struct Previous {
-    level: u8,
-    is_cont: bool,
-    is_reference: bool,
+pub(crate) enum Before {
+    /// There is none: the line behind is the first.
+    Nothing,
+    /// It is no CONT, and its value is neither a pointer nor void.
+    Structure,
+    /// It is no CONT, and has a pointer or void.
+    Reference,
+    /// It is a CONT.
+    Continuation,
 }
 
 /// Finds the faults of a document's lines one line at a time, from a few facts of the lines taken so far. Contracts say
 /// which lists of lines it stands for.
 #[derive(Drop)]
 pub struct Judge {
-    previous: Option<Previous>,
+    /// What the last line is.
+    before: Before,
+    /// The greatest level that the next line may have if it is no CONT. A CONT that goes on with a payload has this level.
+    deepest: u8,
     has_ended: bool,
 }
 
 impl Model for Judge {
-    ghost use Rattle.std.specs.Prelude.{◌≤◌, option_map, IfSome};
-    ghost use Rattle.ged_tree.specs.Judging.{Facts};
+    ghost use Rattle.std.specs.Prelude.{◌≤◌};
+    ghost use Rattle.ged_tree.specs.Judging.{Facts, Reaches, seen_before};
 
     ghost Value = { Facts };
 
-    ghost view = { λ j. record { before = option_map (λ p. record { level = p.level; cont = p.is_cont; reference = p.is_reference }) j.previous; ended = j.has_ended } };
+    ghost view = { λ j. record { before = seen_before j.before j.deepest; ended = j.has_ended } };
 
-    ghost invariant = { λ j. IfSome j.previous (λ p. p.level ≤ 99) };
+    ghost invariant = { λ j. Reaches j.before j.deepest × (j.deepest ≤ 100) };
 }
 
 impl Judge {
@@ -59,7 +71,8 @@ impl Judge {
         ensures { StandsFor result [] }
     {
         Judge {
-            previous: None,
+            before: Before::Nothing,
+            deepest: 0,
             has_ended: false,
         }
     }
@@ -92,6 +105,9 @@ impl Judge {
         if self.is_plain(line) {
             return Ok(LineRole::Substructure);
         }
+        if self.is_plain_record(line) {
+            return Ok(LineRole::Record);
+        }
         if self.is_plain_cont(line) {
             return Ok(LineRole::Continuation);
         }
@@ -107,11 +123,13 @@ impl Judge {
     pub(crate) fn keep(&mut self, line: &LineView<'_>, role: LineRole)
         ensures { (lines : List LineParts) → StandsFor self.old lines → HasRole role line.now → StandsFor self.new (lines ++ line.now ∷ []) }
     {
-        self.previous = Some(Previous {
-            level: line.level(),
-            is_cont: is_continuation(role),
-            is_reference: is_reference(line),
-        });
+        if is_continuation(role) {
+            self.before = Before::Continuation;
+            self.deepest = line.level();
+        } else {
+            self.before = what_begins(line);
+            self.deepest = line.level() + 1;
+        }
         self.has_ended = self.has_ended || is_trailer(line);
     }
 
@@ -130,16 +148,25 @@ impl Judge {
         ensures begins { OnTrue result ((tests_cont line.now ≡ false) × (tests_trailer line.now ≡ false)) }
         ensures below { OnTrue result (0 < line.now.level) }
     {
-        match self.previous {
-            None => false,
-            Some(previous) => {
-                line.level() > 0
-                    && line.level() <= previous.level + u8::from(!previous.is_cont)
-                    && !self.has_ended
-                    && line.xref().is_none()
-                    && !is_cont(line)
-            }
-        }
+        line.level() > 0
+            && line.level() <= self.deepest
+            && !self.has_ended
+            && line.xref().is_none()
+            && !is_cont(line)
+    }
+
+    // Whether the line begins a record, and so has no fault: behind HEAD and before TRLR.
+    #[inline(always)]
+    fn is_plain_record(&self, line: &LineView<'_>) -> bool
+        ensures faultless { (lines : List LineParts) → StandsFor self.now lines → OnTrue result (fault_after lines line.now ≡ None) }
+        ensures begins { OnTrue result (HasRole Record line.now) }
+    {
+        line.level() == 0
+            && !self.has_ended
+            && !matches!(self.before, Before::Nothing)
+            && !is_cont(line)
+            && !is_header(line)
+            && !is_trailer(line)
     }
 
     // Whether the line is a CONT without a fault: no pointer, and where the payload of the line before goes on.
@@ -179,10 +206,11 @@ impl Judge {
     fn fault_of_ends(&self, line: &LineView<'_>) -> Option<TreeFault>
         ensures { (lines : List LineParts) → StandsFor self.now lines → result ≡ find (stands lines line.now) end_faults }
     {
-        if self.previous.is_none() && !is_header(line) {
+        let is_first = matches!(self.before, Before::Nothing);
+        if is_first && !is_header(line) {
             return Some(TreeFault::NoHeader);
         }
-        if self.previous.is_some() && is_header(line) {
+        if !is_first && is_header(line) {
             return Some(TreeFault::SecondHeader);
         }
         if (is_trailer(line) && !is_empty(line)) || (self.has_ended && line.level() > 0) {
@@ -197,9 +225,9 @@ impl Judge {
     fn jumps(&self, line: &LineView<'_>) -> bool
         ensures { (before : Option LineParts) → self.now.before ≡ option_map seen before → result ≡ tests_jump before line.now }
     {
-        match self.previous {
-            None => line.level() > 0,
-            Some(previous) => line.level() > previous.level + 1,
+        match self.before {
+            Before::Continuation => line.level() > self.deepest + 1,
+            _ => line.level() > self.deepest,
         }
     }
 
@@ -212,19 +240,18 @@ impl Judge {
     fn continues(&self, line: &LineView<'_>) -> bool
         ensures { (before : Option LineParts) → self.now.before ≡ option_map seen before → result ≡ tests_continues before line.now }
     {
-        match self.previous {
-            None => false,
-            Some(previous) if previous.is_cont => line.level() == previous.level,
-            Some(previous) => line.level() == previous.level + 1 && !previous.is_reference,
+        match self.before {
+            Before::Structure | Before::Continuation => line.level() == self.deepest,
+            Before::Nothing | Before::Reference => false,
         }
     }
 
     fn is_below_cont(&self, line: &LineView<'_>) -> bool
         ensures { (before : Option LineParts) → self.now.before ≡ option_map seen before → result ≡ tests_below_cont before line.now }
     {
-        match self.previous {
-            None => false,
-            Some(previous) => previous.is_cont && line.level() > previous.level,
+        match self.before {
+            Before::Continuation => line.level() > self.deepest,
+            _ => false,
         }
     }
 }
@@ -237,6 +264,18 @@ fn is_continuation(role: LineRole) -> bool
     matches!(role, LineRole::Continuation)
 }
 
+// What a line is to the one behind it, if it is no CONT.
+#[inline(always)]
+fn what_begins(line: &LineView<'_>) -> Before
+    ensures { MatchBool (tests_reference line.now.value) (result ≡ Reference) (result ≡ Structure) }
+{
+    if is_reference(line) {
+        Before::Reference
+    } else {
+        Before::Structure
+    }
+}
+
 #[inline(always)]
 fn is_cont(line: &LineView<'_>) -> bool
     ensures { result ≡ tests_cont line.now }
@@ -247,13 +286,13 @@ fn is_cont(line: &LineView<'_>) -> bool
 pub(crate) fn is_header(line: &LineView<'_>) -> bool
     ensures { result ≡ tests_header line.now }
 {
-    line.level() == 0 && line.tag() == "HEAD"
+    line.level() == 0 && is_same_tag(line.tag(), "HEAD")
 }
 
 pub(crate) fn is_trailer(line: &LineView<'_>) -> bool
     ensures { result ≡ tests_trailer line.now }
 {
-    line.level() == 0 && line.tag() == "TRLR"
+    line.level() == 0 && is_same_tag(line.tag(), "TRLR")
 }
 
 fn has_forbidden_xref(line: &LineView<'_>) -> bool

@@ -125,16 +125,15 @@ impl<F: Forest> Writer<'_, '_, F> {
         requires { CanWriteRecords (is_named (F.trees self.now.forest.now)) self.now.plan.edition (F.trees self.now.forest.now) (sibling ∷ []) }
         ensures { WritesRecords (F.trees self.now.forest.now) self.now.plan result work.old.answer work.new.answer (sibling ∷ []) }
     {
-        let rows = ContextRows::of(Context::File);
         let place = sibling.place;
-        let tag = self.forest.tag(place);
-        let rule = rows.row(tag);
         let end = self.forest.after(place);
-        let own = Sibling { tag, place };
         let number = self.own_number(place, &mut work.records);
         if number == 0 {
-            return self.write_tree(rule, 0, None, own, end, work);
+            return self.write_sibling(Context::File, 0, place, end, work);
         }
+        let tag = self.forest.tag(place);
+        let rule = ContextRows::of(Context::File).row(tag);
+        let own = Sibling { tag, place };
         self.write_named(rule, number, own, end, name, work)
     }
 

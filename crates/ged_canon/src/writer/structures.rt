@@ -125,7 +125,7 @@ impl<F: Forest> Writer<'_, '_, F> {
     /// The same, where the tag and the row are looked up only if they matter.
     #[cycle(trees)]
     #[inline(always)]
-    fn write_sibling(
+    pub(crate) fn write_sibling(
         &self,
         context: Context,
         level: u8,

@@ -12,25 +12,30 @@ pub(crate) fn is_control(byte: u8) -> bool
     (byte < 0x20 && byte != b'\t') || byte == 0x7F
 }
 
+/// Whether a control character other than tab stands in a text. This and the next one look at all bytes, even behind one that they seek:
+/// so they are compiled to look at many bytes at a time.
 fn has_control(bytes: &[u8]) -> bool
     ensures { MatchBool result ((at : ℕ) × ControlAt bytes.now at) ((at : ℕ) → ¬ (ControlAt bytes.now at)) }
 {
-    bytes.iter().any(|byte| is_control(*byte))
+    let mut found = false;
+    for at in 0..bytes.len() {
+        found = found | is_control(bytes[at]);
+    }
+    found
 }
 
 /// Whether the bytes of U+FFFE or U+FFFF stand in a text.
 pub(crate) fn has_noncharacter(bytes: &[u8]) -> bool
     ensures { MatchBool result ((at : ℕ) × NoncharacterAt bytes.now at) ((at : ℕ) → ¬ (NoncharacterAt bytes.now at)) }
 {
+    let mut found = false;
     for third in 2..bytes.len() {
-        if bytes[third - 2] == 0xEF
-            && bytes[third - 1] == 0xBF
-            && matches!(bytes[third], 0xBE | 0xBF)
-        {
-            return true;
-        }
+        let is_first = bytes[third - 2] == 0xEF;
+        let is_second = bytes[third - 1] == 0xBF;
+        let is_third = matches!(bytes[third], 0xBE | 0xBF);
+        found = found | (is_first & is_second & is_third);
     }
-    false
+    found
 }
 
 /// Whether a character that may not stand in a line stands in a text.

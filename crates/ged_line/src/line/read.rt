@@ -175,7 +175,7 @@ fn view_any_tag(text: &str) -> Result<(&str, &str), LineFault>
         × (((text.now ≡ p.0.now) × (p.1.now ≡ [])) ⊎ (text.now ≡ p.0.now ++ space ∷ p.1.now)))
         (λ f. (f ≡ LineFault.BadTag) × (tests_tag (word text.now) ≡ false)) }
 {
-    let (tag, rest) = text.split_at(any_tag_characters(text));
+    let (tag, rest) = text.split_at(many_tag_characters(text));
     let value = match rest.as_bytes() {
         [] => rest,
         [b' ', ..] => &rest[1..],

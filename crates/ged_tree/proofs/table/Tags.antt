@@ -80,11 +80,6 @@ no_name : (xref : Option Bytes) → length (xref_part xref) ≡ 0 → xref ≡ N
 no_name None h = refl
 no_name (Some name) h = absurd (omega arith)
 
--- behind one digit and a space there is no room for an identifier
-no_part : (xref : Option Bytes) (digits : ℕ) → 2 ≡ digits + 1 + length (xref_part xref) → xref_part xref ≡ []
-no_part None digits h = refl
-no_part (Some name) digits h = absurd (omega (arith, h, length-append name (64 ∷ 32 ∷ [])))
-
 -- an identifier's bytes, with its signs and the space behind it
 pub record HasName (xref : Option Bytes) : Type 0 where
   pub name : Bytes
@@ -168,11 +163,11 @@ module _ (line : LineParts) (text : Bytes) (spelled : LineText line text) (start
   rest_whole other =
       rest_is ∙ ap (λ (bs : Bytes). line.tag ++ bs) (part_spelled line.value t.value_part t.value (λ (z : length t.value_part ≡ 1). other (omega (arith, z, whole_length))))
 
-  -- behind a level of one digit, and with no space alone behind the tag, the text is the canonical spelling
-  pub bare_line : start ≡ 2 → ¬ (length text ≡ start + size + 1) → text ≡ decimal line.level ++ (32 ∷ (line.tag ++ value_part line.value))
+  -- straight behind the level, and with no space alone behind the tag, the text is the canonical spelling
+  pub bare_line : start ≡ length (decimal line.level) + 1 → ¬ (length text ≡ start + size + 1) → text ≡ decimal line.level ++ (32 ∷ (line.tag ++ value_part line.value))
   bare_line first other =
       whole_line
-      ∙ ap (λ (bs : Bytes). (decimal line.level ++ (32 ∷ bs)) ++ (line.tag ++ t.value_part)) (no_part line.xref (length (decimal line.level)) (sym first ∙ at))
+      ∙ ap (λ (bs : Bytes). (decimal line.level ++ (32 ∷ bs)) ++ (line.tag ++ t.value_part)) (ap xref_part (no_name line.xref (omega (arith, at, first))))
       ∙ append_assoc (decimal line.level) (32 ∷ []) (line.tag ++ t.value_part)
       ∙ ap (λ (bs : Bytes). decimal line.level ++ (32 ∷ (line.tag ++ bs))) (part_spelled line.value t.value_part t.value (λ (z : length t.value_part ≡ 1). other (omega (arith, z, whole_length))))
 

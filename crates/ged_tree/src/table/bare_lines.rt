@@ -45,8 +45,8 @@ impl<'f, 't> BareLines<'f, 't> {
         }
     }
 
-    /// From where up to where the own line of the structure at a place stands in the text, with its line feed, if it has this level, which has
-    /// one digit, and no identifier; or `None` where that is not kept.
+    /// From where up to where the own line of the structure at a place stands in the text, with its line feed, if it has this level and no
+    /// identifier; or `None` where that is not kept.
     #[inline(always)]
     pub fn at(&self, place: usize, level: u8) -> Option<(usize, usize)>
         ensures order { IfSome result (λ run. (run.0 ≤ run.1) × (run.1 ≤ length (lines_text self.now))) }

@@ -6,7 +6,7 @@ ghost use Rattle.ged_tree.specs.Documents.{HasLines};
 ghost use Rattle.ged_tree.specs.Rows.{names_record};
 ghost use Rattle.ged_tree.specs.TreeFaults.{is_cont};
 ghost use Rattle.ged_tree.specs.inner.Judging.{HasRole};
-ghost use Rattle.ged_tree.specs.declared.judge.LineRole.TheVariants.{Substructure, Continuation, Other};
+ghost use Rattle.ged_tree.specs.declared.judge.LineRole.TheVariants.{Substructure, Continuation, Record, Other};
 ghost use Rattle.ged_tree.specs.inner.Tables.{line_text, HoldsLines, HasStructure, IsPut, IsSpelledAt};
 ghost use Rattle.ged_tree.specs.inner.Tables.{IsTaken, Shows, TellsEnd, TellsFurther, TellsLine};
 
@@ -16,7 +16,7 @@ use crate::judge::{Judge, LineRole, is_trailer};
 use crate::table::flat::Flat;
 use crate::table::growing::GrowingSizes;
 use crate::table::packed::{
-    APART, KeptStructure, TextApart, kept_slice, mark_with_further, start_if_kept,
+    APART, KeptStructure, TextApart, kept_slice, mark_with_further, push_kept, start_if_kept,
 };
 use crate::table::structure::start_of_tag;
 use ged_line::{LineView, SpelledLine, ValueView};
@@ -203,6 +203,7 @@ impl<'a> TableBuilder<'a> {
         match role {
             LineRole::Substructure => self.put_substructure(spelled, start),
             LineRole::Continuation => self.put_continuation(spelled, start),
+            LineRole::Record => self.put_record(spelled, start),
             LineRole::Other => self.put_other(spelled, start),
         }
     }
@@ -233,6 +234,20 @@ impl<'a> TableBuilder<'a> {
     {
         self.judge.keep(&spelled.line, LineRole::Continuation);
         self.push_continuation(spelled, start)
+    }
+
+    /// The same of a line that begins a record.
+    #[inline(always)]
+    fn put_record(
+        &mut self,
+        spelled: &SpelledLine<'a>,
+        start: Option<usize>,
+    ) -> Result<(), AllocError>
+        requires { IsSpelledAt self.now.file.now start spelled.now }
+        ensures { HasRole Record spelled.now.line → IfOk result (λ _. IsTaken spelled.now.line self.old self.new) }
+    {
+        self.judge.keep(&spelled.line, LineRole::Record);
+        self.push_structure(spelled, start)
     }
 
     /// The same of any other line.
@@ -298,8 +313,10 @@ impl<'a> TableBuilder<'a> {
             return self.push_apart(spelled.text, structure_of_line(spelled, start, APART));
         };
         let place = self.structures.len();
-        self.structures
-            .push(structure_of_line(spelled, start, length))?;
+        push_kept(
+            &mut self.structures,
+            structure_of_line(spelled, start, length),
+        )?;
         self.sizes.push(spelled.line.level(), place)?;
         Ok(())
     }

@@ -94,7 +94,7 @@ impl<'a> Flat<'a> {
         ensures spelled { IsSpelled (shown_of result) }
         ensures points { 0 < kept_tag_length result.kept → kept_points result.kept ≡ is_pointer (structure_at self.now place).payload }
     {
-        let kept = self.structures[place];
+        let kept = self.structures[place].by_fields();
         let text = text_of(self.file, self.apart.as_slice(), place, &kept);
         FlatStructure { text, kept }
     }

@@ -95,6 +95,7 @@ fn hand_over<R: LineReader>(
     match role {
         LineRole::Substructure => reader.substructure(line),
         LineRole::Continuation => reader.continuation(line),
+        LineRole::Record => reader.record(line),
         LineRole::Other => reader.line(line),
     }
 }

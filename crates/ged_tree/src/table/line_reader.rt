@@ -1,7 +1,7 @@
 // What reads lines along while a table is made of them.
 ghost use Rattle.std.specs.Prelude.{◌≡◌, ◌<◌, ◌++◌, ◌∷◌, [], List, OnOk, true, false};
 ghost use Rattle.ged_line.specs.Lines.{LineParts};
-ghost use Rattle.ged_tree.specs.TreeFaults.{is_cont};
+ghost use Rattle.ged_tree.specs.TreeFaults.{is_cont, is_header, is_trailer};
 
 use ged_line::LineView;
 use std::alloc::AllocError;
@@ -20,6 +20,17 @@ pub trait LineReader {
     fn substructure(&mut self, line: &LineView<'_>) -> Result<(), AllocError>
         requires below { 0 < line.now.level }
         requires no_cont { is_cont line.now ≡ false }
+        ensures { OnOk result ((lines : List LineParts) → has_read self.old lines → has_read self.new (lines ++ line.now ∷ [])) }
+    {
+        self.line(line)
+    }
+
+    /// The same of a line that begins a record. Each such line is handed over by this call.
+    fn record(&mut self, line: &LineView<'_>) -> Result<(), AllocError>
+        requires top { line.now.level ≡ 0 }
+        requires no_cont { is_cont line.now ≡ false }
+        requires no_header { is_header line.now ≡ false }
+        requires no_trailer { is_trailer line.now ≡ false }
         ensures { OnOk result ((lines : List LineParts) → has_read self.old lines → has_read self.new (lines ++ line.now ∷ [])) }
     {
         self.line(line)

@@ -1,10 +1,12 @@
 // The structures of a table as they are kept, in few bytes.
-ghost use Rattle.std.specs.Prelude.{◌≡◌, ◌<◌, ◌+◌, ◌%◌, ℕ, [], false, Some, IfSome, IsTrue, nat_lt};
+ghost use Rattle.std.specs.Prelude.{◌≡◌, ◌≤◌, ◌<◌, ◌+◌, ◌%◌, ◌++◌, ◌∷◌, ℕ, [], false, Some, IfSome, IsTrue, OnOk, decimal, length, nat_lt};
 ghost use Rattle.std.specs.List.Sorted.{IsNonDecreasingBy};
 ghost use Rattle.ged_tree.specs.BareLines.{KeepsBare};
 ghost use Rattle.ged_tree.specs.Rows.{HasSlice, kept_level, kept_further, kept_tag_length, kept_points, text_at};
 ghost use Rattle.ged_tree.specs.Rows.{text_apart as finds_apart};
 
+use crate::table::structure::digits_of_level;
+use std::alloc::AllocError;
 use std::mem::size_of;
 
 /// The length that says of a text that it is kept apart.
@@ -29,6 +31,15 @@ pub(crate) struct KeptStructure {
 
 const _: () = prove!(size_of::<KeptStructure>() == 8);
 
+/// What stands in the room of a structure before it is written.
+const NOTHING_KEPT: KeptStructure = KeptStructure {
+    start: 0,
+    length: 0,
+    mark: 0,
+    tag_start: 0,
+    tag_mark: 0,
+};
+
 /// The whole line of a structure that keeps no slice of the file.
 #[derive(Clone, Copy)]
 pub(crate) struct TextApart<'a> {
@@ -38,6 +49,20 @@ pub(crate) struct TextApart<'a> {
 }
 
 impl KeptStructure {
+    /// A copy, made field by field: a copy of the whole is one number, from which each field is then taken by shifts.
+    #[inline(always)]
+    pub(crate) fn by_fields(&self) -> KeptStructure
+        ensures { result ≡ self.now }
+    {
+        KeptStructure {
+            start: self.start,
+            length: self.length,
+            mark: self.mark,
+            tag_start: self.tag_start,
+            tag_mark: self.tag_mark,
+        }
+    }
+
     #[inline(always)]
     pub(crate) fn level(&self) -> u8
         ensures { result ≡ kept_level self.now }
@@ -53,18 +78,17 @@ impl KeptStructure {
         self.tag_mark % 128
     }
 
-    /// Whether its line is kept as a slice, has this level, which has one digit, and no identifier, and does not end in a space that stands
-    /// alone behind the tag.
+    /// Whether its line is kept as a slice, has this level and no identifier, and does not end in a space that stands alone behind the tag.
     #[inline(always)]
     pub(crate) fn is_bare(&self, level: u8) -> bool
         ensures level { IsTrue result → kept_level self.now ≡ level }
         ensures kept { IsTrue result → KeepsBare self.now }
     {
         let tag_length = self.tag_length();
-        if tag_length == 0 || self.tag_start != 2 {
+        if tag_length == 0 || !self.has_tag_behind(level) {
             return false;
         }
-        if self.length == APART || self.length == tag_length + 3 {
+        if self.length == APART || self.length == self.tag_start + tag_length + 1 {
             return false;
         }
         self.level() == level
@@ -79,13 +103,22 @@ impl KeptStructure {
         ensures alone { IsTrue result → kept_further self.now ≡ false }
     {
         // where nothing more is kept in a mark, it is the level, and the other one the length of the tag
-        if level > 127 || self.mark != level {
+        if self.mark != level || !self.has_tag_behind(level) {
             return false;
         }
-        if self.tag_mark == 0 || self.tag_mark > 127 || self.tag_start != 2 {
+        if self.tag_mark == 0 || self.tag_mark > 127 {
             return false;
         }
-        self.length != APART && self.length != self.tag_mark + 3
+        self.length != APART && self.length != self.tag_start + self.tag_mark + 1
+    }
+
+    /// Whether its tag stands where this level and a space end.
+    #[inline(always)]
+    fn has_tag_behind(&self, level: u8) -> bool
+        ensures front { IsTrue result → self.now.tag_start ≡ length (decimal level) + 1 }
+        ensures small { IsTrue result → (level ≤ 99) × (self.now.tag_start ≤ 3) }
+    {
+        level <= 99 && usize::from(self.tag_start) == digits_of_level(level) + 1
     }
 
     /// Whether its payload is a pointer that names a record, or `None` where that is not kept.
@@ -117,6 +150,26 @@ impl KeptStructure {
     {
         self.mark > 127
     }
+}
+
+/// Adds a structure. Its fields are written one by one to where it stands: a value that is pushed would first be put together from them as
+/// one number, by shifts. Grows.
+#[inline(always)]
+pub(crate) fn push_kept(
+    structures: &mut Vec<KeptStructure>,
+    structure: KeptStructure,
+) -> Result<(), AllocError>
+    ensures { OnOk result (structures.new.items ≡ structures.old.items ++ structure ∷ []) }
+{
+    let place = structures.len();
+    structures.push(NOTHING_KEPT)?;
+    let kept = &mut structures[place];
+    kept.start = structure.start;
+    kept.length = structure.length;
+    kept.mark = structure.mark;
+    kept.tag_start = structure.tag_start;
+    kept.tag_mark = structure.tag_mark;
+    Ok(())
 }
 
 /// The mark of the same level where the payload has lines past the first.

@@ -162,6 +162,7 @@ fn xref_at_front(rest: &str) -> Option<&str>
 }
 
 /// How many digits spell a level.
+#[inline(always)]
 pub(crate) fn digits_of_level(level: u8) -> usize
     requires { level ≤ 99 }
     ensures digits { result ≡ length (decimal level) }

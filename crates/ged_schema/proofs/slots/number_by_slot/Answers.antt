@@ -4,8 +4,8 @@ use Rattle.ged_schema.specs.Rows.{as_row}
 use Rattle.ged_schema.specs.inner.Lookups.{row_of}
 use Rattle.ged_schema.specs.Slots.{slot_from, kept_number}
 use Rattle.ged_schema.proofs.Numbers.{IsLookedUp, inside_rows, kept_row, other_row, no_row, only_number, never_only}
-use Rattle.ged_schema.proofs.slots.number_within.Goals as goal
-use Rattle.ged_schema.proofs.slots.number_within.Goals.{else-number-count-via-then-number-count+else-is_same_tag, else-number-count-via-else-number-count}
+use Rattle.ged_schema.proofs.slots.number_by_slot.Goals as goal
+use Rattle.ged_schema.proofs.slots.number_by_slot.Goals.{else-number-count-via-then-number-count+else-is_same_tag, else-number-count-via-else-number-count}
 
 pub returns-then-is_same_tag : goal.returns-then-is_same_tag
 returns-then-is_same_tag c =
