@@ -7,7 +7,7 @@ use crate::ways::say_each_way;
 use ged_document::{Document, build, document_of, line_of, to_lines};
 use ged_examples_answers::Answer;
 use ged_line::{read_lines, split_pieces, view_line, write_line};
-use ged_tree::{BuildFault, Flat, Forest, Judge, TreeFault, flatten};
+use ged_tree::{BuildFault, Flat, Forest, Judge, TreeFault, flatten, room_in_large_pages};
 use std::alloc::Global;
 use std::str;
 
@@ -38,8 +38,18 @@ fn answer_of_other(alloc: Global, call: &str, argument: &[u8], answer: &mut Answ
         return true;
     }
     match str::from_utf8(argument) {
-        Ok(text) => made::answer(alloc, call, text, answer),
-        Err(_) => false,
+        Ok(text) if call == "room_in_large_pages" => say_room(text, answer),
+        Ok(text) => return made::answer(alloc, call, text, answer),
+        Err(_) => return false,
+    }
+    true
+}
+
+/// How many bytes to take room for, where so many are wanted as a text says.
+fn say_room(text: &str, answer: &mut Answer) {
+    match text.parse::<usize>() {
+        Ok(bytes) => answer.say_number(room_in_large_pages(bytes) as u64),
+        Err(_) => answer.say("no number"),
     }
 }
 

@@ -67,7 +67,8 @@ const NEXT: usize = 8;
 /// How many records behind these are searched before all are.
 const NEAR: usize = 64;
 
-/// How many places, of the first few, stand before the first that is not lower than this one.
+/// How many places, of the first few, stand before the first that is not lower than this one. It says where to look first, and no clause
+/// rests on it.
 #[inline(always)]
 fn lower_places(places: &[u32], place: u32) -> usize {
     let Some(run) = places.get(..NEXT) else {
@@ -77,7 +78,8 @@ fn lower_places(places: &[u32], place: u32) -> usize {
     lower.to_bitmask().trailing_ones() as usize
 }
 
-/// Moves a cursor on to the first record near it that is not at a lower place than this one.
+/// Moves a cursor on to the first record near it that is not at a lower place than this one. That it goes so far is no clause: what stands
+/// there is asked for its place.
 #[inline(always)]
 fn move_on(places: &[u32], place: usize, cursor: &mut RecordCursor)
     ensures { cursor.old.next ≤ cursor.new.next }

@@ -9,6 +9,7 @@ ghost use Rattle.ged_link.specs.inner.PointerTags.{IsTold, tag_like, code_of, to
 
 use crate::pairs::Role;
 use crate::record_type::RecordType;
+use ged_line::is_same_tag;
 
 /// The tags of pointers, by what they tell: the type of the records that they lead to, and the role of a person under a record.
 #[derive(Clone, Copy)]
@@ -54,23 +55,23 @@ impl PointerTag {
     pub(crate) fn of(tag: &str) -> PointerTag
         ensures { IsTold result tag.now }
     {
-        if tag == "SOUR" {
+        if is_same_tag(tag, "SOUR") {
             PointerTag::Sour
-        } else if tag == "FAMC" {
+        } else if is_same_tag(tag, "FAMC") {
             PointerTag::Famc
-        } else if tag == "FAMS" {
+        } else if is_same_tag(tag, "FAMS") {
             PointerTag::Fams
-        } else if tag == "CHIL" {
+        } else if is_same_tag(tag, "CHIL") {
             PointerTag::Chil
-        } else if tag == "HUSB" || tag == "WIFE" {
+        } else if is_same_tag(tag, "HUSB") || is_same_tag(tag, "WIFE") {
             PointerTag::Spouse
-        } else if tag == "ASSO" || tag == "ALIA" {
+        } else if is_same_tag(tag, "ASSO") || is_same_tag(tag, "ALIA") {
             PointerTag::Person
-        } else if tag == "SUBM" || tag == "ANCI" || tag == "DESI" {
+        } else if is_same_tag(tag, "SUBM") || is_same_tag(tag, "ANCI") || is_same_tag(tag, "DESI") {
             PointerTag::Subm
-        } else if tag == "SNOTE" {
+        } else if is_same_tag(tag, "SNOTE") {
             PointerTag::Snote
-        } else if tag == "OBJE" {
+        } else if is_same_tag(tag, "OBJE") {
             PointerTag::Obje
         } else {
             PointerTag::Other

@@ -131,9 +131,9 @@ fn number_by_slot(rules: &[Rule], count: usize, seed: usize, tag: &str) -> Optio
     }
 }
 
-/// The same of a tag that has not four bytes, as few have not. A function of its own, so that the path of the others stays short.
+/// The same of any tag. A function of its own, so that the path of most tags stays short.
 #[inline(never)]
-fn number_of_other(rules: &[Rule], count: usize, seed: usize, tag: &str) -> Option<usize>
+fn number_of_any(rules: &[Rule], count: usize, seed: usize, tag: &str) -> Option<usize>
     requires count { count ≡ length rules.now }
     requires small { seed < 512 }
     requires few { length rules.now ≤ 64 }
@@ -143,7 +143,8 @@ fn number_of_other(rules: &[Rule], count: usize, seed: usize, tag: &str) -> Opti
     number_by_slot(rules, count, seed, tag)
 }
 
-/// The same of any tag. How many bytes it has is asked once.
+/// The same, at once where the tag has four bytes and a row, as most have. Any other is looked up once more, by a call: of two branches
+/// that answer without one the compiler would make one answer, and ask that once more whether there is a row.
 #[inline(always)]
 fn number_within(rules: &[Rule], count: usize, seed: usize, tag: &str) -> Option<usize>
     requires count { count ≡ length rules.now }
@@ -152,11 +153,12 @@ fn number_within(rules: &[Rule], count: usize, seed: usize, tag: &str) -> Option
     requires kept { are_numbered (kept_number seed) 0 (map as_row rules.now) ≡ true }
     ensures { TellsNumber (map as_row rules.now) tag.now result }
 {
-    if tag.len() == 4 {
-        number_by_slot(rules, count, seed, tag)
-    } else {
-        number_of_other(rules, count, seed, tag)
+    if tag.len() == 4
+        && let Some(number) = number_by_slot(rules, count, seed, tag)
+    {
+        return Some(number);
     }
+    number_of_any(rules, count, seed, tag)
 }
 
 /// The same among all the rows. A walk over structures that stand side by side asks for rows and seed once.

@@ -3,7 +3,7 @@ use Rattle.std.specs.Prelude.{◌≡◌, ◌<◌, ◌-◌, ℕ, Bool, true, fals
 use Rattle.ged_line.specs.Lines.{LineParts}
 use Rattle.ged_tree.specs.TreeFaults.{is_cont, is_reference, line_before, has_trailer}
 use Rattle.ged_tree.specs.declared.judge.Before.{Before}
-use Rattle.ged_tree.specs.declared.judge.Before.TheVariants.{Nothing, Structure, Reference, Continuation}
+use Rattle.ged_tree.specs.declared.judge.Before.TheVariants.{Empty, Void, Pointer, Text, Continuation, Nothing}
 
 -- what a line tells about the faults of the next: its level, whether it is a CONT, and whether it has a pointer or void
 pub record Seen : Type 0 where
@@ -26,16 +26,21 @@ facts_of lines = record { before = option_map seen (line_before lines); ended = 
 abbrev pub StandsFor : Facts → List LineParts → Type 0
 StandsFor facts lines = facts ≡ facts_of lines
 
+-- a line that is no CONT, behind which a structure may have this level at most
+abbrev pub before_deepest : ℕ → Bool → Option Seen
+before_deepest deepest reference = Some (record { level = deepest - 1; cont = false; reference = reference })
+
 -- what is told of the last line by what it is to the next one, and by the greatest level that this may have if it is no CONT
 abbrev pub seen_before : Before → ℕ → Option Seen
-seen_before Nothing deepest = None
-seen_before Structure deepest = Some (record { level = deepest - 1; cont = false; reference = false })
-seen_before Reference deepest = Some (record { level = deepest - 1; cont = false; reference = true })
+seen_before Empty deepest = before_deepest deepest false
+seen_before Void deepest = before_deepest deepest true
+seen_before Pointer deepest = before_deepest deepest true
+seen_before Text deepest = before_deepest deepest false
 seen_before Continuation deepest = Some (record { level = deepest; cont = true; reference = false })
+seen_before Nothing deepest = None
 
--- the first line may have level 0 alone, and the one behind a line that is no CONT a greater level than this
+-- the first line may have level 0 at most, and one behind a line that is no CONT a level above 0
 abbrev pub Reaches : Before → ℕ → Type 0
 Reaches Nothing deepest = deepest ≡ 0
-Reaches Structure deepest = 0 < deepest
-Reaches Reference deepest = 0 < deepest
 Reaches Continuation deepest = Unit {0}
+Reaches other deepest = 0 < deepest

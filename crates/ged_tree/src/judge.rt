@@ -1,5 +1,5 @@
 // The faults of a document's lines, found line by line.
-ghost use Rattle.std.specs.Prelude.{◌≡◌, ◌<◌, ◌++◌, ◌∷◌, [], List, Some, None, true, false, IfOk, IfErr, MatchBool, option_map, Option};
+ghost use Rattle.std.specs.Prelude.{◌≡◌, ◌<◌, ◌+◌, ◌++◌, ◌∷◌, [], List, ℕ, Some, None, true, false, IfOk, IfErr, option_map, Option};
 ghost use Rattle.std.specs.Bool.{OnTrue};
 ghost use Rattle.std.specs.List.{find};
 ghost use Rattle.ged_line.specs.Lines.{LineParts};
@@ -8,10 +8,9 @@ ghost use Rattle.ged_tree.specs.TreeFaults.{jumps as tests_jump, continues as te
 ghost use Rattle.ged_tree.specs.TreeFaults.{is_misplaced_cont as tests_misplaced_cont, is_below_cont as tests_below_cont};
 ghost use Rattle.ged_tree.specs.TreeFaults.{is_cont as tests_cont, is_header as tests_header, is_trailer as tests_trailer};
 ghost use Rattle.ged_tree.specs.TreeFaults.{is_reference as tests_reference, is_empty as tests_empty, has_forbidden_xref as tests_forbidden_xref};
-ghost use Rattle.ged_tree.specs.Judging.{StandsFor, seen};
+ghost use Rattle.ged_tree.specs.Judging.{Reaches, StandsFor, seen, seen_before};
 ghost use Rattle.ged_tree.specs.inner.Judging.{HasRole, end_faults};
 ghost use Rattle.ged_tree.specs.declared.judge.LineRole.TheVariants.{Record};
-ghost use Rattle.ged_tree.specs.declared.judge.Before.TheVariants.{Structure, Reference};
 
 use crate::fault::TreeFault;
 use ged_line::{LineView, ValueView, is_same_tag};
@@ -30,17 +29,22 @@ pub(crate) enum LineRole {
     Other,
 }
 
-/// What a line is to the one behind it.
+/// What a line is to the one behind it. Those that are no CONT are told by their values, and numbered as the compiler numbers these, so that
+/// telling one takes no time.
 #[derive(Clone, Copy)]
 pub(crate) enum Before {
-    /// There is none: the line behind is the first.
-    Nothing,
-    /// It is no CONT, and its value is neither a pointer nor void.
-    Structure,
-    /// It is no CONT, and has a pointer or void.
-    Reference,
+    /// It is no CONT, and has no value.
+    Empty,
+    /// It is no CONT, and has the void pointer.
+    Void,
+    /// It is no CONT, and has a pointer.
+    Pointer,
+    /// It is no CONT, and has a text.
+    Text,
     /// It is a CONT.
     Continuation,
+    /// There is none: the line behind is the first.
+    Nothing,
 }
 
 /// Finds the faults of a document's lines one line at a time, from a few facts of the lines taken so far. Contracts say
@@ -241,8 +245,8 @@ impl Judge {
         ensures { (before : Option LineParts) → self.now.before ≡ option_map seen before → result ≡ tests_continues before line.now }
     {
         match self.before {
-            Before::Structure | Before::Continuation => line.level() == self.deepest,
-            Before::Nothing | Before::Reference => false,
+            Before::Empty | Before::Text | Before::Continuation => line.level() == self.deepest,
+            Before::Nothing | Before::Void | Before::Pointer => false,
         }
     }
 
@@ -267,12 +271,14 @@ fn is_continuation(role: LineRole) -> bool
 // What a line is to the one behind it, if it is no CONT.
 #[inline(always)]
 fn what_begins(line: &LineView<'_>) -> Before
-    ensures { MatchBool (tests_reference line.now.value) (result ≡ Reference) (result ≡ Structure) }
+    ensures seen { (level : ℕ) → seen_before result (level + 1) ≡ Some (record { level = level; cont = false; reference = tests_reference line.now.value }) }
+    ensures reaches { (level : ℕ) → Reaches result (level + 1) }
 {
-    if is_reference(line) {
-        Before::Reference
-    } else {
-        Before::Structure
+    match line.value() {
+        ValueView::Empty => Before::Empty,
+        ValueView::Void => Before::Void,
+        ValueView::Pointer(_) => Before::Pointer,
+        ValueView::Text(_) => Before::Text,
     }
 }
 

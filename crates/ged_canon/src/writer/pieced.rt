@@ -5,7 +5,9 @@ ghost use Rattle.ged_canon.specs.inner.Runs.{ArePlaced};
 
 use crate::spelled::KeptRun;
 use crate::spelled::reader::front_of;
+use ged_tree::room_in_large_pages;
 use std::alloc::{AllocError, Global};
+use std::mem::size_of;
 
 /// How many bytes are taken for each structure of a document before it is written, a little more than most need.
 const BYTES_PER_STRUCTURE: usize = 28;
@@ -36,9 +38,10 @@ impl Pieced {
         ensures placed { IfOk result (λ pieced. pieced.placed ≡ 0) }
     {
         let room = structures.saturating_mul(BYTES_PER_STRUCTURE);
-        let mut made = Vec::with_capacity(alloc, room)?;
+        let mut made = Vec::with_capacity(alloc, room_in_large_pages(room))?;
         made.extend_from_slice(&[0xEF, 0xBB, 0xBF])?;
-        let runs = Vec::with_capacity(alloc, bytes / SHORTEST_RUN)?;
+        let most = bytes / SHORTEST_RUN * size_of::<KeptRun>();
+        let runs = Vec::with_capacity(alloc, room_in_large_pages(most) / size_of::<KeptRun>())?;
         Ok(Pieced {
             runs,
             made,

@@ -30,12 +30,12 @@ FitsValue kind Void = takes_links kind ≡ true
 FitsValue kind (Pointer name) = takes_links kind ≡ true
 FitsValue kind (Text text) = FitsLine kind text
 
--- the class of a value: a text, the empty value, or a link
+-- the class of a value: the empty value, the void pointer, a pointer, or a text
 abbrev pub value_class : Value → ℕ
-value_class (Text text) = 0
-value_class Empty = 1
-value_class Void = 2
+value_class Empty = 0
+value_class Void = 1
 value_class (Pointer name) = 2
+value_class (Text text) = 3
 
 -- rows are marked once more: the row of the tag, which may have one structure more, and no other
 abbrev pub MarksTag : List Row → Bytes → ℕ → ℕ → Type 0

@@ -11,6 +11,7 @@ ghost use Rattle.ged_tool.specs.inner.Steps.{StopsReading};
 use crate::calls::file_text::FileText;
 use ged_devices::{Failed, Source};
 use ged_faults::Fault;
+use ged_tree::room_in_large_pages;
 use std::alloc::{AllocError, Global};
 
 /// The most bytes that one call of read is asked for.
@@ -164,7 +165,7 @@ fn make_room(alloc: Global, expected: u64, limit: u64) -> Result<(Vec<u8>, Vec<u
     ensures { IfOk result (λ room. (room.0.items ≡ []) × (vec_len room.1 ≡ greatest_read)) }
 {
     let first = if expected <= limit { expected } else { 0 };
-    let bytes = Vec::with_capacity(alloc, first as usize)?;
+    let bytes = Vec::with_capacity(alloc, room_in_large_pages(first as usize))?;
     let chunk = vec![in alloc; 0; CHUNK]?;
     Ok((bytes, chunk))
 }

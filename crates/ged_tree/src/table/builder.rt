@@ -13,14 +13,17 @@ ghost use Rattle.ged_tree.specs.inner.Tables.{IsTaken, Shows, TellsEnd, TellsFur
 use crate::fault::{BuildFault, TreeAt, TreeFault};
 use crate::forest::continuations::FurtherTable;
 use crate::judge::{Judge, LineRole, is_trailer};
+use crate::room::room_in_large_pages;
 use crate::table::flat::Flat;
 use crate::table::growing::GrowingSizes;
 use crate::table::packed::{
-    APART, KeptStructure, TextApart, kept_slice, mark_with_further, push_kept, start_if_kept,
+    APART, KeptStructure, LONGEST_TAG, TextApart, kept_slice, mark_with_further, push_kept,
+    start_if_kept,
 };
 use crate::table::structure::start_of_tag;
 use ged_line::{LineView, SpelledLine, ValueView};
 use std::alloc::{AllocError, Global};
+use std::mem::size_of;
 
 fn text_of_line<'a>(line: &LineView<'a>) -> &'a str
     ensures { result.now ≡ line_text line.now.value }
@@ -68,13 +71,12 @@ fn kept_tag(start: usize, length: usize, points: bool) -> KeptTag
         → (result.start ≡ start) × (result.mark % 128 ≡ length) × (nat_lt 127 result.mark ≡ points) × (start < 256) }
     ensures small_ones { start < 256 → length < 128 → (result.start ≡ start) × (result.mark % 128 ≡ length) × (nat_lt 127 result.mark ≡ points) }
 {
-    if start > 255 || length > 127 {
+    if start > 255 || length > LONGEST_TAG {
         return KeptTag { start: 0, mark: 0 };
     }
-    let mark = length as u8;
     KeptTag {
         start: start as u8,
-        mark: if points { mark + 128 } else { mark },
+        mark: length as u8 + 128 * u8::from(points),
     }
 }
 
@@ -152,7 +154,10 @@ impl<'a> TableBuilder<'a> {
     {
         let mut table = TableBuilder::new(alloc, file);
         let count = file.len() / USUAL_LINE;
-        table.structures.reserve(count)?;
+        let bytes = room_in_large_pages(count * size_of::<KeptStructure>());
+        table
+            .structures
+            .reserve(bytes / size_of::<KeptStructure>())?;
         table.sizes.reserve(count)?;
         Ok(table)
     }
@@ -308,7 +313,8 @@ impl<'a> TableBuilder<'a> {
         requires { IsSpelledAt self.now.file.now start spelled.now }
         ensures { IfOk result (λ _. HasStructure spelled.now.line self.old self.new) }
     {
-        let Some((start, length)) = kept_slice(start, spelled.text.len()) else {
+        let tag_length = spelled.line.tag().len();
+        let Some((start, length)) = kept_slice(start, spelled.text.len(), tag_length) else {
             let start = start_if_kept(start);
             return self.push_apart(spelled.text, structure_of_line(spelled, start, APART));
         };

@@ -5,6 +5,7 @@ ghost use Rattle.ged_tree.specs.Rows.{AreSizes};
 ghost use Rattle.ged_tree.specs.inner.Growing.{AreClosed, IsClosed, byte_at};
 ghost use Rattle.ged_tree.specs.inner.Tables.{end_from, size_at};
 
+use crate::room::{give_back, room_in_large_pages};
 use crate::table::packed::KeptStructure;
 use std::alloc::{AllocError, Global};
 
@@ -95,7 +96,8 @@ impl Sizes {
         ensures bytes { self.new.bytes.items ≡ self.old.bytes.items }
         ensures large { self.new.large.items ≡ self.old.large.items }
     {
-        self.bytes.reserve(count.saturating_add(BLOCK))
+        self.bytes
+            .reserve(room_in_large_pages(count.saturating_add(BLOCK)))
     }
 
     /// Has bytes for so many structures at least. Those that are added tell that no structure stands below. Grows.
@@ -125,13 +127,14 @@ impl Sizes {
         Ok(())
     }
 
-    /// Has bytes for so many structures, and no more. Grows.
+    /// Has bytes for so many structures, and no more: what room is left is given back. Grows.
     pub(crate) fn fit(&mut self, count: usize) -> Result<(), AllocError>
         ensures count { IfOk result (λ _. length self.new.bytes.items ≡ count) }
         ensures bytes { IfOk result (λ _. (place : ℕ) → place < count → byte_at self.new place ≡ byte_at self.old place) }
         ensures large { self.new.large.items ≡ self.old.large.items }
     {
         self.bytes.resize(count, 0)?;
+        give_back(&mut self.bytes);
         Ok(())
     }
 

@@ -15,6 +15,7 @@ use crate::forest::Forest;
 use crate::forest::continuations::{FurtherLines, FurtherTable};
 use crate::forest::own_line::OwnLine;
 use crate::forest::payload::PayloadView;
+use crate::room::give_back;
 use crate::table::bare_lines::BareLines;
 use crate::table::closing::Sizes;
 use crate::table::packed::{KeptStructure, TextApart, text_of};
@@ -48,10 +49,10 @@ impl<'a> Model for Flat<'a> {
 }
 
 impl<'a> Flat<'a> {
-    /// The document of a table that lists one.
+    /// The document of a table that lists one. The room that its structures did not take is given back.
     pub(crate) fn of_table(
         file: &'a str,
-        structures: Vec<KeptStructure>,
+        mut structures: Vec<KeptStructure>,
         sizes: Sizes,
         apart: Vec<TextApart<'a>>,
         further: FurtherTable<'a>,
@@ -59,6 +60,7 @@ impl<'a> Flat<'a> {
         requires { IsFlat file.now apart.items structures.items sizes further }
         ensures { result ≡ flat_trees (shown_from file.now apart.entry.items 0 structures.items) (further_of file.now further.entry) }
     {
+        give_back(&mut structures);
         Flat {
             file,
             structures,

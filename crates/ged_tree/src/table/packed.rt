@@ -12,6 +12,9 @@ use std::mem::size_of;
 /// The length that says of a text that it is kept apart.
 pub(crate) const APART: u8 = 255;
 
+/// How many bytes a tag has at most whose length is kept.
+pub(crate) const LONGEST_TAG: usize = 127;
+
 /// A structure as a table keeps it, in 8 bytes.
 #[derive(Clone, Copy)]
 pub(crate) struct KeptStructure {
@@ -181,12 +184,20 @@ pub(crate) fn mark_with_further(mark: u8) -> u8
 }
 
 /// Where a line begins and its length as a structure keeps them, or `None` where its text is to be kept apart: no place
-/// in the file is told, or one of the numbers is too large.
+/// in the file is told, or one of the numbers is too large, that of its tag's bytes among them.
 #[inline(always)]
-pub(crate) fn kept_slice(start: Option<usize>, length: usize) -> Option<(u32, u8)>
+pub(crate) fn kept_slice(
+    start: Option<usize>,
+    length: usize,
+    tag_length: usize,
+) -> Option<(u32, u8)>
     ensures true_ones { IfSome result (λ kept. (start ≡ Some kept.0) × (length ≡ kept.1) × (kept.1 < 255)) }
-    ensures small_ones { (at : ℕ) → start ≡ Some at → at < 4294967296 → length < 255 → result ≡ Some (at, length) }
+    ensures small_ones { (at : ℕ) → start ≡ Some at → at < 4294967296 → length < 255 → tag_length < 128 → result ≡ Some (at, length) }
 {
+    // A structure keeps no length of such a tag. That it is told here leaves nothing of it to tell where the others are kept.
+    if tag_length > LONGEST_TAG {
+        return None;
+    }
     let Ok(start) = u32::try_from(start?) else {
         return None;
     };
