@@ -7,8 +7,10 @@ use crate::ways::say_each_way;
 use ged_document::{Document, build, document_of, line_of, to_lines};
 use ged_examples_answers::Answer;
 use ged_line::{read_lines, split_pieces, view_line, write_line};
-use ged_tree::{BuildFault, Flat, Forest, Judge, TreeFault, flatten, room_in_large_pages};
-use std::alloc::Global;
+use ged_tree::{
+    BuildFault, Flat, Forest, Judge, TreeFault, flatten, give_back, room_in_large_pages,
+};
+use std::alloc::{AllocError, Global};
 use std::str;
 
 /// Answers a call on an argument; false where this module has no call of this name.
@@ -39,6 +41,7 @@ fn answer_of_other(alloc: Global, call: &str, argument: &[u8], answer: &mut Answ
     }
     match str::from_utf8(argument) {
         Ok(text) if call == "room_in_large_pages" => say_room(text, answer),
+        Ok(text) if call == "give_back" => say_given_back(alloc, text, answer),
         Ok(text) => return made::answer(alloc, call, text, answer),
         Err(_) => return false,
     }
@@ -51,6 +54,23 @@ fn say_room(text: &str, answer: &mut Answer) {
         Ok(bytes) => answer.say_number(room_in_large_pages(bytes) as u64),
         Err(_) => answer.say("no number"),
     }
+}
+
+/// How much room a vector of so many elements has that had room for twice as many, once it gave back what it did not fill.
+fn say_given_back(alloc: Global, text: &str, answer: &mut Answer) {
+    let count = text.parse::<usize>().unwrap_or(0);
+    if let Some(mut filled) = answer.given(filled_half(alloc, count)) {
+        give_back(&mut filled);
+        answer.say("room for ");
+        answer.say_number(filled.capacity() as u64);
+    }
+}
+
+/// So many zeros, in room for twice as many.
+fn filled_half(alloc: Global, count: usize) -> Result<Vec<u8>, AllocError> {
+    let mut filled = Vec::with_capacity(alloc, count.saturating_mul(2))?;
+    filled.resize(count, 0)?;
+    Ok(filled)
 }
 
 /// The number of a fault, from 1 on in the order in which they are told.

@@ -35,7 +35,7 @@ use crate::pointers::{Records, follow_pointers};
 use crate::record_reader::RecordReader;
 use crate::record_type::RecordType;
 use crate::targets::Target;
-use ged_tree::{Forest, LineReader, end_of_all, next_in_run};
+use ged_tree::{Forest, LineReader, end_of_all, give_back, next_in_run};
 use std::alloc::{AllocError, Global};
 
 /// The index of a document whose identifiers are distinct and each of whose pointers names one of them; else its fault,
@@ -64,7 +64,9 @@ pub fn resolve_with<F: Forest>(
     ensures fault { IfErr result (λ fault. (fault ≡ Memory alloc_error) ⊎ HasLinkFault (F.trees forest.now) fault) }
 {
     let end = end_of_all(forest);
-    resolve_listed(alloc, forest, end, records.list, records.pointers)
+    let RecordReader { list, mut pointers } = records;
+    give_back(&mut pointers);
+    resolve_listed(alloc, forest, end, list, pointers)
 }
 
 /// The same, where the records are listed, and the first of the pointers, or all.

@@ -32,6 +32,9 @@ impl PointerCursor {
     }
 }
 
+/// The greatest number that is kept of a target.
+const GREATEST: usize = u32::MAX as usize;
+
 /// What tells that the pointer at a place names the record with a number, or `None` where 32 bits do not hold both.
 #[inline(always)]
 pub(crate) fn short_target(place: usize, number: usize) -> Option<Target>
@@ -39,13 +42,14 @@ pub(crate) fn short_target(place: usize, number: usize) -> Option<Target>
     ensures kept { place < 4294967296 → number < 4294967296 → IsSome result }
     ensures left_out { (4294967296 ≤ place) ⊎ (4294967296 ≤ number) → result ≡ None }
 {
-    let Ok(place) = u32::try_from(place) else {
+    // Comparing the numbers is cheaper than two conversions that may fail.
+    if place > GREATEST || number > GREATEST {
         return None;
-    };
-    let Ok(number) = u32::try_from(number) else {
-        return None;
-    };
-    Some(Target { place, number })
+    }
+    Some(Target {
+        place: place as u32,
+        number: number as u32,
+    })
 }
 
 /// The number that the target at an index tells, if it is that of the pointer at a place.

@@ -30,7 +30,7 @@ pub use laws::places::{
 };
 pub use laws::whole_files::document_or_fault_of_file;
 pub use payload::{Payload, TextLines};
-pub use room::room_in_large_pages;
+pub use room::{give_back, room_in_large_pages};
 pub use table::bare_lines::BareLines;
 pub use table::flat::Flat;
 pub use table::flatten::{flatten, flatten_text_with, flatten_with};

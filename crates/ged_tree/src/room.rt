@@ -27,8 +27,9 @@ pub fn room_in_large_pages(bytes: usize) -> usize
 /// A vector of so many elements gives back the room that it did not fill; the room of a shorter one is not worth a request.
 const MANY: usize = 262_144;
 
-/// Gives back the room that a vector of many elements did not fill, as far as the system takes it.
-pub(crate) fn give_back<T>(filled: &mut Vec<T>)
+/// Gives back the room that a vector of 262,144 elements or more did not fill, as far as the system takes it; a shorter one stays as it is.
+/// Takes no memory.
+pub fn give_back<T>(filled: &mut Vec<T>)
     ensures { filled.new.items ≡ filled.old.items }
 {
     if filled.len() >= MANY {

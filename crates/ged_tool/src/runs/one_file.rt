@@ -53,9 +53,9 @@ pub fn run<R: Source, W: Sink>(
 /// `limit` is the most bytes that the file may have, [`crate::GREATEST_LIMIT`] at most. The reader must not have been read before,
 /// and neither device have failed. No more than `limit + 1` calls of read are made, and nothing is written unless the
 /// whole answer was made. Memory is taken for the file, or for as many bytes as [`Source::expected`] says where these are more and within
-/// the limit, and 131,072 bytes to read it by, for its document and index where the command asks for them, and for the answer: that of
-/// `Check` whole; of `Lines`, `Canon` and `Tidy` only what it has that the file has not; of `Show` nothing. For the last three a buffer of
-/// 65,536 bytes is taken too.
+/// the limit, as [`ged_tree::room_in_large_pages`] rounds them up until the file has come, and 131,072 bytes to read it by, for its
+/// document and index where the command asks for them, and for the answer: that of `Check` whole; of `Lines`, `Canon` and `Tidy` only what
+/// it has that the file has not; of `Show` nothing. For the last three a buffer of 65,536 bytes is taken too.
 ///
 /// The outcome is Done where the whole answer was written, and never Different. Else it is Failed, names neither of
 /// two files, and has

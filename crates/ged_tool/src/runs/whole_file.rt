@@ -11,7 +11,7 @@ ghost use Rattle.ged_tool.specs.inner.Steps.{StopsReading};
 use crate::calls::file_text::FileText;
 use ged_devices::{Failed, Source};
 use ged_faults::Fault;
-use ged_tree::room_in_large_pages;
+use ged_tree::{give_back, room_in_large_pages};
 use std::alloc::{AllocError, Global};
 
 /// The most bytes that one call of read is asked for.
@@ -146,6 +146,7 @@ pub(crate) fn read_whole<R: Source>(
             Err(Failed) => return Err(Fault::ReadFailed),
         };
         if count == 0 {
+            give_back(&mut file.bytes);
             return Ok(file);
         }
         if (file.bytes.len() + count) as u64 > limit {

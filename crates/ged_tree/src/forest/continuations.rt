@@ -6,6 +6,7 @@ ghost use Rattle.ged_tree.specs.Rows.{further_before, further_of, places_of, tex
 ghost use Rattle.ged_tree.specs.declared.forest.continuations.FurtherSlice.{FurtherSlice as AnySlice};
 ghost use Rattle.ged_tree.specs.inner.Tables.{IsFurtherPut, IsSliceAt};
 
+use crate::room::give_back;
 use std::alloc::{AllocError, Global};
 use std::marker::Model;
 use std::mem::size_of;
@@ -154,6 +155,14 @@ impl<'a> FurtherTable<'a> {
         }
         self.apart.push(FurtherApart { after, text })?;
         Ok(())
+    }
+
+    /// Gives back the room that the slices did not take.
+    pub(crate) fn fit(&mut self)
+        ensures slices { self.new.slices.items ≡ self.old.slices.items }
+        ensures apart { self.new.apart.items ≡ self.old.apart.items }
+    {
+        give_back(&mut self.slices);
     }
 
     /// How many slices stand before the structure at a place, as what is kept of its block tells. No clause says that this is exact, so

@@ -49,18 +49,19 @@ impl<'a> Model for Flat<'a> {
 }
 
 impl<'a> Flat<'a> {
-    /// The document of a table that lists one. The room that its structures did not take is given back.
+    /// The document of a table that lists one. The room that its structures and its further lines did not take is given back.
     pub(crate) fn of_table(
         file: &'a str,
         mut structures: Vec<KeptStructure>,
         sizes: Sizes,
         apart: Vec<TextApart<'a>>,
-        further: FurtherTable<'a>,
+        mut further: FurtherTable<'a>,
     ) -> Flat<'a>
         requires { IsFlat file.now apart.items structures.items sizes further }
         ensures { result ≡ flat_trees (shown_from file.now apart.entry.items 0 structures.items) (further_of file.now further.entry) }
     {
         give_back(&mut structures);
+        further.fit();
         Flat {
             file,
             structures,

@@ -10,4 +10,4 @@ resolve_listed-requires-clause-list g c = records_listed (g.F.Forest.trees c.arg
 
 pub resolve_listed-requires-clause-pointers : goal.resolve_listed-requires-clause-pointers
 resolve_listed-requires-clause-pointers g c =
-    subst (λ (all : List (Bytes × Bytes)). AreListedFirst c.args.records.pointers.items all) (document_has (g.F.Forest.trees c.args.forest.now)) c.requires.1.0
+    rw c.give_back.ensures (subst (λ (all : List (Bytes × Bytes)). AreListedFirst c.args.records.pointers.items all) (document_has (g.F.Forest.trees c.args.forest.now)) c.requires.1.0)
