@@ -3,6 +3,7 @@
 check_same() {
     check_equals
     check_forms
+    check_fronts
     check_names_of_records
     check_both_read
     check_both_judged
@@ -66,6 +67,32 @@ check_forms() {
         ./gedtool same "$room/marked-open.ged" "$one"
     expect "a faulty file with a mark, and another faulty one" 1 "" "first file: fault 16 at line 2: NoTrailer" \
         ./gedtool same "$room/marked-open.ged" examples/faulty.ged
+}
+
+# One of two files is the front of the other, or they part behind more than is read at once.
+check_fronts() {
+    local records=20000 long=$room/long.ged
+    # put_long NAME LINES: a file of so many persons, of whom the last has these lines.
+    put_long() {
+        { printf "$header"; yes '0 INDI' | head -n "$records"; printf "$2$end"; } >"$room/$1"
+    }
+    put_long long.ged '1 NAME Ann\n1 SEX F\n'
+    put_long moved.ged '1 SEX F\n1 NAME Ann\n'
+    put_long other.ged '1 NAME Ann\n1 SEX M\n'
+    put_long twice.ged '1 NAME Ann\n1 SEX F\n1 SEX F\n'
+    head -c -1 "$long" >"$room/unended.ged"
+    head -n -1 "$long" >"$room/open.ged"
+    expect "a long file and itself" 0 "same\n" "" ./gedtool same "$long" "$long"
+    expect "a long file and its front" 0 "same\n" "" ./gedtool same "$long" "$room/unended.ged"
+    expect "the front of a long file and the file" 0 "same\n" "" ./gedtool same "$room/unended.ged" "$long"
+    expect "two files that part in the order of two lines" 0 "same\n" "" ./gedtool same "$long" "$room/moved.ged"
+    expect "two files that part in a value" 1 "different\n" "" ./gedtool same "$long" "$room/other.ged"
+    expect "a second file that goes on with a fault" 1 "" "second file: fault 22 at line $((records + 6)): TooMany" \
+        ./gedtool same "$long" "$room/twice.ged"
+    expect "a front without the trailer" 1 "" "second file: fault 16 at line $((records + 6)): NoTrailer" \
+        ./gedtool same "$long" "$room/open.ged"
+    expect "a file and its front without the trailer" 1 "" "first file: fault 16 at line $((records + 6)): NoTrailer" \
+        ./gedtool same "$room/open.ged" "$long"
 }
 
 # What --keep-names makes of records under other identifiers, and in another order.

@@ -349,7 +349,7 @@ fn call_run(
     say_run(answer, outcome, room.get(..length).unwrap_or(b""));
 }
 
-/// Compares a file with another spelling of itself by a run.
+/// Compares another spelling of a file with it by a run: the second begins as the first does, and goes on.
 fn call_run_same(
     alloc: Global,
     settings: Settings,
@@ -359,7 +359,7 @@ fn call_run_same(
 ) {
     let mut room = [0u8; ROOM];
     let mut left = room.as_mut_slice();
-    let (mut first, mut second) = (Input::new(file), Input::new(respelt(file)));
+    let (mut first, mut second) = (Input::new(respelt(file)), Input::new(file));
     let mut writer = Output::new(&mut left);
     marks.begin();
     let outcome = run_same_as(alloc, settings, LIMIT, &mut first, &mut second, &mut writer);

@@ -1,3 +1,4 @@
 pub mod FileTexts
 pub mod Forms
+pub mod Reading
 pub mod Steps

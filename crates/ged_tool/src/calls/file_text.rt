@@ -1,5 +1,5 @@
 // The bytes of a file, as a text where they are known to be one.
-ghost use Rattle.std.specs.Prelude.{◌≡◌};
+ghost use Rattle.std.specs.Prelude.{◌≡◌, ◌↔◌, IsTrue};
 ghost use Rattle.ged_tool.specs.inner.FileTexts.{file_bytes};
 
 /// The bytes of a file. Where they are known to be UTF-8, no call need validate them.
@@ -18,4 +18,11 @@ impl<'a> FileText<'a> {
             FileText::Bytes(bytes) => bytes,
         }
     }
+}
+
+/// Whether two files, or parts of them, have the same bytes.
+pub(crate) fn are_equal(first: &[u8], second: &[u8]) -> bool
+    ensures { IsTrue result ↔ (first.now ≡ second.now) }
+{
+    first == second
 }

@@ -7,7 +7,7 @@ ghost use Rattle.ged_tool.specs.Same.{AreCompared, AreComparedBy, IsInForm, IsSa
 ghost use Rattle.ged_tool.specs.inner.FileTexts.{file_bytes};
 
 use crate::calls::accept::accept_file;
-use crate::calls::file_text::FileText;
+use crate::calls::file_text::{FileText, are_equal};
 use crate::calls::spell::spell_form;
 use crate::comparison::{Comparison, Form};
 use crate::settings::Settings;
@@ -285,12 +285,6 @@ fn fault_of(which: Which, fault: Fault) -> SameFault
     ensures fault { result.fault ≡ fault }
 {
     SameFault { which, fault }
-}
-
-fn are_equal(first: &[u8], second: &[u8]) -> bool
-    ensures { IsTrue result ↔ (first.now ≡ second.now) }
-{
-    first == second
 }
 
 /// Whether a form is spelled by these bytes.

@@ -11,8 +11,9 @@ use crate::calls::digest::digest_of;
 use crate::calls::file_text::FileText;
 use crate::calls::made::made_or_memory;
 use crate::runs::digest_line::digest_line;
+use crate::runs::reading::read_whole;
 use crate::runs::told::{Told, told_with, told_without};
-use crate::runs::whole_file::{Validation, read_whole};
+use crate::runs::whole_file::Validation;
 use crate::settings::Settings;
 use ged_devices::{Failed, Sink, Source, write_whole};
 use ged_faults::{Fault, Outcome};
@@ -44,7 +45,7 @@ pub fn run_digest<R: Source, W: Sink>(
         (W.taken writer.old) (W.taken writer.new) result.outcome result.bytes.items }
     ensures fate { W.fate writer.new ≡ W.fate writer.old }
 {
-    let file = match read_whole(alloc, limit, Validation::AsItComes, reader) {
+    let file = match read_whole(alloc, limit, Validation::AsItComes, &[], reader) {
         Ok(file) => file,
         Err(fault) => return told_without(alloc, Outcome::Failed { which: None, fault }),
     };

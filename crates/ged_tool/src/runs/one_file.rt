@@ -10,8 +10,9 @@ ghost use Rattle.ged_tool.specs.Kept.{IsKeptRun};
 ghost use Rattle.ged_tool.specs.inner.Steps.{StopsReading};
 
 use crate::runs::answer::Command;
+use crate::runs::reading::read_whole;
 use crate::runs::told::{Told, told_with, told_without};
-use crate::runs::whole_file::{Validation, read_whole};
+use crate::runs::whole_file::Validation;
 use crate::runs::written::write_answer;
 use crate::settings::Settings;
 use ged_canon::Edition;
@@ -102,7 +103,7 @@ pub fn run_told<R: Source, W: Sink>(
         (W.taken writer.old) (W.taken writer.new) result.outcome result.bytes.items }
     ensures fate { W.fate writer.new ≡ W.fate writer.old }
 {
-    let file = match read_whole(alloc, limit, validation_for(command), reader) {
+    let file = match read_whole(alloc, limit, validation_for(command), &[], reader) {
         Ok(file) => file,
         Err(fault) => return told_without(alloc, Outcome::Failed { which: None, fault }),
     };

@@ -1,5 +1,5 @@
 // One run over two files: read both, judge both, write whether they are the same.
-ghost use Rattle.std.specs.Prelude.{◌≡◌, ◌≤◌, Some, false};
+ghost use Rattle.std.specs.Prelude.{◌≡◌, ◌≤◌, ◌<◌, ◌++◌, [], Some, false, length, take};
 ghost use Rattle.ged_tool.specs.Limits.{greatest_limit};
 ghost use Rattle.ged_tool.specs.Settings.{profile_of, edition_of};
 ghost use Rattle.ged_tool.specs.RunDevices.{TellsThreeDevices};
@@ -10,8 +10,9 @@ ghost use Rattle.ged_tool.specs.inner.Steps.{of_which};
 
 use crate::calls::same::{SameFault, same_files};
 use crate::comparison::{Comparison, Form};
+use crate::runs::reading::read_whole;
 use crate::runs::told::{Told, told_without};
-use crate::runs::whole_file::{Validation, read_whole};
+use crate::runs::whole_file::Validation;
 use crate::settings::Settings;
 use ged_canon::Edition;
 use ged_devices::{Failed, Sink, Source, write_whole};
@@ -45,9 +46,10 @@ pub fn run_same<R: Source, S: Source, W: Sink>(
 /// `limit` is the most bytes that each file may have, [`crate::GREATEST_LIMIT`] at most. The readers must not have been read before,
 /// and no device have failed. No more than `limit + 1` calls of read are made on each reader, and nothing is written
 /// unless both files are accepted. Memory is taken for both files, or for as many bytes as [`Source::expected`] says of one where these
-/// are more and within the limit, and 131,072 bytes to read each by. For files that are equal byte for byte it is taken for one document
-/// and index; for two of which neither may be a canonical form, by its front, for both documents and indexes; else for one at a time, and
-/// for what the forms have that the files have not, but none for a file that [`same_by`] leaves unjudged.
+/// are more and within the limit, and 131,072 bytes to read each by; none of it is written as long as the second file is the front of the
+/// first. For files that are equal byte for byte it is taken for one document and index; for two of which neither may be a canonical form,
+/// by its front, for both documents and indexes; else for one at a time, and for what the forms have that the files have not, but none for
+/// a file that [`same_by`] leaves unjudged.
 ///
 /// The outcome is Done where the files are the same and that was written, Different where they are not. Else it is
 /// Failed, and has
@@ -102,17 +104,21 @@ pub fn run_same_told<R: Source, S: Source, W: Sink>(
         (W.taken writer.old) (W.taken writer.new) result.outcome result.bytes.items }
     ensures fate { W.fate writer.new ≡ W.fate writer.old }
 {
-    let first_file = match read_whole(alloc, limit, Validation::AsItComes, first) {
+    let first_file = match read_whole(alloc, limit, Validation::AsItComes, &[], first) {
         Ok(file) => file,
         Err(fault) => return told_without(alloc, failed_at(Which::First, fault)),
     };
-    let second_file = match read_whole(alloc, limit, Validation::AsItComes, second) {
+    let front = first_file.text();
+    let second_file = match read_whole(alloc, limit, Validation::AsItComes, front.bytes(), second) {
         Ok(file) => file,
         Err(fault) => return told_without(alloc, failed_at(Which::Second, fault)),
     };
-    let same = match same_files(alloc, comparison, first_file.text(), second_file.text()) {
+    let same = match same_files(alloc, comparison, front, second_file.text()) {
         Ok(same) => same,
-        Err(at) => return told_of(at, first_file.into_bytes(), second_file.into_bytes()),
+        Err(at) => {
+            let (shared, own) = second_file.into_parts();
+            return told_of(at, first_file.into_bytes(), shared, own);
+        }
     };
     match write_whole(writer, same_line(same)) {
         Ok(()) if same => told_without(alloc, Outcome::Done),
@@ -127,18 +133,34 @@ pub fn run_same_told<R: Source, S: Source, W: Sink>(
     }
 }
 
-/// A fault of one of two files, and the bytes of that one.
-fn told_of(at: SameFault, first: Vec<u8>, second: Vec<u8>) -> Told
+/// A fault of one of two files, and the bytes of that one. Those of the second are so many of the first's, or, where these are none, its own.
+fn told_of(at: SameFault, first: Vec<u8>, shared: usize, own: Vec<u8>) -> Told
+    requires within { shared ≤ length first.items }
+    requires alone { 0 < shared → own.items ≡ [] }
     ensures outcome { result.outcome ≡ Outcome.Failed (Some at.which) at.fault }
-    ensures bytes { result.bytes.items ≡ of_which at.which first.items second.items }
+    ensures bytes { result.bytes.items ≡ of_which at.which first.items (take shared first.items ++ own.items) }
 {
     Told {
         outcome: failed_at(at.which, at.fault),
         bytes: match at.which {
             Which::First => first,
-            Which::Second => second,
+            Which::Second => second_bytes(first, shared, own),
         },
     }
+}
+
+/// So many bytes at the front of a file, or, where these are none, the others.
+fn second_bytes(first: Vec<u8>, shared: usize, own: Vec<u8>) -> Vec<u8>
+    requires within { shared ≤ length first.items }
+    requires alone { 0 < shared → own.items ≡ [] }
+    ensures { result.items ≡ take shared first.items ++ own.items }
+{
+    if shared == 0 {
+        return own;
+    }
+    let mut front = first;
+    front.truncate(shared);
+    front
 }
 
 fn failed_at(which: Which, fault: Fault) -> Outcome

@@ -1,21 +1,10 @@
-// The whole file, as it is read.
-ghost use Rattle.std.specs.Prelude.{◌≡◌, ◌+◌, ◌≤◌, ◌↔◌, ◌++◌, false, IsTrue, IfOk, IfErr, IfSome, IsErrOf, OnOk, [], length, take, true, vec_len};
+// The bytes of a file, as far as they have come.
+ghost use Rattle.std.specs.Prelude.{◌≡◌, ◌+◌, ◌≤◌, ◌<◌, ◌++◌, IsTrue, IfSome, [], length, take, true};
 ghost use Rattle.std.specs.Str.{is_utf8};
-ghost use Rattle.std.specs.Io.KnownBytes.{Consumes};
-ghost use Rattle.ged_line.specs.Bytes.{Bytes};
-ghost use Rattle.ged_tool.specs.Limits.{greatest_limit, greatest_read};
-ghost use Rattle.ged_tool.specs.Run.{IsWhole};
-ghost use Rattle.ged_tool.specs.inner.FileTexts.{file_bytes};
-ghost use Rattle.ged_tool.specs.inner.Steps.{StopsReading};
 
-use crate::calls::file_text::FileText;
-use ged_devices::{Failed, Source};
-use ged_faults::Fault;
-use ged_tree::{give_back, room_in_large_pages};
-use std::alloc::{AllocError, Global};
-
-/// The most bytes that one call of read is asked for.
-const CHUNK: usize = 131072;
+use crate::calls::file_text::{FileText, are_equal};
+use ged_tree::give_back;
+use std::alloc::AllocError;
 
 /// Whether a file is validated as UTF-8 while it comes, which serves who looks at it as a text later.
 #[derive(Clone, Copy, PartialEq, Eq)]
@@ -24,15 +13,22 @@ pub(crate) enum Validation {
     Later,
 }
 
-/// The bytes of a file as far as they have come.
+/// The bytes of a file as far as they have come. Where another file was read before, they are not kept as long as they are the front of
+/// that one.
 #[derive(Drop)]
-pub(crate) struct WholeFile {
+pub(crate) struct WholeFile<'f> {
+    /// The bytes of the file that was read before, or none.
+    pub(crate) before: &'f [u8],
+    /// How many of these have come here too. Then these are all that came, and none are kept.
+    pub(crate) shared: usize,
     pub(crate) bytes: Vec<u8>,
     /// Up to where they are known to be UTF-8, in bytes.
     known: usize,
     /// Whether those behind may be.
     may_be_text: bool,
 
+    ghost shared_within: { shared ≤ length before.now },
+    ghost shared_alone: { 0 < shared → bytes.items ≡ [] },
     ghost known_text: { is_utf8 (take known bytes.items) ≡ true },
     ghost known_within: { known ≤ length bytes.items },
 }
@@ -54,22 +50,79 @@ fn known_further(bytes: &[u8], known: usize, new: usize) -> Option<usize>
     }
 }
 
-impl WholeFile {
-    /// A file of which nothing has come, in this memory.
-    fn start(bytes: Vec<u8>, validation: Validation) -> WholeFile
+/// Whether bytes go on with these, behind so many of them.
+fn goes_on_with(bytes: &[u8], count: usize, more: &[u8]) -> bool
+    requires { count ≤ length bytes.now }
+    ensures within { IsTrue result → count + length more.now ≤ length bytes.now }
+    ensures same { IsTrue result → take (count + length more.now) bytes.now ≡ take count bytes.now ++ more.now }
+{
+    match bytes.get(count..count + more.len()) {
+        Some(next) => are_equal(next, more),
+        None => false,
+    }
+}
+
+impl<'f> WholeFile<'f> {
+    ghost use Rattle.std.specs.Prelude.{◌≡◌, ◌≤◌, ◌<◌, ◌++◌, [], OnOk, length};
+    ghost use Rattle.ged_tool.specs.inner.FileTexts.{file_bytes};
+    ghost use Rattle.ged_tool.specs.inner.Reading.{came_of};
+
+    /// A file of which nothing has come, in this memory, beside one that was read before.
+    pub(crate) fn start(bytes: Vec<u8>, before: &'f [u8], validation: Validation) -> WholeFile<'f>
         requires { bytes.items ≡ [] }
-        ensures { result.bytes ≡ bytes }
+        ensures came { came_of result ≡ [] }
+        ensures before { result.before.now ≡ before.now }
     {
         WholeFile {
+            before,
+            shared: 0,
             bytes,
             known: 0,
             may_be_text: validation == Validation::AsItComes,
         }
     }
 
-    /// Appends what has come. It is validated at once, while it is in the processor's caches. Grows.
-    fn push(&mut self, came: &[u8]) -> Result<(), AllocError>
-        ensures { OnOk result (self.new.bytes.items ≡ self.old.bytes.items ++ came.now) }
+    /// How many bytes have come.
+    pub(crate) fn len(&self) -> usize
+        ensures { result ≡ length (came_of self.now) }
+    {
+        self.shared + self.bytes.len()
+    }
+
+    /// Appends what has come. Grows, unless all that came is the front of the file that was read before.
+    pub(crate) fn push(&mut self, came: &[u8]) -> Result<(), AllocError>
+        ensures came { OnOk result (came_of self.new ≡ came_of self.old ++ came.now) }
+        ensures before { self.new.before ≡ self.old.before }
+    {
+        if self.bytes.is_empty() && goes_on_with(self.before, self.shared, came) {
+            self.shared += came.len();
+            return Ok(());
+        }
+        self.part()?;
+        self.keep(came)
+    }
+
+    /// Keeps what came so far apart from the file that was read before. Grows.
+    fn part(&mut self) -> Result<(), AllocError>
+        ensures came { OnOk result (came_of self.new ≡ came_of self.old) }
+        ensures before { self.new.before ≡ self.old.before }
+        ensures none { OnOk result (self.new.shared ≡ 0) }
+    {
+        if self.shared == 0 {
+            return Ok(());
+        }
+        let front = &self.before[..self.shared];
+        self.bytes.extend_from_slice(front)?;
+        self.shared = 0;
+        self.look(0);
+        Ok(())
+    }
+
+    /// Appends what has come to what is kept. It is validated at once, while it is in the processor's caches. Grows.
+    fn keep(&mut self, came: &[u8]) -> Result<(), AllocError>
+        requires { self.old.shared ≡ 0 }
+        ensures came { OnOk result (came_of self.new ≡ came_of self.old ++ came.now) }
+        ensures before { self.new.before ≡ self.old.before }
     {
         let new = self.bytes.len();
         self.bytes.extend_from_slice(came)?;
@@ -77,11 +130,13 @@ impl WholeFile {
         Ok(())
     }
 
-    /// Validates what is not validated yet, where so many bytes had come before. What is no text once is not looked at again.
+    /// Validates what is kept and not validated yet, where so many bytes had come before. What is no text once is not looked at again.
     fn look(&mut self, new: usize)
         requires order { self.old.known ≤ new }
         requires within { new ≤ length self.old.bytes.items }
-        ensures { self.new.bytes ≡ self.old.bytes }
+        ensures kept { self.new.bytes ≡ self.old.bytes }
+        ensures shared { self.new.shared ≡ self.old.shared }
+        ensures before { self.new.before ≡ self.old.before }
     {
         if !self.may_be_text {
             return;
@@ -92,10 +147,21 @@ impl WholeFile {
         }
     }
 
-    /// All that has come, as a text where it is known to be one.
-    pub(crate) fn text(&self) -> FileText<'_>
-        ensures { file_bytes result ≡ self.now.bytes.items }
+    /// Gives back the room that was not filled.
+    pub(crate) fn fit(&mut self)
+        ensures came { came_of self.new ≡ came_of self.old }
+        ensures before { self.new.before ≡ self.old.before }
     {
+        give_back(&mut self.bytes);
+    }
+
+    /// All that has come, as a text where it is kept and known to be one.
+    pub(crate) fn text(&self) -> FileText<'_>
+        ensures { file_bytes result ≡ came_of self.now }
+    {
+        if self.shared > 0 {
+            return FileText::Bytes(&self.before[..self.shared]);
+        }
         let bytes = self.bytes.as_slice();
         if self.known < bytes.len() {
             return FileText::Bytes(bytes);
@@ -104,69 +170,28 @@ impl WholeFile {
         FileText::Text(unsafe { str::from_utf8_unchecked(bytes) })
     }
 
-    pub(crate) fn into_bytes(self) -> Vec<u8>
-        ensures { result ≡ self.bytes }
+    /// How many bytes of the file that was read before came, and those that are kept.
+    pub(crate) fn into_parts(self) -> (usize, Vec<u8>)
+        ensures shared { result.0 ≡ self.entry.shared }
+        ensures kept { result.1 ≡ self.entry.bytes }
+        ensures alone { 0 < result.0 → result.1.items ≡ [] }
     {
         let WholeFile {
+            before: _,
+            shared,
             bytes,
             known: _,
             may_be_text: _,
         } = self;
+        (shared, bytes)
+    }
+
+    /// All that has come, where no file was read before.
+    pub(crate) fn into_bytes(self) -> Vec<u8>
+        requires { self.before.now ≡ [] }
+        ensures { result.items ≡ came_of self.entry }
+    {
+        let (_, bytes) = self.into_parts();
         bytes
     }
-}
-
-/// The whole file: reads to the reader's end, or until more than the limit came.
-pub(crate) fn read_whole<R: Source>(
-    alloc: Global,
-    limit: u64,
-    validation: Validation,
-    reader: &mut R,
-) -> Result<WholeFile, Fault>
-    requires limit { limit ≤ greatest_limit }
-    requires unread { R.reads reader.old ≡ 0 }
-    requires no_failure { R.failed reader.old ≡ false }
-    ensures calls { R.reads reader.new ≤ limit + 1 }
-    ensures once_at_the_end { IfOk result (λ file. R.reads reader.new ≤ vec_len file.bytes + 1) }
-    ensures read_failed { IsTrue (R.failed reader.new) ↔ IsErrOf result Fault.ReadFailed }
-    ensures whole { IfOk result (λ file. IsWhole limit file.bytes.items (R.to_come reader.new)
-        × Consumes (R.to_come reader.old) (R.to_come reader.new) file.bytes.items) }
-    ensures stopped { IfErr result (λ fault. (came : Bytes)
-        × Consumes (R.to_come reader.old) (R.to_come reader.new) came
-        × StopsReading limit came fault) }
-{
-    let (bytes, mut chunk) = match make_room(alloc, reader.expected(), limit) {
-        Ok(room) => room,
-        Err(error) => return Err(Fault::Memory(error)),
-    };
-    let mut file = WholeFile::start(bytes, validation);
-    for _ in 0..=limit {
-        let count = match reader.read(&mut chunk) {
-            Ok(count) => count,
-            Err(Failed) => return Err(Fault::ReadFailed),
-        };
-        if count == 0 {
-            give_back(&mut file.bytes);
-            return Ok(file);
-        }
-        if (file.bytes.len() + count) as u64 > limit {
-            return Err(Fault::TooLong);
-        }
-        if let Err(error) = file.push(&chunk[..count]) {
-            return Err(Fault::Memory(error));
-        }
-    }
-    Err(Fault::TooLong)
-}
-
-/// An empty vector with room for the bytes that are thought to come, if these are no more than the limit, and room for one call of read.
-/// What came is copied from there, so that the vector that holds the file is never filled with zeros, and only as much of it is touched
-/// as came.
-fn make_room(alloc: Global, expected: u64, limit: u64) -> Result<(Vec<u8>, Vec<u8>), AllocError>
-    ensures { IfOk result (λ room. (room.0.items ≡ []) × (vec_len room.1 ≡ greatest_read)) }
-{
-    let first = if expected <= limit { expected } else { 0 };
-    let bytes = Vec::with_capacity(alloc, room_in_large_pages(first as usize))?;
-    let chunk = vec![in alloc; 0; CHUNK]?;
-    Ok((bytes, chunk))
 }

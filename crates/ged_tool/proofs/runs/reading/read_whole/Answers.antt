@@ -1,11 +1,12 @@
 use Rattle.std.proofs.Common.{◌++◌, take, arith, length-append}
 use Rattle.std.proofs.KnownBytes.{Consumes-trans}
-use Rattle.ged_tool.proofs.runs.whole_file.read_whole.Goals as goal
+use Rattle.ged_tool.specs.inner.Reading.{came_of}
+use Rattle.ged_tool.proofs.runs.reading.read_whole.Goals as goal
 
 -- in both, what came is what is held and what the last call gave
 pub returns-then-len-count-clause-stopped : goal.returns-then-len-count-clause-stopped
 returns-then-len-count-clause-stopped g c =
-    let held = c.loop.file.bytes.items in
+    let held = came_of c.loop.file in
     let gave = take c.in-Ok-read.count c.read.new.buf in
     let long = length-append held gave in (
       held ++ gave,
@@ -18,7 +19,7 @@ returns-then-len-count-clause-stopped g c =
 
 pub returns-in-Err-push-clause-stopped : goal.returns-in-Err-push-clause-stopped
 returns-in-Err-push-clause-stopped g c =
-    let held = c.loop.file.bytes.items in
+    let held = came_of c.loop.file in
     let gave = take c.in-Ok-read.count c.read.new.buf in
     let long = length-append held gave in (
       held ++ gave,
