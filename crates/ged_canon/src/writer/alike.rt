@@ -11,7 +11,6 @@ ghost use Rattle.ged_canon.specs.inner.Written.{written};
 ghost use Rattle.ged_canon.specs.inner.CanonBytes.{AreNamed, CanWriteRecords, TellsSame, spelled_siblings};
 
 use crate::edition::Edition;
-use crate::spelled::SpelledForm;
 use crate::writer::answer::Answer;
 use crate::writer::document::document_siblings;
 use crate::writer::plan::{Plan, Work, Writer};
@@ -34,23 +33,47 @@ pub struct IndexedDocument<'a, F> {
 }
 
 impl<'f, F: Forest> Writer<'_, 'f, F> {
-    /// The lines of HEAD or of a record, and of what stands below it, as a form of their own, where nothing else is written. The text takes
-    /// the record's new identifier.
-    fn take_record(
+    /// Writes the lines of HEAD or of a record, and of what stands below it, where nothing else is written. The text takes the record's new
+    /// identifier.
+    fn write_alone(
         &self,
         sibling: RankedSibling,
         name: &mut String,
         work: &mut Work,
-    ) -> Result<SpelledForm<'f>, AllocError>
+    ) -> Result<(), AllocError>
         requires stands { CanWriteRecords (is_named (F.trees self.now.forest.now)) self.now.plan.edition (F.trees self.now.forest.now) (sibling ∷ []) }
         requires empty { written self.now.plan.file.now work.old.answer ≡ [] }
-        ensures empty { OnOk result (written self.now.plan.file.now work.new.answer ≡ []) }
-        ensures lines { (names : List Bytes) → IsNumberingOf (F.trees self.now.forest.now) names self.now.plan.index.now self.now.plan.numbers.now → AreNamed (F.trees self.now.forest.now) names
-            → IfOk result (λ form. form ≡ spelled_siblings (is_named (F.trees self.now.forest.now)) self.now.plan.edition names (F.trees self.now.forest.now) (sibling ∷ [])) }
+        ensures lines { OnOk result ((names : List Bytes) → IsNumberingOf (F.trees self.now.forest.now) names self.now.plan.index.now self.now.plan.numbers.now → AreNamed (F.trees self.now.forest.now) names
+            → written self.now.plan.file.now work.new.answer ≡ spelled_siblings (is_named (F.trees self.now.forest.now)) self.now.plan.edition names (F.trees self.now.forest.now) (sibling ∷ [])) }
     {
-        self.write_record(sibling, name, work)?;
-        work.answer.take_form(self.plan.alloc, self.plan.file)
+        self.write_record(sibling, name, work)
     }
+}
+
+/// Whether two answers have the same bytes. What is written of both is dropped.
+fn drop_same(
+    alloc: Global,
+    file: &[u8],
+    answer: &mut Answer,
+    other_file: &[u8],
+    other: &mut Answer,
+) -> Result<bool, AllocError>
+    ensures same { IfOk result (λ same. IsTrue same ↔ (written file.now answer.old ≡ written other_file.now other.old)) }
+    ensures empty { OnOk result (written file.now answer.new ≡ []) }
+    ensures other_empty { OnOk result (written other_file.now other.new ≡ []) }
+{
+    if let (Some(run), Some(other_run)) = (answer.sole_run(file), other.sole_run(other_file)) {
+        let same = run == other_run;
+        answer.clear();
+        other.clear();
+        return Ok(same);
+    }
+    let form = answer.take_form(alloc, file)?;
+    let other_form = other.take_form(alloc, other_file)?;
+    let same = form.has_bytes_of(&other_form);
+    answer.reuse(form);
+    other.reuse(other_form);
+    Ok(same)
 }
 
 /// Whether HEAD and the records of two documents, of which there are as many, have the same lines. Each is written alone, up to the first
@@ -72,13 +95,19 @@ fn are_alike<F: Forest, G: Forest>(
     let mut name = String::new(alloc);
     let mut number = 0;
     while number < siblings.len() {
-        let form = first.take_record(siblings[number], &mut name, &mut work)?;
-        let other = second.take_record(others[number], &mut name, &mut other_work)?;
-        if !form.has_bytes_of(&other) {
+        first.write_alone(siblings[number], &mut name, &mut work)?;
+        second.write_alone(others[number], &mut name, &mut other_work)?;
+        let (file, other_file) = (first.plan.file, second.plan.file);
+        let same = drop_same(
+            alloc,
+            file,
+            &mut work.answer,
+            other_file,
+            &mut other_work.answer,
+        )?;
+        if !same {
             return Ok(false);
         }
-        work.answer.reuse(form);
-        other_work.answer.reuse(other);
         number += 1;
     }
     Ok(true)

@@ -13,8 +13,8 @@ use Rattle.ged_canon.proofs.writer.Records.{first_stands, others_stand}
 use Rattle.ged_canon.proofs.writer.RunsWritten.{next_left}
 use Rattle.ged_canon.proofs.writer.alike.are_alike.Goals as goal
 
-pub take_record-requires-clause-stands : goal.take_record-requires-clause-stands
-take_record-requires-clause-stands g c =
+pub write_alone-requires-clause-stands : goal.write_alone-requires-clause-stands
+write_alone-requires-clause-stands g c =
     let d = g.F.Forest.trees c.args.first.now.forest.now in
     let edition = c.args.first.now.plan.edition in
     let xs = c.args.siblings.now in
@@ -30,8 +30,8 @@ take_record-requires-clause-stands g c =
           (ap (λ (zs : List RankedSibling). are_at 0 (sibling_trees (is_named d) edition File d zs)) (sym split) ∙ c.loop-number.invariant.stand);
     }
 
-pub take_record-requires-in-loop-number-clause-stands : goal.take_record-requires-in-loop-number-clause-stands
-take_record-requires-in-loop-number-clause-stands g c =
+pub write_alone-requires-in-loop-number-clause-stands : goal.write_alone-requires-in-loop-number-clause-stands
+write_alone-requires-in-loop-number-clause-stands g c =
     let e = g.G.Forest.trees c.args.second.now.forest.now in
     let edition = c.args.second.now.plan.edition in
     let ys = c.args.others.now in
@@ -48,8 +48,8 @@ take_record-requires-in-loop-number-clause-stands g c =
           (ap (λ (zs : List RankedSibling). are_at 0 (sibling_trees (is_named e) edition File e zs)) (sym split) ∙ c.loop-number.invariant.others_stand);
     }
 
-pub returns-then-not-has_bytes_of : goal.returns-then-not-has_bytes_of
-returns-then-not-has_bytes_of g c = λ names other_names numbering named other_numbering other_named.
+pub returns-then-not-same : goal.returns-then-not-same
+returns-then-not-same g c = λ names other_names numbering named other_numbering other_named.
     let d = g.F.Forest.trees c.args.first.now.forest.now in
     let e = g.G.Forest.trees c.args.second.now.forest.now in
     let edition = c.args.first.now.plan.edition in
@@ -67,9 +67,9 @@ returns-then-not-has_bytes_of g c = λ names other_names numbering named other_n
           let rest = (c.loop-number.invariant.told names other_names numbering named other_numbering other_named).1 whole in
           let here = ap (numbered_siblings (is_named d) edition names d) (sym split) ∙ rest ∙ ap (numbered_siblings (is_named e) other_edition other_names e) other_split in
           let same = same_first (is_named d) (is_named e) edition other_edition names other_names d e x y (drop (at + 1) xs) (drop (at + 1) ys) here in
-          let equal = c.in_ok-form.ensures.lines names numbering named ∙ same ∙ sym (c.in_ok-other.ensures.lines other_names other_numbering other_named) in
-          let failed : c.has_bytes_of.result ≡ false = search rules in
-          sym failed ∙ c.has_bytes_of.ensures.1 equal),
+          let equal = c.in_ok-write_alone.ensures.lines names numbering named ∙ same ∙ sym (c.in_ok-write_alone-2.ensures.lines other_names other_numbering other_named) in
+          let failed : c.in_ok-same.same ≡ false = search rules in
+          sym failed ∙ c.in_ok-same.ensures.same.1 equal),
     )
 
 pub loop-number-preserved : goal.loop-number-preserved
@@ -91,8 +91,8 @@ loop-number-preserved g c =
     let others_all : AllByRecursion (StandsRanked e) (y ∷ drop (at + 1) ys) =
     subst (λ (zs : List RankedSibling). AllByRecursion (StandsRanked e) zs) other_split c.loop-number.invariant.others_within in
     record {
-      empty = c.reuse.ensures c.args.first.now.plan.file.now;
-      other_empty = c.reuse-in-loop-number.ensures c.args.second.now.plan.file.now;
+      empty = c.in_ok-same.ensures.empty;
+      other_empty = c.in_ok-same.ensures.other_empty;
       within = all.1;
       stand = others_stand (is_named d) edition d x (drop (at + 1) xs)
           (ap (λ (zs : List RankedSibling). are_at 0 (sibling_trees (is_named d) edition File d zs)) (sym split) ∙ c.loop-number.invariant.stand);
@@ -102,8 +102,8 @@ loop-number-preserved g c =
       told = λ names other_names numbering named other_numbering other_named.
           let (lines, equal) = c.loop-number.invariant.told names other_names numbering named other_numbering other_named in
           let same : spelled_siblings (is_named d) edition names d (x ∷ []) ≡ spelled_siblings (is_named e) other_edition other_names e (y ∷ []) =
-          (let passed : c.has_bytes_of.result ≡ true = search rules in
-          sym (c.in_ok-form.ensures.lines names numbering named) ∙ c.has_bytes_of.ensures.0 passed ∙ c.in_ok-other.ensures.lines other_names other_numbering other_named) in (
+          (let passed : c.in_ok-same.same ≡ true = search rules in
+          sym (c.in_ok-write_alone.ensures.lines names numbering named) ∙ c.in_ok-same.ensures.same.0 passed ∙ c.in_ok-write_alone-2.ensures.lines other_names other_numbering other_named) in (
             (λ left.
                 lines (ap (spelled_siblings (is_named d) edition names d) split
                 ∙ all_spelled (is_named d) (is_named e) edition other_edition names other_names d e x y (drop (at + 1) xs) (drop (at + 1) ys) same left
