@@ -36,6 +36,18 @@ respells() {
     expect "$1 in the second edition" 0 "$mark${header}$3${end}" "" given "${header}$2${end}" ./gedtool canon --second
 }
 
+# Pointers that name records one behind the other, and then others, get the new names of the records that they name.
+check_named_in_order() {
+    local others='0 @PERSON_TWO@ INDI\n0 @PERSON_THREE@ INDI\n0 @PERSON_FOUR@ INDI\n' pointers= written= name number
+    while read -r name number; do
+        pointers+="1 ALIA @PERSON_$name@\n"
+        written+="1 ALIA @X$number@\n"
+    done <<<$'TWO 2\nTHREE 3\nFOUR 4\nTWO 2\nTHREE 3\nONE 1\nTWO 2\nFOUR 4'
+    expect "canon of pointers that name records in order" 0 \
+        "$mark${header}0 @X1@ INDI\n${written}0 @X2@ INDI\n0 @X3@ INDI\n0 @X4@ INDI\n$end" "" \
+        given "${header}0 @PERSON_ONE@ INDI\n$pointers$others$end" ./gedtool canon
+}
+
 # A child more is four lines more in the form that keeps names, wherever its record stands.
 check_grown() {
     local family=examples/family-by-one-program.ged
@@ -102,6 +114,7 @@ check_canonical() {
     expect "canon in the second edition, with names" 0 "$mark${header}${person}1 NMR 7\n${end}" "" \
         ./gedtool canon --second --keep-names "$room/zeros.ged"
     check_grown
+    check_named_in_order
     check_long_runs
     respells "a range of dates" "${person}1 BIRT\n2 DATE BET 01 AND 000\n" "${person}1 BIRT\n2 DATE BET 1 AND 0\n"
     respells "the date of a file" "1 DATE 01 JAN 1900\n" "1 DATE 1 JAN 1900\n"

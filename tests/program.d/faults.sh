@@ -42,6 +42,8 @@ check_faults() {
     faulty "fault 17 at line 5: DuplicateXref" '0 @A@ INDI\n0 @A@ INDI\n'
     faulty "fault 17 at line 7: DuplicateXref" '0 @I1@ INDI\n0 @I01@ INDI\n0 @IA@ INDI\n0 @I01@ INDI\n'
     faulty "fault 18 at line 5: DanglingPointer" '0 @I@ INDI\n1 FAMS @F@\n'
+    faulty "fault 18 at line 7: DanglingPointer" '0 @PERSON_ONE@ INDI\n1 ALIA @PERSON_TWO@\n1 ALIA @PERSON_THREE@\n1 ALIA @PERSON_FOUR@\n'\
+'0 @PERSON_TWO@ INDI\n0 @PERSON_THREE@ INDI\n0 @PERSON_FIVE@ INDI\n'
     unbuilt "fault 19 at line 3: WrongVersion" "0 HEAD\n1 GEDC\n2 VERS 5.5\n${end}"
     faulty "fault 20 at line 5: BadPayload" "${person}1 NMR x\n"
     faulty "fault 21 at line 5: WrongTarget" '0 @I@ INDI\n1 FAMS @I@\n'
@@ -66,6 +68,21 @@ check_long_target() {
         printf "$end"
     } >"$at"
     expect "many links to a record with a long tag" 1 "" "fault 21 at line 6: WrongTarget" timeout 5 ./gedtool check "$at"
+    rm -- "$at"
+}
+
+# A record with a long identifier behind two records that many pointers name. A program that reads the identifier again for each of them takes
+# far longer.
+check_long_identifier() {
+    local at=$room/long-identifier.ged
+    {
+        printf "$header"
+        printf '0 @PERSON_ONE@ INDI\n'
+        printf '1 ALIA @PERSON_ONE@\n1 ALIA @PERSON_TWO@\n%.0s' {1..60000}
+        printf '0 @PERSON_TWO@ INDI\n0 @%04000000d@ INDI\n' 0
+        printf "$end"
+    } >"$at"
+    expect "many pointers to the two records before a long identifier" 0 "accepted\n" "" timeout 5 ./gedtool check "$at"
     rm -- "$at"
 }
 

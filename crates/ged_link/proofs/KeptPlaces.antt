@@ -10,7 +10,11 @@ use Rattle.ged_tree.specs.Places.{structure_at}
 use Rattle.ged_tree.specs.Runs.{trees_between, IsStep}
 use Rattle.ged_link.specs.Links.{identifiers}
 use Rattle.ged_link.specs.Places.{places_from, record_places, IsRecordPlace, place_kept, ArePlaces}
-use Rattle.ged_link.specs.inner.Places.{IsKeptAt}
+use Rattle.ged_line.specs.Bytes.{Bytes}
+use Rattle.ged_link.specs.declared.index.RecordPlace.{RecordPlace}
+use Rattle.ged_link.specs.declared.names.Names.{Names}
+use Rattle.ged_link.specs.Indexes.{found_in, number_in, place_in, AreRecords}
+use Rattle.ged_link.specs.inner.Places.{IsKeptAt, IsNamedAt}
 use Rattle.ged_link.proofs.PlaceCases.{at_first, at_next}
 
 -- ---- the places of trees side by side
@@ -34,6 +38,13 @@ one_standing (tree s below next) from (suc i) zero place is at =
     absurd (let e : from ≡ place = cc in let later = stands_in next (from + 1 + trees_count below) i place is in omega (arith, e, later.1))
 one_standing (tree s below next) from (suc i) (suc j) place is at = ap suc (one_standing next (from + 1 + trees_count below) i j place is at)
 
+-- each tree stands before their end
+stands_before : (xs : Trees) (from number place : ℕ) → slice_get (places_from from xs) number ≡ Some place → place < from + trees_count xs
+stands_before none from number place is = absurd (cc)
+stands_before (tree s below next) from zero place is = let e : from ≡ place = cc in omega (arith, e)
+stands_before (tree s below next) from (suc number) place is =
+    let later = stands_before next (from + 1 + trees_count below) number place is in omega (arith, later)
+
 -- places that are kept do not fall
 none_lower : (xs : Trees) (from n d : ℕ) → n < length (map place_kept (places_from from xs)) → place_kept from ≤ get_or (map place_kept (places_from from xs)) n d
 none_lower none from n d h = absurd (omega (arith, h))
@@ -55,6 +66,11 @@ record_stands (tree s below next) number place is =
     let there = stands_in next (0 + 1 + trees_count below) number place is in
     let e : place ≡ 1 + trees_count below + there.0 = omega (arith, there.1) in
     there.2 ∙ ap (λ x. Some x.xref) (sym (ap (structure_at (tree s below next)) e ∙ at_next s below next there.0))
+
+pub record_within : (d : Trees) (number place : ℕ) → IsRecordPlace d number place → place < trees_count d
+record_within none number place is = absurd (cc)
+record_within (tree s below next) number place is =
+    let later = stands_before next (0 + 1 + trees_count below) number place is in omega (arith, later)
 
 pub one_record_there : (d : Trees) (i j place : ℕ) → IsRecordPlace d i place → IsRecordPlace d j place → i ≡ j
 one_record_there none i j place is at = absurd (cc)
@@ -81,6 +97,35 @@ kept_stands d places number place are kept = go (slice_get (record_places d) num
         let g : place ≡ place_kept other = cc in
         let h : other ≡ place = omega (arith, g, kept.1) in
         e ∙ ap Some h
+
+-- a record that stands where a place is kept, and has a name there, has that name by its number
+pub kept_named : (d : Trees) (places : List ℕ) (found : RecordPlace) (name : Bytes) → ArePlaces d places → IsKeptAt places found.number found.place
+    → (structure_at d found.place).xref ≡ Some name → IsNamedAt d found name
+kept_named d places found name are kept named =
+    let stands = kept_stands d places found.number found.place are kept in
+    record {
+      numbered = record_stands d found.number found.place stands ∙ ap (λ x. Some x) named;
+      placed = (record_within d found.number found.place stands, named);
+    }
+
+-- the record that has a name is found by it
+pub named_found : (d : Trees) (records : Names) (found : RecordPlace) (name : Bytes) → AreRecords d records → IsNamedAt d found name → Some found ≡ found_in records name
+named_found d records found name are named = go (found_in records name) refl
+  where
+    placed : place_in records name ≡ Some found.place
+    placed = (are.placed name found.place).1 named.placed
+
+    numbered : number_in records name ≡ Some found.number
+    numbered = (are.numbered name found.number).1 named.numbered
+
+    go : (x : Option RecordPlace) → found_in records name ≡ x → Some found ≡ x
+    go None e = absurd (let f = sym placed ∙ ap (option_map (λ (r : RecordPlace). r.place)) e in cc)
+    go (Some other) e =
+        let p = sym placed ∙ ap (option_map (λ (r : RecordPlace). r.place)) e in
+        let n = sym numbered ∙ ap (option_map (λ (r : RecordPlace). r.number)) e in
+        let same_place : found.place ≡ other.place = cc in
+        let same_number : found.number ≡ other.number = cc in
+        λ i. Some (record { number = same_number i; place = same_place i })
 
 pub stands_kept : (d : Trees) (places : List ℕ) (number place : ℕ) → ArePlaces d places → IsRecordPlace d number place → place < 4294967295 → IsKeptAt places number place
 stands_kept d places number place are stands small =

@@ -9,7 +9,8 @@ ghost use Rattle.ged_link.specs.inner.Indexes.{numbers_key as key_of_numbers};
 ghost use Rattle.ged_link.specs.inner.Listing.{listed_halves, all_halves};
 
 use crate::listing::{RecordList, joined};
-use std::hash::{BuildHasher, DefaultHasher, FoldHasher, Hash, Hasher};
+use crate::names::number_of_bytes;
+use std::hash::{BuildHasher, DefaultHasher, FoldHasher, Hasher};
 
 /// Makes the hashers of a map of texts: SipHash, each begun with a key, a hash of names among which are all that the map is
 /// to hold.
@@ -70,9 +71,10 @@ impl BuildHasher for KeyedNumbers {
 /// The long names of a document, as far as they are listed. Each is hashed at once, while its line is at hand.
 #[derive(Drop)]
 pub(crate) struct LongNames {
-    /// How many there are, and how many bytes they have. No answer rests on these.
+    /// How many there are, how many bytes they have, and how many the longest has. No answer rests on these.
     pub(crate) count: usize,
     pub(crate) length: usize,
+    pub(crate) longest: usize,
     /// What each was written to.
     pub(crate) hasher: DefaultHasher,
 }
@@ -85,11 +87,13 @@ impl LongNames {
         LongNames {
             count: 0,
             length: 0,
+            longest: 0,
             hasher: DefaultHasher::new(),
         }
     }
 
-    /// One more, which is written as a text is, with a byte behind it that is in none.
+    /// One more. Its whole words of eight bytes are written, and then the number that the bytes behind these spell ([`number_of_bytes`]): its
+    /// highest byte is none that a name has, so no list of names is written as another is.
     #[cold]
     #[inline(never)]
     pub(crate) fn push(&mut self, name: &str)
@@ -98,7 +102,11 @@ impl LongNames {
     {
         self.count = self.count.saturating_add(1);
         self.length = self.length.saturating_add(name.len());
-        name.hash(&mut self.hasher);
+        self.longest = self.longest.max(name.len());
+        let bytes = name.as_bytes();
+        let (words, rest) = bytes.split_at(bytes.len() / 8 * 8);
+        self.hasher.write(words);
+        self.hasher.write_u64(number_of_bytes(rest).unwrap_or(0));
     }
 
     /// The key for their table.

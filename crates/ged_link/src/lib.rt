@@ -12,6 +12,7 @@ mod links;
 mod listed_pointer;
 mod listing;
 mod names;
+mod naming_order;
 mod notices;
 mod pairs;
 mod places;

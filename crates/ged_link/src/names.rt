@@ -1,6 +1,7 @@
 // Records by the names of their cross-reference identifiers.
 ghost use Rattle.std.specs.Prelude.{◌≡◌, ◌+◌, ◌∷◌, ◌<◌, ◌^◌, ◌↔◌, ℕ, IsTrue, IfOk, IfSome, OnOk, [], List, Option, Some, None, nat_eq};
 ghost use Rattle.std.specs.Hash.DefaultHasher.{finish};
+ghost use Rattle.std.specs.Option.{option_copied};
 ghost use Rattle.std.specs.HashMap.{get, hasher_of, hash_map_len};
 ghost use Rattle.ged_line.specs.Bytes.{Bytes};
 ghost use Rattle.ged_link.specs.Links.{IsAmong};
@@ -63,7 +64,7 @@ fn number_of_rest(bytes: &[u8]) -> Option<u64>
 /// Each byte is a digit to the base 256, the first byte the lowest, and above them stands a one, where there is room for it. Eight
 /// bytes spell a number only if the last is above one and below 128, as those of all identifiers are.
 #[inline(never)]
-fn number_of_bytes(name: &[u8]) -> Option<u64>
+pub(crate) fn number_of_bytes(name: &[u8]) -> Option<u64>
     ensures { result ≡ number_within 8 name.now }
 {
     match name {
@@ -222,7 +223,7 @@ impl Names {
         match number_of(name) {
             Some(number) => match self.slots.find(name, number) {
                 Some(found) => Some(found),
-                None => self.find_short(number),
+                None => self.find_short(number).copied(),
             },
             None => self.find_long(name),
         }
@@ -241,16 +242,16 @@ impl Names {
         let slot = self.slots.slot_behind(first, count);
         match self.slots.find_at(slot, number) {
             Some(found) => Some(found),
-            None => self.find_short(number),
+            None => self.find_short(number).copied(),
         }
     }
 
-    /// The record of a short name that has no slot, by the number that the name spells.
+    /// The record of a short name that has no slot, by the number that the name spells: where it is kept, so that the answer is a word.
     #[inline(never)]
-    fn find_short(&self, number: u64) -> Option<RecordPlace>
-        ensures { result ≡ get nat_eq self.now.short number }
+    fn find_short(&self, number: u64) -> Option<&RecordPlace>
+        ensures { option_copied result ≡ get nat_eq self.now.short number }
     {
-        self.short.get(&number).copied()
+        self.short.get(&number)
     }
 
     /// The same for a long name. It stays a call of its own, so that what is made of `find` is short.
@@ -273,7 +274,7 @@ impl Names {
         ensures others { (self.new.short ≡ self.old.short) × (self.new.long ≡ self.old.long) }
     {
         match self.slots.keep(slot, number, found) {
-            Some(true) => Some(self.find_short(number).is_none()),
+            Some(true) => Some(self.find_short(number).copied().is_none()),
             other => other,
         }
     }

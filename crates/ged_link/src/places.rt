@@ -1,5 +1,5 @@
 // The places of a document's records, by the numbers of the records.
-ghost use Rattle.std.specs.Prelude.{◌≡◌, ◌≤◌, ◌+◌, ◌++◌, ◌∷◌, ℕ, [], Some, None, IsSome, OnOk, nat_lt};
+ghost use Rattle.std.specs.Prelude.{◌≡◌, ◌≤◌, ◌+◌, ◌++◌, ◌∷◌, ℕ, [], Some, None, IfSome, IsSome, OnOk, nat_lt};
 ghost use Rattle.std.specs.List.Sorted.{IsNonDecreasing};
 ghost use Rattle.ged_link.specs.Places.{place_kept};
 ghost use Rattle.ged_link.specs.inner.Places.{IsKeptAt};
@@ -43,6 +43,19 @@ pub(crate) fn push_place(places: &mut Vec<u32>, place: usize) -> Result<(), Allo
     Ok(())
 }
 
+/// The place of the record with a number, if it is kept.
+#[inline(always)]
+pub(crate) fn place_of(places: &[u32], number: usize) -> Option<usize>
+    ensures told { IfSome result (λ place. IsKeptAt places.now number place) }
+    ensures found { (place : ℕ) → IsKeptAt places.now number place → IsSome result }
+{
+    let kept = *places.get(number)?;
+    if kept == u32::MAX {
+        return None;
+    }
+    Some(kept as usize)
+}
+
 /// The number of the record at a place, if it is that at which the cursor stands, which then goes on.
 #[inline(always)]
 pub(crate) fn next_record(places: &[u32], place: usize, cursor: &mut RecordCursor) -> Option<usize>
@@ -52,8 +65,7 @@ pub(crate) fn next_record(places: &[u32], place: usize, cursor: &mut RecordCurso
     ensures stays { result ≡ None → cursor.new.next ≡ cursor.old.next }
 {
     let number = cursor.next;
-    let kept = *places.get(number)?;
-    if kept == u32::MAX || kept as usize != place {
+    if place_of(places, number)? != place {
         return None;
     }
     cursor.next += 1;

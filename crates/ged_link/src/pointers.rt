@@ -27,6 +27,7 @@ use crate::index::RecordPlace;
 use crate::link_lists::LinkLists;
 use crate::listed_pointer::listed_in;
 use crate::names::Names;
+use crate::naming_order::{NamingOrder, find_named};
 use crate::pointer_list::PointerList;
 use crate::pointer_tag::PointerTag;
 use crate::record_type::{RecordType, leads_as_tagged, type_behind_head};
@@ -51,14 +52,19 @@ pub(crate) struct Following {
     pub(crate) used: Vec<bool>,
     /// What they name, and what is listed of those that are left.
     pub(crate) list: PointerList,
+    /// Which record the next pointer may name of which nothing is listed.
+    pub(crate) order: NamingOrder,
     pub(crate) led: bool,
 }
 
-/// The records of a document by their identifiers, and the type of each record by its number.
+/// The records of a document by their identifiers, and the type and the place of each record by its number.
 #[derive(Clone, Copy)]
 pub(crate) struct Records<'r> {
     pub(crate) names: &'r Names,
     pub(crate) types: &'r [Option<RecordType>],
+    pub(crate) places: &'r [u32],
+    /// Whether no identifier is longer than [`crate::naming_order::LONGEST_COMPARED`].
+    pub(crate) are_comparable: bool,
 }
 
 /// What a pointer tells: where the record stands that it names, and by its tag.
@@ -70,8 +76,14 @@ struct Pointed {
 
 /// What the pointer at a place tells by its text, or `None` where it names no record.
 #[inline(never)]
-fn read_pointer<F: Forest>(forest: &F, records: &Records<'_>, place: usize) -> Option<Pointed>
-    requires { place < trees_count (F.trees forest.now) }
+fn read_pointer<F: Forest>(
+    forest: &F,
+    records: &Records<'_>,
+    place: usize,
+    order: NamingOrder,
+) -> Option<Pointed>
+    requires within { place < trees_count (F.trees forest.now) }
+    requires records { AreKnown (F.trees forest.now) records.now }
     ensures { (name : Bytes) → (structure_at (F.trees forest.now) place).payload ≡ Pointer name
         → (option_map (λ (pointed : Pointed). pointed.to) result ≡ found_in records.now.names.now name)
         × IfSome result (λ pointed. IsTold pointed.told (structure_at (F.trees forest.now) place).tag) }
@@ -80,7 +92,7 @@ fn read_pointer<F: Forest>(forest: &F, records: &Records<'_>, place: usize) -> O
     let PayloadView::Pointer(name) = payload else {
         return None;
     };
-    let to = records.names.find(name)?;
+    let to = find_named(forest, records, order, name)?;
     let told = PointerTag::of(tag);
     Some(Pointed { to, told })
 }
@@ -92,8 +104,10 @@ fn look_up<F: Forest>(
     records: &Records<'_>,
     place: usize,
     listed: Target,
+    order: &mut NamingOrder,
 ) -> Option<Pointed>
     requires within { place < trees_count (F.trees forest.now) }
+    requires records { AreKnown (F.trees forest.now) records.now }
     requires listed { (name : Bytes) → (structure_at (F.trees forest.now) place).payload ≡ Pointer name
         → IsListedPointer listed (structure_at (F.trees forest.now) place).tag name }
     ensures { (name : Bytes) → (structure_at (F.trees forest.now) place).payload ≡ Pointer name
@@ -101,7 +115,10 @@ fn look_up<F: Forest>(
         × IfSome result (λ pointed. IsTold pointed.told (structure_at (F.trees forest.now) place).tag) }
 {
     let Some(listed) = listed_in(listed) else {
-        return read_pointer(forest, records, place);
+        // Put together anew, so that what is answered here stays in registers where no call is made.
+        let Pointed { to, told } = read_pointer(forest, records, place, *order)?;
+        order.note(to.number);
+        return Some(Pointed { to, told });
     };
     let to = records.names.find_counted(listed.bits)?;
     let told = listed.told;
@@ -128,7 +145,7 @@ fn follow<F: Forest>(
     ensures fault { IfErr result (λ fault. (fault ≡ Memory alloc_error) ⊎ HasLinkFault (F.trees forest.now) fault) }
 {
     let listed = followed.list.take_next();
-    let Some(pointed) = look_up(forest, records, place, listed) else {
+    let Some(pointed) = look_up(forest, records, place, listed, &mut followed.order) else {
         return Err(LinkFault::Dangling(forest.line(place)));
     };
     let found = pointed.to;
@@ -202,6 +219,7 @@ pub(crate) fn follow_pointers<F: Forest>(
     let mut followed = Following {
         used,
         list: PointerList::new(listed),
+        order: NamingOrder::new(),
         led: true,
     };
     let mut lists = none;
@@ -225,7 +243,12 @@ pub(crate) fn follow_pointers<F: Forest>(
             &mut lists,
         )?;
     }
-    let Following { used, list, led } = followed;
+    let Following {
+        used,
+        list,
+        order: _,
+        led,
+    } = followed;
     let targets = list.into_targets();
     Ok((Followed { used, targets, led }, lists))
 }

@@ -30,6 +30,7 @@ use crate::link_lists::LinkLists;
 use crate::links::find_one_way;
 use crate::listing::{ListedNames, RecordList, first_record, list_records};
 use crate::names::Names;
+use crate::naming_order::LONGEST_COMPARED;
 use crate::places::push_place;
 use crate::pointers::{Records, follow_pointers};
 use crate::record_reader::RecordReader;
@@ -89,11 +90,14 @@ fn resolve_listed<F: Forest>(
         names,
         types,
         places,
+        are_comparable,
         none,
     } = find_records(alloc, forest, end, list)?;
     let known = Records {
         names: &names,
         types: &types,
+        places: &places,
+        are_comparable,
     };
     let (followed, lists) = follow_pointers(alloc, forest, &known, none, pointers)?;
     let one_way = find_one_way(alloc, forest, &known, lists)?;
@@ -244,6 +248,8 @@ struct FoundRecords {
     types: Vec<Option<RecordType>>,
     /// Where each record stands, by its number, as an index keeps it.
     places: Vec<u32>,
+    /// Whether no identifier is longer than [`LONGEST_COMPARED`].
+    are_comparable: bool,
     /// Lists of no links, in the memory of the list of records.
     none: LinkLists,
 }
@@ -275,6 +281,7 @@ fn find_records<F: Forest>(
         names,
         types: list.types,
         places,
+        are_comparable: list.long.longest <= LONGEST_COMPARED,
         none: LinkLists::over(alloc, list.names, list.digits),
     })
 }

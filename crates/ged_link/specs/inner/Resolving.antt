@@ -15,6 +15,7 @@ use Rattle.ged_link.specs.declared.pointers.Records.{Records}
 use Rattle.ged_link.specs.declared.record_type.RecordType.{RecordType}
 use Rattle.ged_link.specs.RecordTypes.{record_tag}
 use Rattle.ged_link.specs.LedByTags.{IsLed}
+use Rattle.ged_link.specs.Places.{ArePlaces}
 use Rattle.ged_link.specs.inner.PointerLists.{pointers_from, IsPointerList}
 use Rattle.ged_link.specs.Indexes.{AreRecords, AreTyped, found_in, place_in, number_in}
 
@@ -50,11 +51,12 @@ LeadsAsTagged leads wanted known =
 abbrev pub AreLedBefore : Trees → ℕ → Type 0
 AreLedBefore d place = (other : ℕ) → other < place → IsLed d (structure_at d other).tag (structure_at d other).payload
 
--- a document's records by their identifiers, and the types of the records
+-- a document's records by their identifiers, and the types and the places of the records
 pub record AreKnown (d : Trees) (records : Records) : Type 0 where
   pub document : is_document d ≡ true
   pub named : AreRecords d records.names.now
   pub typed : AreTyped d records.names.now records.types.now
+  pub placed : ArePlaces d records.places.now
 
 -- all pointers before a place name records, those are marked, and what is kept of the pointers is true, as is what is listed of the others
 pub record AreFollowed (d : Trees) (place : ℕ) (followed : Following) : Type 0 where

@@ -98,12 +98,12 @@ impl<'f> WholeFile<'f> {
             self.shared += came.len();
             return Ok(());
         }
-        self.part()?;
+        self.keep_front()?;
         self.keep(came)
     }
 
-    /// Keeps what came so far apart from the file that was read before. Grows.
-    fn part(&mut self) -> Result<(), AllocError>
+    /// Keeps what came so far, which was the front of the file that was read before, apart from that. Grows.
+    fn keep_front(&mut self) -> Result<(), AllocError>
         ensures came { OnOk result (came_of self.new ≡ came_of self.old) }
         ensures before { self.new.before ≡ self.old.before }
         ensures none { OnOk result (self.new.shared ≡ 0) }

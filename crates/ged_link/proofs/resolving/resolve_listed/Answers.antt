@@ -29,6 +29,7 @@ follow_pointers-requires-clause-records g c = record {
   document = c.requires.document;
   named = c.in_ok-names.ensures.records;
   typed = rw c.deref.ensures.value c.in_ok-names.ensures.types;
+  placed = rw c.deref-2.ensures.value c.in_ok-names.ensures.places;
 }
 
 pub find_one_way-requires-clause-records : goal.find_one_way-requires-clause-records
@@ -36,6 +37,7 @@ find_one_way-requires-clause-records g c = record {
   document = c.requires.document;
   named = c.in_ok-names.ensures.records;
   typed = rw c.deref.ensures.value c.in_ok-names.ensures.types;
+  placed = rw c.deref-2.ensures.value c.in_ok-names.ensures.places;
 }
 
 pub follow_pointers-requires-clause-types : goal.follow_pointers-requires-clause-types

@@ -21,4 +21,4 @@ returns-in-None c name e =
     sym (ap (found_by records name) e
     ∙ ap (λ s. first_of (kept_at records.slots s (9223372036854775808 + c.args.bits)) (get nat_eq records.short (9223372036854775808 + c.args.bits))) slot
     ∙ ap (λ o. first_of o (get nat_eq records.short (9223372036854775808 + c.args.bits))) (sym c.find_at.ensures ∙ c.in-None.is)
-    ∙ sym c.find_short.ensures)
+    ∙ sym (c.copied.ensures ∙ c.find_short.ensures))

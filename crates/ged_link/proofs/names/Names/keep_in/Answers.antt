@@ -12,5 +12,5 @@ returns-in-Some-true-clause-added c name is at =
     let kept = c.keep.ensures.kept (c.in-Some-true.is ∙ ap Some c.in-Some-true.field-0-test) in
     let free : is_none (kept_at old.slots c.args.slot c.args.number) ≡ true = sym c.in-Some-true.ensures.is_new ∙ c.in-Some-true.field-0-test in
     subst (λ (is_new : Bool). AddsRecord old new (Some name) c.args.found is_new)
-    (sym (told_none c.is_none.result c.find_short.result c.is_none.ensures ∙ ap is_none c.find_short.ensures))
+    (sym (told_none c.is_none.result c.copied.result c.is_none.ensures ∙ ap is_none (c.copied.ensures ∙ c.find_short.ensures)))
     (adds_kept old new name c.args.found c.args.number is c.args.slot at free kept refl refl)
