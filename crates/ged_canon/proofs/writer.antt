@@ -1,5 +1,6 @@
 pub mod AlikeDocuments
 pub mod AlikeRecords
+pub mod AlikeTrees
 pub mod BriefTests
 pub mod BriefWords
 pub mod DatedRows

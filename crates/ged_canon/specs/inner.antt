@@ -1,6 +1,7 @@
 pub mod CanonBytes
 pub mod Gathered
 pub mod Orders
+pub mod Paired
 pub mod Ranks
 pub mod Runs
 pub mod Siblings

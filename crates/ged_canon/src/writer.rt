@@ -1,5 +1,7 @@
 // The canonical spelling of a document, written from the document itself.
 pub(crate) mod alike;
+pub(crate) mod alike_runs;
+pub(crate) mod alike_structures;
 pub(crate) mod answer;
 pub(crate) mod bare;
 pub(crate) mod brief;

@@ -14,6 +14,7 @@ use Rattle.ged_schema.specs.Tables.{context_below}
 use Rattle.ged_canon.specs.declared.edition.Edition.{Edition}
 use Rattle.ged_canon.specs.inner.Working.{falls, put, used_trees, brief_structure, sorted, sorted_document}
 use Rattle.std.specs.Prelude.{⊤, nat_le, not, codes, bytes_eq}
+use Rattle.ged_canon.specs.inner.Paired.{Bare}
 use Rattle.ged_canon.proofs.theory.Heads.{parts}
 use Rattle.ged_canon.proofs.theory.Fixed.{with_others}
 use Rattle.ged_canon.proofs.theory.Used.{none_some, with_xref_here}
@@ -33,11 +34,6 @@ stands level s below next h =
     let c = and_parts (nat_le level 99 && (is_tag s.tag && not (bytes_eq s.tag (codes "CONT")))) (is_xref_at level s.xref && is_payload_at level s.payload) a.0 in
     let d = and_parts (is_xref_at level s.xref) (is_payload_at level s.payload) c.1 in
     record { tagged = c.0; named = d.0; carried = d.1; below_stands = b.0; next_stands = b.1 }
-
--- nothing has an identifier, at any depth
-abbrev pub Bare : Trees → Type 0
-Bare none = ⊤
-Bare (tree s below next) = (s.xref ≡ None) × Bare below × Bare next
 
 -- nothing below the trees side by side has one
 abbrev pub BareBelow : Trees → Type 0
@@ -70,7 +66,7 @@ put_bare s b (tree x y xs) h k l = by (falls s.tag x.tag) (put_bare s b xs h k l
     by true r = (l.0, l.1, r)
     by false r = (h, k, l)
 
-sorted_bare : (edition : Edition) (context : Context) (xs : Trees) → Bare xs → Bare (sorted edition context xs)
+pub sorted_bare : (edition : Edition) (context : Context) (xs : Trees) → Bare xs → Bare (sorted edition context xs)
 sorted_bare edition context none h = tt
 sorted_bare edition context (tree s below next) h = put_bare (brief_structure edition context s) (sorted edition (context_below context s.tag) below) (sorted edition context next) h.0 (sorted_bare edition (context_below context s.tag) below h.1) (sorted_bare edition context next h.2)
 

@@ -65,7 +65,7 @@ used_trees_renamed f used used' (tree s below next) h =
 pub used_renamed : (f : Bytes → Bytes) (d : Trees) → ((name target : Bytes) → IsAmong name (xrefs d) → IsNamed d target → f target ≡ f name → target ≡ name) → used_document (renamed f d) ≡ renamed f (used_document d)
 used_renamed f d h = used_trees_renamed f (is_named d) (is_named (renamed f d)) d (λ name k. is_named_renamed f name d (λ target q. h name target k q))
 
-brief_renamed : (f : Bytes → Bytes) (edition : Edition) (r : Option Row) (p : Payload) → brief edition r (renamed_payload f p) ≡ renamed_payload f (brief edition r p)
+pub brief_renamed : (f : Bytes → Bytes) (edition : Edition) (r : Option Row) (p : Payload) → brief edition r (renamed_payload f p) ≡ renamed_payload f (brief edition r p)
 brief_renamed f edition r Void = refl
 brief_renamed f edition r (Pointer name) = refl
 brief_renamed f edition r (Text []) = refl

@@ -31,10 +31,15 @@ module _ (used other_used : Bytes → Bool) (edition other_edition : Edition) (n
   pub same_count : (xs ys : List RankedSibling) → numbered_siblings used edition names d xs ≡ numbered_siblings other_used other_edition other_names e ys → length xs ≡ length ys
   same_count xs ys h = sym (siblings_count used edition names d xs) ∙ ap count h ∙ siblings_count other_used other_edition other_names e ys
 
-  -- the first of them have the same lines
+  -- the first of them are equal
   pub same_first : (x y : RankedSibling) (xs ys : List RankedSibling) → numbered_siblings used edition names d (x ∷ xs) ≡ numbered_siblings other_used other_edition other_names e (y ∷ ys)
-      → spelled_siblings used edition names d (x ∷ []) ≡ spelled_siblings other_used other_edition other_names e (y ∷ [])
-  same_first x y xs ys h = ap (λ t. spelled_lines (lines_of 0 (first_tree t))) h
+      → numbered_siblings used edition names d (x ∷ []) ≡ numbered_siblings other_used other_edition other_names e (y ∷ [])
+  same_first x y xs ys h = ap first_tree h
+
+  -- equal siblings have the same lines
+  pub same_lines : (xs ys : List RankedSibling) → numbered_siblings used edition names d xs ≡ numbered_siblings other_used other_edition other_names e ys
+      → spelled_siblings used edition names d xs ≡ spelled_siblings other_used other_edition other_names e ys
+  same_lines xs ys h = ap (λ t. spelled_lines (lines_of 0 t)) h
 
   -- the others are equal
   pub same_others : (x y : RankedSibling) (xs ys : List RankedSibling) → numbered_siblings used edition names d (x ∷ xs) ≡ numbered_siblings other_used other_edition other_names e (y ∷ ys)

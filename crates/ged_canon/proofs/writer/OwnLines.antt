@@ -198,7 +198,7 @@ lines_with level s xref h named =
 
 -- Further lines, one by one.
 
-at_is : (xs : List Bytes) (k : ℕ) (x : Bytes) → k < length xs → slice_get xs k ≡ Some x → get_or xs k x ≡ x
+pub at_is : (xs : List Bytes) (k : ℕ) (x : Bytes) → k < length xs → slice_get xs k ≡ Some x → get_or xs k x ≡ x
 at_is xs k x within e = let q : Some (get_or xs k x) ≡ Some x = sym (slice_get-get_or xs k x within) ∙ e in cc
 
 pub plain_at : (xs : List Bytes) (k : ℕ) (x : Bytes) → list_all is_plain xs ≡ true → k < length xs → slice_get xs k ≡ Some x → is_plain x ≡ true

@@ -129,7 +129,7 @@ pub next_left : (xs : List RankedSibling) (n : ℕ) (next : RankedSibling) → n
 next_left xs n next h is = drop_more xs n next h ∙ ap (λ (first : RankedSibling). first ∷ drop (n + 1) xs) (sym is)
 
 -- where all identifiers are kept
-kept_xref : (x : Option Bytes) → used_xref (λ name. true) x ≡ x
+pub kept_xref : (x : Option Bytes) → used_xref (λ name. true) x ≡ x
 kept_xref None = refl
 kept_xref (Some name) = refl
 

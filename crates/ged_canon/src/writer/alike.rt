@@ -11,6 +11,7 @@ ghost use Rattle.ged_canon.specs.inner.Written.{written};
 ghost use Rattle.ged_canon.specs.inner.CanonBytes.{AreNamed, CanWriteRecords, TellsSame, spelled_siblings};
 
 use crate::edition::Edition;
+use crate::writer::alike_runs::{PairWork, are_records_alike};
 use crate::writer::answer::Answer;
 use crate::writer::document::document_siblings;
 use crate::writer::plan::{Plan, Work, Writer};
@@ -62,12 +63,6 @@ fn drop_same(
     ensures empty { OnOk result (written file.now answer.new ≡ []) }
     ensures other_empty { OnOk result (written other_file.now other.new ≡ []) }
 {
-    if let (Some(run), Some(other_run)) = (answer.sole_run(file), other.sole_run(other_file)) {
-        let same = run == other_run;
-        answer.clear();
-        other.clear();
-        return Ok(same);
-    }
     let form = answer.take_form(alloc, file)?;
     let other_form = other.take_form(alloc, other_file)?;
     let same = form.has_bytes_of(&other_form);
@@ -76,36 +71,103 @@ fn drop_same(
     Ok(same)
 }
 
-/// Whether HEAD and the records of two documents, of which there are as many, have the same lines. Each is written alone, up to the first
-/// that differs, in the memory of the one before it.
+/// What changes while records of two documents are compared: what is written of one record of each, where they are written, and the text that
+/// takes its new identifier.
+#[derive(Drop)]
+struct RecordWork {
+    pairs: PairWork,
+    work: Work,
+    other_work: Work,
+    name: String,
+}
+
+impl RecordWork {
+    /// Of records of which nothing is compared yet. Takes no memory.
+    fn new(alloc: Global) -> Self
+        ensures empty { (file : Bytes) → written file result.work.answer ≡ [] }
+        ensures other_empty { (file : Bytes) → written file result.other_work.answer ≡ [] }
+    {
+        RecordWork {
+            pairs: PairWork::new(alloc),
+            work: Work::new(alloc, Answer::none(alloc)),
+            other_work: Work::new(alloc, Answer::none(alloc)),
+            name: String::new(alloc),
+        }
+    }
+}
+
+/// Whether two records, or both HEADs, have the same lines, with what stands below them. Each is written alone, in the memory of the one
+/// before it.
+#[inline(never)]
+fn are_written_alike<F: Forest, G: Forest>(
+    first: &Writer<'_, '_, F>,
+    sibling: RankedSibling,
+    second: &Writer<'_, '_, G>,
+    other: RankedSibling,
+    work: &mut RecordWork,
+) -> Result<bool, AllocError>
+    requires first { CanWriteRecords (is_named (F.trees first.now.forest.now)) first.now.plan.edition (F.trees first.now.forest.now) (sibling ∷ []) }
+    requires second { CanWriteRecords (is_named (G.trees second.now.forest.now)) second.now.plan.edition (G.trees second.now.forest.now) (other ∷ []) }
+    requires empty { written first.now.plan.file.now work.old.work.answer ≡ [] }
+    requires other_empty { written second.now.plan.file.now work.old.other_work.answer ≡ [] }
+    ensures empty { OnOk result (written first.now.plan.file.now work.new.work.answer ≡ []) }
+    ensures other_empty { OnOk result (written second.now.plan.file.now work.new.other_work.answer ≡ []) }
+    ensures same { IfOk result (TellsSame (F.trees first.now.forest.now) first.now.plan (sibling ∷ []) (G.trees second.now.forest.now) second.now.plan (other ∷ [])) }
+{
+    let file = first.plan.file;
+    let other_file = second.plan.file;
+    first.write_alone(sibling, &mut work.name, &mut work.work)?;
+    second.write_alone(other, &mut work.name, &mut work.other_work)?;
+    drop_same(
+        first.plan.alloc,
+        file,
+        &mut work.work.answer,
+        other_file,
+        &mut work.other_work.answer,
+    )
+}
+
+/// The same. Most are told to be the same by their structures, where these stand, and not written.
+fn are_same_records<F: Forest, G: Forest>(
+    first: &Writer<'_, '_, F>,
+    sibling: RankedSibling,
+    second: &Writer<'_, '_, G>,
+    other: RankedSibling,
+    work: &mut RecordWork,
+) -> Result<bool, AllocError>
+    requires edition { first.now.plan.edition ≡ second.now.plan.edition }
+    requires first { CanWriteRecords (is_named (F.trees first.now.forest.now)) first.now.plan.edition (F.trees first.now.forest.now) (sibling ∷ []) }
+    requires second { CanWriteRecords (is_named (G.trees second.now.forest.now)) second.now.plan.edition (G.trees second.now.forest.now) (other ∷ []) }
+    requires empty { written first.now.plan.file.now work.old.work.answer ≡ [] }
+    requires other_empty { written second.now.plan.file.now work.old.other_work.answer ≡ [] }
+    ensures empty { OnOk result (written first.now.plan.file.now work.new.work.answer ≡ []) }
+    ensures other_empty { OnOk result (written second.now.plan.file.now work.new.other_work.answer ≡ []) }
+    ensures same { IfOk result (TellsSame (F.trees first.now.forest.now) first.now.plan (sibling ∷ []) (G.trees second.now.forest.now) second.now.plan (other ∷ [])) }
+{
+    if are_records_alike(first, second, sibling, other, &mut work.pairs)? {
+        return Ok(true);
+    }
+    are_written_alike(first, sibling, second, other, work)
+}
+
+/// Whether HEAD and the records of two documents, of which there are as many, have the same lines. They are compared up to the first that
+/// differs.
 fn are_alike<F: Forest, G: Forest>(
     first: &Writer<'_, '_, F>,
     siblings: &[RankedSibling],
     second: &Writer<'_, '_, G>,
     others: &[RankedSibling],
 ) -> Result<bool, AllocError>
+    requires edition { first.now.plan.edition ≡ second.now.plan.edition }
     requires first { CanWriteRecords (is_named (F.trees first.now.forest.now)) first.now.plan.edition (F.trees first.now.forest.now) siblings.now }
     requires second { CanWriteRecords (is_named (G.trees second.now.forest.now)) second.now.plan.edition (G.trees second.now.forest.now) others.now }
     requires count { length siblings.now ≡ length others.now }
     ensures { IfOk result (TellsSame (F.trees first.now.forest.now) first.now.plan siblings.now (G.trees second.now.forest.now) second.now.plan others.now) }
 {
-    let alloc = first.plan.alloc;
-    let mut work = Work::new(alloc, Answer::none(alloc));
-    let mut other_work = Work::new(alloc, Answer::none(alloc));
-    let mut name = String::new(alloc);
+    let mut work = RecordWork::new(first.plan.alloc);
     let mut number = 0;
     while number < siblings.len() {
-        first.write_alone(siblings[number], &mut name, &mut work)?;
-        second.write_alone(others[number], &mut name, &mut other_work)?;
-        let (file, other_file) = (first.plan.file, second.plan.file);
-        let same = drop_same(
-            alloc,
-            file,
-            &mut work.answer,
-            other_file,
-            &mut other_work.answer,
-        )?;
-        if !same {
+        if !are_same_records(first, siblings[number], second, others[number], &mut work)? {
             return Ok(false);
         }
         number += 1;

@@ -1,5 +1,5 @@
 // The answer of a writer: the bytes of a form, as far as they are written.
-ghost use Rattle.std.specs.Prelude.{◌≡◌, ◌<◌, ◌≤◌, ◌+◌, ◌++◌, ◌∷◌, [], IfOk, IfSome, OnOk, None, Some, true, length, decimal, codes, slice_range};
+ghost use Rattle.std.specs.Prelude.{◌≡◌, ◌<◌, ◌≤◌, ◌+◌, ◌++◌, ◌∷◌, [], IfOk, OnOk, None, Some, true, length, decimal, codes, slice_range};
 ghost use Rattle.std.specs.Option.{option_copied};
 ghost use Rattle.std.specs.List.{list_all};
 ghost use Rattle.ged_line.specs.Bytes.{line_feed, space};
@@ -74,29 +74,6 @@ impl Answer {
             start: 0,
             end: 0,
         }
-    }
-
-    /// All that is written, where it is one run of the file, or nothing.
-    #[inline(always)]
-    pub(crate) fn sole_run<'f>(&self, file: &'f [u8]) -> Option<&'f [u8]>
-        ensures { IfSome result (λ run. run.now ≡ written file.now self.now) }
-    {
-        if self.pieced.runs.is_empty() && self.pieced.made.is_empty() {
-            file.get(self.start..self.end)
-        } else {
-            None
-        }
-    }
-
-    /// Drops what is written.
-    #[inline(always)]
-    pub(crate) fn clear(&mut self)
-        ensures { (file : Bytes) → written file self.new ≡ [] }
-    {
-        self.pieced.runs.clear();
-        self.pieced.made.clear();
-        self.pieced.placed = 0;
-        self.start = self.end;
     }
 
     /// All that is written, as a form of its own; what is written afterwards is written behind nothing.

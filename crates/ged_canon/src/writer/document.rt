@@ -64,7 +64,7 @@ pub(crate) fn document_siblings<F: Forest>(
 
 impl<F: Forest> Writer<'_, '_, F> {
     /// The new number of the record at a place, or 0 where it gets none. The record's line is not read.
-    fn own_number(&self, place: usize, records: &mut RecordCursor) -> usize
+    pub(crate) fn own_number(&self, place: usize, records: &mut RecordCursor) -> usize
         requires { place < trees_count (F.trees self.now.forest.now) }
         ensures { (names : List Bytes) → IsNumberingOf (F.trees self.now.forest.now) names self.now.plan.index.now self.now.plan.numbers.now → result ≡ number_at names (structure_at (F.trees self.now.forest.now) place).xref }
     {

@@ -96,7 +96,7 @@ fn is_kept<F: Forest>(forest: &F, edition: Edition, rule: Option<&Rule>, place: 
 
 /// The name in the pointer that stands behind a tag, as the canonical spelling has both.
 #[inline(always)]
-fn name_behind<'a>(rest: &'a str, tag: &str) -> &'a str
+pub(crate) fn name_behind<'a>(rest: &'a str, tag: &str) -> &'a str
     requires { (name : Bytes) × (rest.now ≡ tag.now ++ value_part (Pointer name)) }
     ensures { (name : Bytes) → rest.now ≡ tag.now ++ value_part (Pointer name) → result.now ≡ name }
 {

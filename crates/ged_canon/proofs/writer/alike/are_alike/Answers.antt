@@ -1,4 +1,4 @@
-use Rattle.std.proofs.Common.{◌≡◌, ◌+◌, ◌<◌, true, false, rules, List, [], ◌∷◌, drop, length, get_or, refl, sym, ap, ◌∙◌, subst, arith}
+use Rattle.std.proofs.Common.{◌≡◌, ◌+◌, ◌<◌, List, [], ◌∷◌, drop, length, get_or, refl, sym, ap, ◌∙◌, subst, arith}
 use Rattle.std.specs.List.{AllByRecursion}
 use Rattle.std.proofs.lemmas.Bool.{false≢true}
 use Rattle.std.proofs.lemmas.List.{drop_all, get_or_default}
@@ -13,8 +13,8 @@ use Rattle.ged_canon.proofs.writer.Records.{first_stands, others_stand}
 use Rattle.ged_canon.proofs.writer.RunsWritten.{next_left}
 use Rattle.ged_canon.proofs.writer.alike.are_alike.Goals as goal
 
-pub write_alone-requires-clause-stands : goal.write_alone-requires-clause-stands
-write_alone-requires-clause-stands g c =
+pub are_same_records-requires-clause-first : goal.are_same_records-requires-clause-first
+are_same_records-requires-clause-first g c =
     let d = g.F.Forest.trees c.args.first.now.forest.now in
     let edition = c.args.first.now.plan.edition in
     let xs = c.args.siblings.now in
@@ -30,8 +30,8 @@ write_alone-requires-clause-stands g c =
           (ap (λ (zs : List RankedSibling). are_at 0 (sibling_trees (is_named d) edition File d zs)) (sym split) ∙ c.loop-number.invariant.stand);
     }
 
-pub write_alone-requires-in-loop-number-clause-stands : goal.write_alone-requires-in-loop-number-clause-stands
-write_alone-requires-in-loop-number-clause-stands g c =
+pub are_same_records-requires-clause-second : goal.are_same_records-requires-clause-second
+are_same_records-requires-clause-second g c =
     let e = g.G.Forest.trees c.args.second.now.forest.now in
     let edition = c.args.second.now.plan.edition in
     let ys = c.args.others.now in
@@ -48,8 +48,8 @@ write_alone-requires-in-loop-number-clause-stands g c =
           (ap (λ (zs : List RankedSibling). are_at 0 (sibling_trees (is_named e) edition File e zs)) (sym split) ∙ c.loop-number.invariant.others_stand);
     }
 
-pub returns-then-not-same : goal.returns-then-not-same
-returns-then-not-same g c = λ names other_names numbering named other_numbering other_named.
+pub returns-then-not-branch : goal.returns-then-not-branch
+returns-then-not-branch g c = λ names other_names numbering named other_numbering other_named.
     let d = g.F.Forest.trees c.args.first.now.forest.now in
     let e = g.G.Forest.trees c.args.second.now.forest.now in
     let edition = c.args.first.now.plan.edition in
@@ -67,9 +67,7 @@ returns-then-not-same g c = λ names other_names numbering named other_numbering
           let rest = (c.loop-number.invariant.told names other_names numbering named other_numbering other_named).1 whole in
           let here = ap (numbered_siblings (is_named d) edition names d) (sym split) ∙ rest ∙ ap (numbered_siblings (is_named e) other_edition other_names e) other_split in
           let same = same_first (is_named d) (is_named e) edition other_edition names other_names d e x y (drop (at + 1) xs) (drop (at + 1) ys) here in
-          let equal = c.in_ok-write_alone.ensures.lines names numbering named ∙ same ∙ sym (c.in_ok-write_alone-2.ensures.lines other_names other_numbering other_named) in
-          let failed : c.in_ok-same.same ≡ false = search rules in
-          sym failed ∙ c.in_ok-same.ensures.same.1 equal),
+          sym c.if-not-branch.true ∙ (c.in_ok-are_same_records.ensures.same names other_names numbering named other_numbering other_named).1 same),
     )
 
 pub loop-number-preserved : goal.loop-number-preserved
@@ -91,8 +89,8 @@ loop-number-preserved g c =
     let others_all : AllByRecursion (StandsRanked e) (y ∷ drop (at + 1) ys) =
     subst (λ (zs : List RankedSibling). AllByRecursion (StandsRanked e) zs) other_split c.loop-number.invariant.others_within in
     record {
-      empty = c.in_ok-same.ensures.empty;
-      other_empty = c.in_ok-same.ensures.other_empty;
+      empty = c.in_ok-are_same_records.ensures.empty;
+      other_empty = c.in_ok-are_same_records.ensures.other_empty;
       within = all.1;
       stand = others_stand (is_named d) edition d x (drop (at + 1) xs)
           (ap (λ (zs : List RankedSibling). are_at 0 (sibling_trees (is_named d) edition File d zs)) (sym split) ∙ c.loop-number.invariant.stand);
@@ -102,8 +100,7 @@ loop-number-preserved g c =
       told = λ names other_names numbering named other_numbering other_named.
           let (lines, equal) = c.loop-number.invariant.told names other_names numbering named other_numbering other_named in
           let same : spelled_siblings (is_named d) edition names d (x ∷ []) ≡ spelled_siblings (is_named e) other_edition other_names e (y ∷ []) =
-          (let passed : c.in_ok-same.same ≡ true = search rules in
-          sym (c.in_ok-write_alone.ensures.lines names numbering named) ∙ c.in_ok-same.ensures.same.0 passed ∙ c.in_ok-write_alone-2.ensures.lines other_names other_numbering other_named) in (
+          (c.in_ok-are_same_records.ensures.same names other_names numbering named other_numbering other_named).0 c.if-not-branch.false in (
             (λ left.
                 lines (ap (spelled_siblings (is_named d) edition names d) split
                 ∙ all_spelled (is_named d) (is_named e) edition other_edition names other_names d e x y (drop (at + 1) xs) (drop (at + 1) ys) same left

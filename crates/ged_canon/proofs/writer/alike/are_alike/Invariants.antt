@@ -17,8 +17,8 @@ invariant-loop-number g l =
     let left = drop l.number l.siblings in
     let others = drop l.number l.others in
     record {
-      empty : written l.first.plan.file.now l.work.answer ≡ [];
-      other_empty : written l.second.plan.file.now l.other_work.answer ≡ [];
+      empty : written l.first.plan.file.now l.work.work.answer ≡ [];
+      other_empty : written l.second.plan.file.now l.work.other_work.answer ≡ [];
       within : AllByRecursion (StandsRanked d) left;
       stand : are_at 0 (sibling_trees (is_named d) l.first.plan.edition File d left) ≡ true;
       others_within : AllByRecursion (StandsRanked e) others;
