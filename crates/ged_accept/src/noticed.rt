@@ -1,5 +1,6 @@
 // The notices of an accepted file, and the text that tells them.
-ghost use Rattle.std.specs.Prelude.{◌≡◌, ◌++◌, OnOk, IfOk};
+ghost use Rattle.std.specs.Prelude.{◌≡◌, ◌++◌, ◌∷◌, [], OnOk, IfOk, codes};
+ghost use Rattle.ged_line.specs.Bytes.{line_feed};
 ghost use Rattle.ged_accept.specs.Notices.{AreNotices, IsVerdict};
 ghost use Rattle.ged_accept.specs.Notices.{notice_words as words_of_kind, notice_line as line_of_notice};
 ghost use Rattle.ged_accept.specs.inner.Merges.{IsMerge};
@@ -9,6 +10,12 @@ use ged_link::{Notice, NoticeKind, one_way};
 use ged_schema::{Coverage, unlisted};
 use itoa::Buffer;
 use std::alloc::{AllocError, Global};
+
+/// The last line of a verdict.
+const ACCEPTED: &[u8] = b"accepted\n";
+
+/// How many bytes the line of a notice has, a little more than most.
+const BYTES_PER_NOTICE: usize = 28;
 
 /// All notices of an accepted file, in the order of their lines. No line has two. Grows
 /// (FamilySearch GEDCOM 7.0, "Structure Organization").
@@ -21,6 +28,9 @@ pub fn notices(alloc: Global, accepted: &Accepted<'_>) -> Result<Vec<Notice>, Al
         Coverage::Whole => Ok(links),
         Coverage::Partial => {
             let tags = unlisted(alloc, flat)?;
+            if links.is_empty() {
+                return Ok(tags);
+            }
             merge(alloc, &links, &tags)
         }
     }
@@ -30,7 +40,7 @@ pub fn notices(alloc: Global, accepted: &Accepted<'_>) -> Result<Vec<Notice>, Al
 fn merge(alloc: Global, first: &[Notice], second: &[Notice]) -> Result<Vec<Notice>, AllocError>
     ensures { IfOk result (λ merged. IsMerge first.now second.now merged.items) }
 {
-    let mut merged = Vec::new(alloc);
+    let mut merged = Vec::with_capacity(alloc, first.len().saturating_add(second.len()))?;
     let mut left = first;
     let mut right = second;
     while let ([x, xs @ ..], [y, ys @ ..]) = (left, right) {
@@ -47,12 +57,14 @@ fn merge(alloc: Global, first: &[Notice], second: &[Notice]) -> Result<Vec<Notic
     Ok(merged)
 }
 
-fn notice_words(kind: NoticeKind) -> &'static str
-    ensures { result.now ≡ words_of_kind kind }
+/// What stands behind the number in the line of a notice. Both ends are of one length, so that neither is copied by a call.
+#[inline(always)]
+fn end_of_line(kind: NoticeKind) -> &'static [u8; 15]
+    ensures { result.now ≡ codes ": " ++ (words_of_kind kind ++ line_feed ∷ []) }
 {
     match kind {
-        NoticeKind::OneWay => "one-way link",
-        NoticeKind::Unlisted => "unlisted tag",
+        NoticeKind::OneWay => b": one-way link\n",
+        NoticeKind::Unlisted => b": unlisted tag\n",
     }
 }
 
@@ -63,9 +75,7 @@ fn push_notice(notice: Notice, out: &mut Vec<u8>) -> Result<(), AllocError>
     let mut buffer = Buffer::new();
     out.extend_from_slice(b"line ")?;
     out.extend_from_slice(buffer.format(notice.line).as_bytes())?;
-    out.extend_from_slice(b": ")?;
-    out.extend_from_slice(notice_words(notice.kind).as_bytes())?;
-    out.push(b'\n')?;
+    out.extend_from_slice(end_of_line(notice.kind))?;
     Ok(())
 }
 
@@ -73,10 +83,12 @@ fn push_notice(notice: Notice, out: &mut Vec<u8>) -> Result<(), AllocError>
 pub fn verdict(alloc: Global, accepted: &Accepted<'_>) -> Result<Vec<u8>, AllocError>
     ensures { IfOk result (λ text. IsVerdict accepted.now text.items) }
 {
-    let mut out = Vec::new(alloc);
-    for notice in &notices(alloc, accepted)? {
+    let all = notices(alloc, accepted)?;
+    let room = all.len().saturating_mul(BYTES_PER_NOTICE);
+    let mut out = Vec::with_capacity(alloc, room.saturating_add(ACCEPTED.len()))?;
+    for notice in &all {
         push_notice(*notice, &mut out)?;
     }
-    out.extend_from_slice(b"accepted\n")?;
+    out.extend_from_slice(ACCEPTED)?;
     Ok(out)
 }
