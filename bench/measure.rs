@@ -1,6 +1,6 @@
 //! `measure ROUNDS FILE.. -- NAME PROGRAM WORD.. -- NAME PROGRAM WORD..` runs each program on each file, with the
 //! file's name after its words, and for each `{}` in a word that name, and its output thrown away, and prints a table
-//! of what each took.
+//! of what each took. Before a program may stand the variables that are set for it, each as `VARIABLE=VALUE`.
 //!
 //! All runs are interleaved: a round runs every command on every file once, so that other work on the machine
 //! falls on all of them alike. CPU time (user and system) is the best of the rounds, peak memory the greatest.
@@ -35,6 +35,7 @@ struct Cost {
 
 struct Tool<'a> {
     name: &'a str,
+    variables: &'a [String],
     program: &'a str,
     words: &'a [String],
 }
@@ -67,9 +68,11 @@ fn main() -> Result<()> {
 fn read_words(words: &[String]) -> Option<(usize, &[String], Vec<Tool<'_>>)> {
     let mut groups = words.split(|word| word == "--");
     let (rounds, files) = groups.next()?.split_first()?;
-    let tools = groups.map(|group| match group {
-        [name, program, words @ ..] => Some(Tool { name, program, words }),
-        _ => None,
+    let tools = groups.map(|group| {
+        let (name, words) = group.split_first()?;
+        let (variables, words) = words.split_at(words.iter().take_while(|word| word.contains('=')).count());
+        let (program, words) = words.split_first()?;
+        Some(Tool { name, variables, program, words })
     });
     Some((rounds.parse().ok()?, files, tools.collect::<Option<_>>()?))
 }
@@ -77,6 +80,7 @@ fn read_words(words: &[String]) -> Option<(usize, &[String], Vec<Tool<'_>>)> {
 /// Runs the tool once on the file. A status other than 0 and 1 (a fault of the file) is an error.
 fn run(tool: &Tool<'_>, input: &Input) -> Result<Cost> {
     let child = Command::new(tool.program)
+        .envs(tool.variables.iter().filter_map(|each| each.split_once('=')))
         .args(tool.words.iter().map(|word| word.replace("{}", &input.path)))
         .arg(&input.path)
         .stdin(Stdio::null())
