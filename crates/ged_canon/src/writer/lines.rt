@@ -35,6 +35,9 @@ use ged_tree::{Forest, OwnLine, PayloadView};
 use itoa::Buffer;
 use std::alloc::AllocError;
 
+/// How many bytes stand before the name of a record's identifier, in a line of the canonical form.
+const BEFORE_IDENTIFIER: usize = "0 @".len();
+
 /// Makes a text the identifier that is X and the number.
 pub(crate) fn put_identifier(number: usize, text: &mut String) -> Result<(), AllocError>
     requires { 0 < number }
@@ -301,6 +304,13 @@ impl<F: Forest> Writer<'_, '_, F> {
         Ok(true)
     }
 
+    /// Whether the identifier of the record at a place may begin with X, told by the byte of the file where it mostly begins.
+    #[inline(always)]
+    fn may_be_numbered(&self, place: usize) -> bool {
+        let at = self.lines.start_of(place).saturating_add(BEFORE_IDENTIFIER);
+        self.lines.text().get(at) == Some(&b'X')
+    }
+
     /// Whether the record at a place has a number for its identifier already, so that its line may stand in the file as it is written. No
     /// clause rests on it.
     #[inline(always)]
@@ -308,6 +318,9 @@ impl<F: Forest> Writer<'_, '_, F> {
         requires within { place < trees_count (F.trees self.now.forest.now) }
         requires number { 0 < number }
     {
+        if !self.may_be_numbered(place) {
+            return false;
+        }
         match self.forest.xref(place) {
             Some(name) => is_numbered(name, number),
             None => false,
