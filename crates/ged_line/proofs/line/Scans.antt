@@ -204,6 +204,20 @@ plain_after_xref bytes (Some name) rest x n =
 abbrev pub CutsTag : List ℕ → List ℕ → List ℕ → Type 0
 CutsTag rest tag more = (is_tag tag ≡ true) × (((rest ≡ tag) × (more ≡ [])) ⊎ (rest ≡ tag ++ (32 ∷ more)))
 
+-- no identifier stands before a tag
+pub no_xref_before : (rest tag more : List ℕ) → CutsTag rest tag more → IsXrefCut rest None rest
+no_xref_before rest [] more (t, _) = cc
+no_xref_before rest (b ∷ tag) more (t, cut) = (
+  refl,
+  λ begins.
+      let first : b ≡ 64 = elim cut [
+        | inl e ↦ (let both : 64 ∷ begins.0 ≡ b ∷ tag = sym begins.1 ∙ e.0 in cc)
+        | inr e ↦ (let both : 64 ∷ begins.0 ≡ b ∷ (tag ++ (32 ∷ more)) = sym begins.1 ∙ e in cc)
+      ] in
+      let sign : is_tag (64 ∷ tag) ≡ true = rw first at t in
+      cc,
+)
+
 plain_after_tag : (rest tag more : List ℕ) → CutsTag rest tag more → NoCharPasses is_banned rest → NoCharPasses is_banned more
 plain_after_tag rest tag more (t, inl e) n = subst (λ b. NoCharPasses is_banned b) (sym e.1) (NoCharPasses-nil is_banned)
 plain_after_tag rest tag more (t, inr e) n =

@@ -240,6 +240,23 @@ fn view_value(text: &str) -> Result<ValueView<'_>, LineFault>
     }
 }
 
+/// The line that a text is which has a level of one digit, no identifier, a tag of four letters and a value, as most have; or `None` for any
+/// other text. That there is all this is told by the first eight bytes, so that the length is looked at once.
+#[inline(always)]
+fn view_usual(text: &str) -> Option<LineView<'_>>
+    requires { tests_banned text.now ≡ false }
+    ensures { IfSome result (λ line. LineText line text.now) }
+{
+    let [unit @ b'0'..=b'9', b' ', _, _, _, _, b' ', _, ..] = text.as_bytes() else {
+        return None;
+    };
+    let (tag, value) = cut_letters(&text[2..])?;
+    match view_value(value) {
+        Ok(value) => Some(LineView::of_parts(*unit - b'0', None, tag, value)),
+        Err(_) => None,
+    }
+}
+
 /// The line that a text is, as slices of it, or the lowest fault that stands at it, where no character of the text is
 /// banned. Takes no memory (FamilySearch GEDCOM 7.0, "Lines").
 #[inline(always)]
@@ -247,6 +264,9 @@ pub fn view_text(text: &str) -> Result<LineView<'_>, LineFault>
     requires { tests_banned text.now ≡ false }
     ensures { MatchResult result (λ line. LineText line text.now) (λ fault. IsFaultOf fault text.now) }
 {
+    if let Some(line) = view_usual(text) {
+        return Ok(line);
+    }
     if text.is_empty() {
         return Err(LineFault::EmptyLine);
     }
