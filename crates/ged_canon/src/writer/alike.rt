@@ -114,15 +114,13 @@ fn are_written_alike<F: Forest, G: Forest>(
     ensures other_empty { OnOk result (written second.now.plan.file.now work.new.other_work.answer ≡ []) }
     ensures same { IfOk result (TellsSame (F.trees first.now.forest.now) first.now.plan (sibling ∷ []) (G.trees second.now.forest.now) second.now.plan (other ∷ [])) }
 {
-    let file = first.plan.file;
-    let other_file = second.plan.file;
     first.write_alone(sibling, &mut work.name, &mut work.work)?;
     second.write_alone(other, &mut work.name, &mut work.other_work)?;
     drop_same(
         first.plan.alloc,
-        file,
+        first.plan.file,
         &mut work.work.answer,
-        other_file,
+        second.plan.file,
         &mut work.other_work.answer,
     )
 }

@@ -10,7 +10,7 @@ ghost use Rattle.ged_canon.specs.inner.Paired.{AreAlike, ByNames};
 use crate::writer::lines::name_behind;
 use crate::writer::numbers::new_number_at;
 use crate::writer::plan::Writer;
-use crate::writer::same::are_same;
+use crate::writer::same::is_same_text;
 use ged_line::is_same_tag;
 use ged_link::{PointerCursor, RecordCursor};
 use ged_tree::{Forest, PayloadView};
@@ -34,14 +34,6 @@ impl PairCursors {
             other_records: RecordCursor::new(),
         }
     }
-}
-
-/// Whether two texts are the same.
-#[inline(always)]
-fn is_same_text(text: &[u8], other: &[u8]) -> bool
-    ensures { IsTrue result → text.now ≡ other.now }
-{
-    text.len() == other.len() && are_same(text, other)
 }
 
 /// Whether the structures at two places, which have nothing but their own lines, are told to be the same by these lines, as they stand in the

@@ -14,7 +14,8 @@ use crate::writer::letters::has_g;
 use crate::writer::plan::Writer;
 use ged_tree::Forest;
 
-/// Whether the tag of a line, which stands behind two bytes, may be DATE or SDATE: its first two letters tell enough.
+/// Whether the tag of a line, which stands behind two bytes, may be DATE or SDATE: its first two letters tell enough. They are compared
+/// together, since many tags begin with one of their first letters alone.
 #[inline(always)]
 fn may_begin_dated(line: &[u8]) -> bool
     ensures date { result ≡ false → (a b : ℕ) (more : Bytes) → line.now ≡ a ∷ b ∷ 68 ∷ 65 ∷ more → ⊥ }
@@ -23,10 +24,8 @@ fn may_begin_dated(line: &[u8]) -> bool
     let &[_, _, first, second, ..] = line else {
         return true;
     };
-    if first == b'D' {
-        return second == b'A';
-    }
-    first == b'S' && second == b'D'
+    let pair = u16::from_be_bytes([first, second]);
+    pair == u16::from_be_bytes(*b"DA") || pair == u16::from_be_bytes(*b"SD")
 }
 
 /// Whether nothing can be left out in a line of the first edition, whatever the context: only the name of a calendar is left out there,

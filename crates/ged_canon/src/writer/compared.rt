@@ -53,18 +53,6 @@ fn rank_order(first: &RankedSibling, other: &RankedSibling) -> Ordering
     first.rank.cmp(&other.rank)
 }
 
-/// Whether the rank of each sibling tells all of its tag.
-fn are_told(siblings: &[RankedSibling]) -> bool
-    ensures { IsTrue result → AllByRecursion IsTold siblings.now }
-{
-    for each in siblings {
-        if each.rank % 256 > 8 {
-            return false;
-        }
-    }
-    true
-}
-
 /// Puts siblings whose ranks tell all of their tags in the order of these; those with one tag keep their order. Takes memory for
 /// more than 20.
 #[inline(always)]
@@ -165,18 +153,20 @@ fn compare_any<F: Forest>(
 }
 
 /// Puts siblings in the order of their tags by comparing them; those with one tag keep their order. Long tags are rare: where there are
-/// none, ranks alone are compared. Takes memory for some long tags, and for more than 20 siblings.
+/// none, which it is given, ranks alone are compared. Takes memory for some long tags, and for more than 20 siblings.
 #[inline(always)]
 pub(crate) fn compare_siblings<F: Forest>(
     alloc: Global,
     forest: &F,
     siblings: &mut [RankedSibling],
+    are_told: bool,
 ) -> Result<(), AllocError>
-    requires { AllByRecursion (StandsRanked (F.trees forest.now)) siblings.old }
+    requires stand { AllByRecursion (StandsRanked (F.trees forest.now)) siblings.old }
+    requires told { IsTrue are_told → AllByRecursion IsTold siblings.old }
     ensures permutation { IsPermutation siblings.old siblings.new }
     ensures trees { OnOk result (AreGrouped (F.trees forest.now) siblings.old siblings.new) }
 {
-    if are_told(siblings) {
+    if are_told {
         return compare_told(alloc, siblings);
     }
     compare_any(alloc, forest, siblings)

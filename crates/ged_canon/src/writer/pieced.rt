@@ -1,5 +1,5 @@
 // Runs of a file, and what was made between them.
-ghost use Rattle.std.specs.Prelude.{◌≡◌, ◌≤◌, ◌-◌, ◌++◌, ◌∷◌, [], IfOk, IfSome, OnOk, length, slice_range};
+ghost use Rattle.std.specs.Prelude.{◌≡◌, ◌≤◌, ◌-◌, ◌++◌, ◌∷◌, [], IfOk, IfSome, OnOk, length, take, drop, slice_range};
 ghost use Rattle.ged_canon.specs.SpelledForms.{joined_runs};
 ghost use Rattle.ged_canon.specs.inner.Runs.{ArePlaced};
 
@@ -87,14 +87,43 @@ impl Pieced {
             ≡ joined_runs file.now self.old.runs.items self.old.made.items ++ slice_range file.now start end) }
     {
         let Some(run) = run_of(self.made.len() - self.placed, start, end) else {
-            let (_, from) = front_of(file, start);
-            let (kept, _) = front_of(from, end - start);
-            return self.made.extend_from_slice(kept);
+            return push_part(&mut self.made, file, start, end - start);
         };
         self.runs.push(run)?;
         self.placed = self.made.len();
         Ok(())
     }
+}
+
+/// Appends so many bytes of a file from a place on, or as many as it has there. Few are copied as a whole block, by a few moves, and what is
+/// too much is taken away again: how many a line has can't be foreseen, so a branch on that would often be mispredicted.
+#[inline(always)]
+fn push_part(made: &mut Vec<u8>, file: &[u8], start: usize, count: usize) -> Result<(), AllocError>
+    ensures ok { OnOk result (made.new.items ≡ made.old.items ++ take count (drop start file.now)) }
+    ensures kept { length made.old.items ≤ length made.new.items }
+{
+    let (_, from) = front_of(file, start);
+    if count > SHORTEST_RUN {
+        return push_front(made, from, count);
+    }
+    let Some(block) = from.first_chunk::<SHORTEST_RUN>() else {
+        return push_front(made, from, count);
+    };
+    let length = made.len() + count;
+    made.extend_from_slice(block)?;
+    made.truncate(length);
+    Ok(())
+}
+
+/// The same of the first bytes of a text, of any number.
+#[cold]
+#[inline(never)]
+fn push_front(made: &mut Vec<u8>, text: &[u8], count: usize) -> Result<(), AllocError>
+    ensures ok { OnOk result (made.new.items ≡ made.old.items ++ take count text.now) }
+    ensures kept { length made.old.items ≤ length made.new.items }
+{
+    let (front, _) = front_of(text, count);
+    made.extend_from_slice(front)
 }
 
 /// A run from one place of the file up to another behind so many bytes that were made, or `None` where it is too short to be

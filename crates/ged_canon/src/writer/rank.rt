@@ -7,7 +7,7 @@ use ged_line::tag_order;
 use std::cmp::Ordering;
 
 /// How many bytes of a tag its rank has. Only longer tags of one rank need be read to be told apart.
-const BYTES_IN_RANK: usize = 7;
+pub(crate) const BYTES_IN_RANK: usize = 7;
 
 /// A structure among its siblings: the rank of its tag, and its place among all structures. The tag itself is asked of the forest where
 /// its rank does not tell all of it, so that what a sort moves is short.

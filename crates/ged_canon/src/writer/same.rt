@@ -86,3 +86,11 @@ pub(crate) fn are_same(text: &[u8], other: &[u8]) -> bool
     }
     are_same_few(text, other)
 }
+
+/// Whether two texts, of any lengths, are told to be the same.
+#[inline(always)]
+pub(crate) fn is_same_text(text: &[u8], other: &[u8]) -> bool
+    ensures { IsTrue result → text.now ≡ other.now }
+{
+    text.len() == other.len() && are_same(text, other)
+}

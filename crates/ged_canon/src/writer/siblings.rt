@@ -13,11 +13,11 @@ ghost use Rattle.ged_canon.specs.declared.edition.Edition.{Edition as AnyEdition
 ghost use Rattle.ged_link.specs.Links.{identifiers, xrefs, IsAmong, AreDistinct};
 ghost use Rattle.ged_link.specs.Indexes.{IsIndexOf};
 ghost use Rattle.ged_canon.specs.inner.Working.{grouped, sorted, each_sorted, used_trees, AreNumbersOf};
-ghost use Rattle.ged_canon.specs.inner.Siblings.{StandsRanked, AreGrouped, TellsUsed, sibling_trees, sibling_names};
+ghost use Rattle.ged_canon.specs.inner.Siblings.{StandsRanked, AreGrouped, IsTold, TellsUsed, sibling_trees, sibling_names};
 
 use crate::writer::compared::compare_siblings;
 use crate::writer::gathered::gather_siblings;
-use crate::writer::rank::{RankedSibling, rank_of};
+use crate::writer::rank::{BYTES_IN_RANK, RankedSibling, rank_of};
 use ged_link::{Index, RecordCursor};
 use ged_tree::{Forest, next_in_run};
 use std::alloc::{AllocError, Global};
@@ -43,41 +43,53 @@ pub(crate) fn ranked_sibling<F: Forest>(forest: &F, place: usize) -> RankedSibli
     RankedSibling { rank, place }
 }
 
-/// Appends the structure at a place. Grows.
+/// Whether the rank of a sibling's tag tells all of it: it has seven bytes or fewer.
+#[inline(always)]
+fn is_told(sibling: RankedSibling) -> bool
+    ensures { IsTrue result → IsTold sibling }
+{
+    sibling.rank % 256 <= BYTES_IN_RANK as u64 + 1
+}
+
+/// Appends the structure at a place, and answers whether the rank of its tag tells all of it. Grows.
 #[inline(always)]
 fn push_sibling<F: Forest>(
     forest: &F,
     place: usize,
     siblings: &mut Vec<RankedSibling>,
-) -> Result<(), AllocError>
+) -> Result<bool, AllocError>
     requires { place < trees_count (F.trees forest.now) }
-    ensures { OnOk result ((last : RankedSiblingData) × (siblings.new.items ≡ siblings.old.items ++ last ∷ [])
-        × (last.place ≡ place) × StandsRanked (F.trees forest.now) last) }
+    ensures { IfOk result (λ is_told. (last : RankedSiblingData) × (siblings.new.items ≡ siblings.old.items ++ last ∷ [])
+        × (last.place ≡ place) × StandsRanked (F.trees forest.now) last × (IsTrue is_told → IsTold last)) }
 {
-    siblings.push(ranked_sibling(forest, place))?;
-    Ok(())
+    let sibling = ranked_sibling(forest, place);
+    siblings.push(sibling)?;
+    Ok(is_told(sibling))
 }
 
-/// Appends the structures of a run in their own order. Grows.
+/// Appends the structures of a run in their own order, and answers whether the ranks of their tags tell all of these. Grows.
 fn push_siblings<F: Forest>(
     forest: &F,
     start: usize,
     end: usize,
     siblings: &mut Vec<RankedSibling>,
-) -> Result<(), AllocError>
+) -> Result<bool, AllocError>
     requires { IsRunOfTrees (F.trees forest.now) start end }
     ensures kept { OnOk result (take (length siblings.old.items) siblings.new.items ≡ siblings.old.items) }
     ensures within { OnOk result (AllByRecursion (StandsRanked (F.trees forest.now)) (drop (length siblings.old.items) siblings.new.items)) }
+    ensures told { IfOk result (λ are_told. IsTrue are_told → AllByRecursion IsTold (drop (length siblings.old.items) siblings.new.items)) }
     ensures count { OnOk result (length (drop (length siblings.old.items) siblings.new.items) ≡ length (identifiers (trees_between (F.trees forest.now) start end))) }
     ensures trees { (used : Bytes → Bool) (edition : AnyEdition) (context : AnyContext) →
         OnOk result (sibling_trees used edition context (F.trees forest.now) (drop (length siblings.old.items) siblings.new.items) ≡ each_sorted edition context (used_trees used (trees_between (F.trees forest.now) start end))) }
 {
+    let mut are_told = true;
     let mut place = start;
     while let Some(after) = next_in_run(forest, place, end) {
-        push_sibling(forest, place, siblings)?;
+        let is_told = push_sibling(forest, place, siblings)?;
+        are_told &= is_told;
         place = after;
     }
-    Ok(())
+    Ok(are_told)
 }
 
 /// Puts the siblings of a long run in the order of their tags, where they can be gathered, and answers whether it has; those with one tag
@@ -94,20 +106,23 @@ fn gather_long(alloc: Global, siblings: &mut [RankedSibling]) -> Result<bool, Al
     Ok(false)
 }
 
-/// Puts siblings in the order of their tags; those with one tag keep their order. Grows.
+/// Puts siblings in the order of their tags; those with one tag keep their order. It is given whether the ranks of their tags tell all of
+/// these. Grows.
 fn sort_siblings<F: Forest>(
     alloc: Global,
     forest: &F,
     siblings: &mut [RankedSibling],
+    are_told: bool,
 ) -> Result<(), AllocError>
-    requires { AllByRecursion (StandsRanked (F.trees forest.now)) siblings.old }
+    requires stand { AllByRecursion (StandsRanked (F.trees forest.now)) siblings.old }
+    requires told { IsTrue are_told → AllByRecursion IsTold siblings.old }
     ensures permutation { IsPermutation siblings.old siblings.new }
     ensures trees { OnOk result (AreGrouped (F.trees forest.now) siblings.old siblings.new) }
 {
     if gather_long(alloc, siblings)? {
         return Ok(());
     }
-    compare_siblings(alloc, forest, siblings)
+    compare_siblings(alloc, forest, siblings, are_told)
 }
 
 /// Appends the structures of a run in the order of their tags; those with one tag keep their order. Grows.
@@ -126,8 +141,8 @@ pub(crate) fn push_sorted<F: Forest>(
         OnOk result (sibling_trees used edition context (F.trees forest.now) (drop (length siblings.old.items) siblings.new.items) ≡ sorted edition context (used_trees used (trees_between (F.trees forest.now) start end))) }
 {
     let base = siblings.len();
-    push_siblings(forest, start, end, siblings)?;
-    sort_siblings(alloc, forest, &mut siblings[base..])
+    let are_told = push_siblings(forest, start, end, siblings)?;
+    sort_siblings(alloc, forest, &mut siblings[base..], are_told)
 }
 
 /// The number itself, if some pointer names the record that has it.

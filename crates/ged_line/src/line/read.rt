@@ -240,16 +240,19 @@ fn view_value(text: &str) -> Result<ValueView<'_>, LineFault>
     }
 }
 
-/// The line that a text is which has a level of one digit, no identifier, a tag of four letters and a value, as most have; or `None` for any
-/// other text. That there is all this is told by the first eight bytes, so that the length is looked at once.
+/// The line that a text is, if that has a level of one digit, no identifier, a tag of four letters, and a value without an at sign at its
+/// front, as most lines have; else `None`. The first eight bytes tell all of this.
 #[inline(always)]
 fn view_usual(text: &str) -> Option<LineView<'_>>
     requires { tests_banned text.now ≡ false }
     ensures { IfSome result (λ line. LineText line text.now) }
 {
-    let [unit @ b'0'..=b'9', b' ', _, _, _, _, b' ', _, ..] = text.as_bytes() else {
+    let [unit @ b'0'..=b'9', b' ', _, _, _, _, b' ', first, ..] = text.as_bytes() else {
         return None;
     };
+    if *first == b'@' {
+        return None;
+    }
     let (tag, value) = cut_letters(&text[2..])?;
     match view_value(value) {
         Ok(value) => Some(LineView::of_parts(*unit - b'0', None, tag, value)),
