@@ -115,20 +115,36 @@ fn push_closed(number: usize, behind: u8, out: &mut Vec<u8>) -> Result<(), Alloc
     }
 }
 
-/// The same for any number. Cold, so that the branches for few digits are the ones that are inlined.
+/// The same for any number. Cold, so that the branches for few digits are the ones that are inlined. Where there are five digits or six, the
+/// last two are told apart from the others, so that here too it is known in each branch how many there are: digits that `itoa` puts into
+/// its buffer by a loop would be read from there before they have arrived.
 #[cold]
 #[inline(never)]
 fn push_any_closed(number: usize, behind: u8, out: &mut Vec<u8>) -> Result<(), AllocError>
     ensures ok { OnOk result (out.new.items ≡ out.old.items ++ (decimal number ++ at_sign ∷ behind ∷ [])) }
     ensures kept { length out.old.items ≤ length out.new.items }
 {
-    let mut buffer = Buffer::new();
-    match buffer.format(number).as_bytes() {
-        &[a, b, c, d, e] => out.extend_from_slice(&[a, b, c, d, e, b'@', behind]),
-        &[a, b, c, d, e, f] => out.extend_from_slice(&[a, b, c, d, e, f, b'@', behind]),
-        digits => {
-            out.extend_from_slice(digits)?;
-            out.extend_from_slice(&[b'@', behind])
-        }
+    if number < 10_000 || number > 999_999 {
+        return push_digits_closed(number, behind, out);
     }
+    let pair = (number % 100) as u8;
+    let ten = b'0' + pair / 10;
+    let unit = b'0' + pair % 10;
+    let mut buffer = Buffer::new();
+    match buffer.format(number / 100).as_bytes() {
+        &[a, b, c, d] => out.extend_from_slice(&[a, b, c, d, ten, unit, b'@', behind]),
+        &[a, b, c] => out.extend_from_slice(&[a, b, c, ten, unit, b'@', behind]),
+        _ => push_digits_closed(number, behind, out),
+    }
+}
+
+/// The same without a branch for a number of digits.
+#[inline(never)]
+fn push_digits_closed(number: usize, behind: u8, out: &mut Vec<u8>) -> Result<(), AllocError>
+    ensures ok { OnOk result (out.new.items ≡ out.old.items ++ (decimal number ++ at_sign ∷ behind ∷ [])) }
+    ensures kept { length out.old.items ≤ length out.new.items }
+{
+    let mut buffer = Buffer::new();
+    out.extend_from_slice(buffer.format(number).as_bytes())?;
+    out.extend_from_slice(&[b'@', behind])
 }

@@ -39,7 +39,7 @@ fn byte_at(tag: &[u8], place: usize) -> u64
 }
 
 /// The rank of a tag that is not GEDC, of any length.
-#[inline(never)]
+#[inline(always)]
 fn rank_of_any(tag: &[u8]) -> u64
     ensures { result ≡ own_rank tag.now }
 {
@@ -50,6 +50,17 @@ fn rank_of_any(tag: &[u8]) -> u64
         + byte_at(tag, 6);
     let count = tag.len().min(BYTES_IN_RANK + 1) as u64;
     high * 0x100_0000_0000 + low * 0x100 + (count + 1)
+}
+
+/// The same, at once where the tag has three bytes. A function of its own, so that the path of tags of four bytes stays short.
+#[inline(never)]
+fn rank_of_other(tag: &[u8]) -> u64
+    ensures { result ≡ own_rank tag.now }
+{
+    match tag {
+        [a, b, c] => u64::from(u32::from_be_bytes([*a, *b, *c, 0])) * 0x1_0000_0000 + (3 + 1),
+        _ => rank_of_any(tag),
+    }
 }
 
 /// The rank of a tag: its first seven bytes, the first one highest, and as its last byte its length and one, which is 9 where it has more
@@ -67,7 +78,7 @@ pub(crate) fn rank_of(tag: &str) -> u64
             }
             u64::from(number) * 0x1_0000_0000 + (4 + 1)
         }
-        bytes => rank_of_any(bytes),
+        bytes => rank_of_other(bytes),
     }
 }
 
