@@ -240,23 +240,20 @@ fn view_value(text: &str) -> Result<ValueView<'_>, LineFault>
     }
 }
 
-/// The line that a text is, if that has a level of one digit, no identifier, a tag of four letters, and a value without an at sign at its
-/// front, as most lines have; else `None`. The first eight bytes tell all of this.
+/// What [`view_text`] answers, of a text with a level of one digit, no identifier, a tag of four letters and a value, as most have; `None` for
+/// any other text. That there is all this is told by the first eight bytes, so that the length is looked at once.
 #[inline(always)]
-fn view_usual(text: &str) -> Option<LineView<'_>>
+fn view_usual(text: &str) -> Option<Result<LineView<'_>, LineFault>>
     requires { tests_banned text.now ≡ false }
-    ensures { IfSome result (λ line. LineText line text.now) }
+    ensures { IfSome result (λ read. MatchResult read (λ line. LineText line text.now) (λ fault. IsFaultOf fault text.now)) }
 {
-    let [unit @ b'0'..=b'9', b' ', _, _, _, _, b' ', first, ..] = text.as_bytes() else {
+    let [unit @ b'0'..=b'9', b' ', _, _, _, _, b' ', _, ..] = text.as_bytes() else {
         return None;
     };
-    if *first == b'@' {
-        return None;
-    }
     let (tag, value) = cut_letters(&text[2..])?;
     match view_value(value) {
-        Ok(value) => Some(LineView::of_parts(*unit - b'0', None, tag, value)),
-        Err(_) => None,
+        Ok(value) => Some(Ok(LineView::of_parts(*unit - b'0', None, tag, value))),
+        Err(fault) => Some(Err(fault)),
     }
 }
 
@@ -267,8 +264,8 @@ pub fn view_text(text: &str) -> Result<LineView<'_>, LineFault>
     requires { tests_banned text.now ≡ false }
     ensures { MatchResult result (λ line. LineText line text.now) (λ fault. IsFaultOf fault text.now) }
 {
-    if let Some(line) = view_usual(text) {
-        return Ok(line);
+    if let Some(read) = view_usual(text) {
+        return read;
     }
     if text.is_empty() {
         return Err(LineFault::EmptyLine);

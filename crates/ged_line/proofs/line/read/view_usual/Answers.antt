@@ -4,7 +4,7 @@ use Rattle.std.proofs.lemmas.Str.{IsCharBoundary-after_ascii}
 use Rattle.ged_line.specs.Characters.{has_banned}
 use Rattle.ged_line.specs.Views.{viewed_value}
 use Rattle.ged_line.proofs.line.QuickReading.{level_digit}
-use Rattle.ged_line.proofs.line.Scans.{Leveled, leveled, no_xref_before, plain_value, found_line}
+use Rattle.ged_line.proofs.line.Scans.{Leveled, leveled, no_xref_before, plain_value, value_fault, found_line}
 use Rattle.ged_line.proofs.line.read.view_usual.Goals as goal
 
 pub range_from-requires : goal.range_from-requires
@@ -41,3 +41,15 @@ returns-in-Ok c =
     (behind_digit text c.as_bytes.result.now rest c.as_bytes.ensures.value c.range_from.ensures.value c.utf8.text c.requires (omega arith) (omega arith) (omega arith) (omega arith))
     (no_xref_before rest tag value c.in_ok-tag.ensures) c.in_ok-tag.ensures c.in-Ok.ensures in
     rw (c.of_parts.ensures, c.as_bytes.ensures.value) found
+
+pub returns-in-Err : goal.returns-in-Err
+returns-in-Err c =
+    let text = c.args.text.now in
+    let rest = c.range_from.result.now in
+    let unit : ℕ = get_or text 0 0 - 48 in
+    let tag = c.in_ok-tag.tag.now in
+    let value = c.in_ok-tag.value.now in
+    let found = value_fault text unit rest None rest tag value
+    (behind_digit text c.as_bytes.result.now rest c.as_bytes.ensures.value c.range_from.ensures.value c.utf8.text c.requires (omega arith) (omega arith) (omega arith) (omega arith))
+    (no_xref_before rest tag value c.in_ok-tag.ensures) c.in_ok-tag.ensures c.in-Err.ensures.1 in
+    rw c.in-Err.ensures.0 found
